@@ -1,0 +1,5 @@
+pub mod Outside
+pub mod Counts
+pub mod Contents
+pub mod Failing
+pub mod Metering

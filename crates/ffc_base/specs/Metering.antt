@@ -1,0 +1,34 @@
+-- A budget of units of work, and how many of each kind were taken.
+use Rattle.std.specs.Prelude.{ℕ, ◌+◌}
+use Rattle.ffc_base.specs.declared.meter.Unit.{Unit as Kind}
+use Rattle.ffc_base.specs.declared.meter.Unit.TheVariants.{Trial, Reduction, Assignment, Chain}
+
+-- the budget, and the units of each kind
+pub record Spending : Type 0 where
+  pub budget : ℕ
+  pub trials : ℕ
+  pub reductions : ℕ
+  pub assignments : ℕ
+  pub chains : ℕ
+
+-- a record of its parts
+abbrev pub spending : ℕ → ℕ → ℕ → ℕ → ℕ → Spending
+spending b t r a c = record { budget = b; trials = t; reductions = r; assignments = a; chains = c }
+
+-- the units of all kinds together
+abbrev pub total : Spending → ℕ
+total s = s.trials + s.reductions + s.assignments + s.chains
+
+-- the units of one kind
+abbrev pub count_of : Spending → Kind → ℕ
+count_of s Trial = s.trials
+count_of s Reduction = s.reductions
+count_of s Assignment = s.assignments
+count_of s Chain = s.chains
+
+-- one more unit of this kind, and nothing else
+abbrev pub one_more : Spending → Kind → Spending
+one_more s Trial = record s { trials = s.trials + 1 }
+one_more s Reduction = record s { reductions = s.reductions + 1 }
+one_more s Assignment = record s { assignments = s.assignments + 1 }
+one_more s Chain = record s { chains = s.chains + 1 }

@@ -1,0 +1,181 @@
+//! Files, found by name.
+//!
+//! These adapters are a trusted edge. They tell nothing of content, so no clause says which bytes come from or go to
+//! the system; what is proved is that just the calls that fail are counted.
+ghost use Rattle.std.specs.Prelude.{◌≡◌, ℕ, ◌≤◌, length, IfOk, IfErr, OnOk, OnErr, Option, None};
+ghost use Rattle.ffc_base.specs.Counts.{counted};
+
+use crate::outside::{Failed, NamedSink, NamedSource, Sink, Source, WriteStop};
+use crate::standard::{read_some, write_whole};
+use std::fs;
+use std::marker::Model;
+use std::rt::Files;
+
+/// A file as a source: a trusted edge, which tells nothing of what is left or of what a name holds.
+///
+/// It is made before a file is open. `open_named` opens the file of a name, and a read before that is a fault. To a
+/// contract it is its count of faults.
+#[derive(Drop)]
+pub struct FileSource<'a, R: Files> {
+    files: &'a R,
+    file: Option<R::File>,
+    faults: u64,
+}
+
+impl<'a, R: Files> Model for FileSource<'a, R> {
+    ghost Value = { ℕ };
+
+    ghost view = { λ s. s.faults };
+
+    ghost invariant = { λ s. s.faults ≤ 18446744073709551615 };
+}
+
+impl<'a, R: Files> FileSource<'a, R> {
+    /// A source that has no file yet.
+    pub fn new(files: &'a R) -> Self
+        ensures { ⟦<FileSource<'a, R> as Source>⟧.faults result ≡ 0 }
+    {
+        FileSource {
+            files,
+            file: None,
+            faults: 0,
+        }
+    }
+
+    /// How many calls failed.
+    pub fn faults(&self) -> u64
+        ensures { result ≡ self.now }
+    {
+        self.faults
+    }
+
+    fn read_from_file(&mut self, buf: &mut [u8]) -> Result<usize, Failed>
+        ensures within { IfOk result (λ n. n ≤ length buf.old) }
+        ensures kept { self.new ≡ self.old }
+    {
+        match &mut self.file {
+            Some(file) => read_some(file, buf),
+            None => Err(Failed),
+        }
+    }
+}
+
+impl<'a, R: Files> Source for FileSource<'a, R> {
+    ghost left = { λ _. None };
+
+    ghost faults = { λ s. s };
+
+    fn read(&mut self, buf: &mut [u8]) -> Result<usize, Failed>
+        ensures within { IfOk result (λ n. n ≤ length buf.old) }
+        ensures in_range { self.old ≤ 18446744073709551615 }
+        ensures steady { OnOk result (self.new ≡ self.old) }
+        ensures risen { OnErr result (self.new ≡ counted self.old) }
+    {
+        let answer = self.read_from_file(buf);
+        if answer.is_err() {
+            self.faults = self.faults.saturating_add(1);
+        }
+        answer
+    }
+}
+
+impl<'a, R: Files> NamedSource for FileSource<'a, R> {
+    ghost contents = { λ _ _. None };
+
+    fn open_named(&mut self, name: &str) -> Result<(), WriteStop>
+        ensures in_range { self.old ≤ 18446744073709551615 }
+        ensures steady { OnOk result (self.new ≡ self.old) }
+        ensures risen { OnErr result (self.new ≡ counted self.old) }
+        ensures stop { IfErr result (λ stop. stop ≡ WriteStop.Failed) }
+    {
+        let Ok(file) = fs::open(self.files, name) else {
+            self.faults = self.faults.saturating_add(1);
+            return Err(WriteStop::Failed);
+        };
+        self.file = Some(file);
+        Ok(())
+    }
+}
+
+/// A file as a sink: a trusted edge, which tells nothing of what it holds.
+///
+/// It is made before there is a file. `create` makes the file of a name, or empties it, and a write before that is a
+/// fault. To a contract it is its count of faults.
+#[derive(Drop)]
+pub struct FileSink<'a, R: Files> {
+    files: &'a R,
+    file: Option<R::File>,
+    faults: u64,
+}
+
+impl<'a, R: Files> Model for FileSink<'a, R> {
+    ghost Value = { ℕ };
+
+    ghost view = { λ s. s.faults };
+
+    ghost invariant = { λ s. s.faults ≤ 18446744073709551615 };
+}
+
+impl<'a, R: Files> FileSink<'a, R> {
+    /// A sink that has no file yet.
+    pub fn new(files: &'a R) -> Self
+        ensures { ⟦<FileSink<'a, R> as Sink>⟧.faults result ≡ 0 }
+    {
+        FileSink {
+            files,
+            file: None,
+            faults: 0,
+        }
+    }
+
+    /// How many calls failed.
+    pub fn faults(&self) -> u64
+        ensures { result ≡ self.now }
+    {
+        self.faults
+    }
+
+    fn write_to_file(&mut self, bytes: &[u8]) -> Result<(), Failed>
+        ensures { self.new ≡ self.old }
+    {
+        match &mut self.file {
+            Some(file) => write_whole(file, bytes),
+            None => Err(Failed),
+        }
+    }
+}
+
+impl<'a, R: Files> Sink for FileSink<'a, R> {
+    ghost holds = { λ _. None };
+
+    ghost faults = { λ s. s };
+
+    fn write(&mut self, bytes: &[u8]) -> Result<(), WriteStop>
+        ensures in_range { self.old ≤ 18446744073709551615 }
+        ensures steady { OnOk result (self.new ≡ self.old) }
+        ensures risen { OnErr result (self.new ≡ counted self.old) }
+        ensures stop { IfErr result (λ stop. stop ≡ WriteStop.Failed) }
+    {
+        let answer = self.write_to_file(bytes);
+        if answer.is_err() {
+            self.faults = self.faults.saturating_add(1);
+        }
+        Ok(answer?)
+    }
+}
+
+impl<'a, R: Files> NamedSink for FileSink<'a, R> {
+    fn create(&mut self, name: &str) -> Result<(), WriteStop>
+        ensures in_range { self.old ≤ 18446744073709551615 }
+        ensures steady { OnOk result (self.new ≡ self.old) }
+        ensures risen { OnErr result (self.new ≡ counted self.old) }
+        ensures stop { IfErr result (λ stop. stop ≡ WriteStop.Failed) }
+    {
+        let Ok(file) = fs::create(self.files, name) else {
+            self.faults = self.faults.saturating_add(1);
+            return Err(WriteStop::Failed);
+        };
+        self.file = Some(file);
+        Ok(())
+    }
+}

@@ -1,0 +1,19 @@
+//! The outside of the programs: sources and sinks of bytes that count their faults, and the meter of a search's work.
+#![tactic(auto)]
+
+mod files;
+mod memory;
+mod meter;
+mod outside;
+mod pieces;
+mod standard;
+mod sure;
+#[cfg(test)]
+mod tests;
+
+pub use files::{FileSink, FileSource};
+pub use memory::{MemSink, MemSource};
+pub use meter::{Meter, Spent, Unit};
+pub use outside::{Failed, NamedSink, NamedSource, Sink, Source, WriteStop};
+pub use standard::{StdSink, StdSource};
+pub use sure::{SureSink, SureSource};

@@ -1,0 +1,145 @@
+//! Standard input and standard output.
+//!
+//! These adapters are a trusted edge. They tell nothing of content, so no clause says which bytes come from or go to
+//! the system; what is proved is that just the calls that fail are counted.
+ghost use Rattle.std.specs.Prelude.{◌≡◌, ℕ, ◌≤◌, length, IfOk, IfErr, OnOk, OnErr, Option, None};
+ghost use Rattle.ffc_base.specs.Counts.{counted};
+
+use crate::outside::{Failed, Sink, Source, WriteStop};
+use std::io::{ErrorKind, Read, Write};
+use std::marker::Model;
+
+/// Standard input as a source: a trusted edge, which tells nothing of what is left.
+///
+/// A program makes it of `rt.reader()`; any other reader serves too. To a contract it is its count of faults.
+#[derive(Drop)]
+pub struct StdSource<R: Read + Drop> {
+    reader: R,
+    faults: u64,
+}
+
+impl<R: Read + Drop> Model for StdSource<R> {
+    ghost Value = { ℕ };
+
+    ghost view = { λ s. s.faults };
+
+    ghost invariant = { λ s. s.faults ≤ 18446744073709551615 };
+}
+
+impl<R: Read + Drop> StdSource<R> {
+    /// A source of what this reader gives.
+    pub fn new(reader: R) -> Self
+        ensures { ⟦<StdSource<R> as Source>⟧.faults result ≡ 0 }
+    {
+        StdSource { reader, faults: 0 }
+    }
+
+    /// How many calls failed.
+    pub fn faults(&self) -> u64
+        ensures { result ≡ self.now }
+    {
+        self.faults
+    }
+}
+
+impl<R: Read + Drop> Source for StdSource<R> {
+    ghost left = { λ _. None };
+
+    ghost faults = { λ s. s };
+
+    fn read(&mut self, buf: &mut [u8]) -> Result<usize, Failed>
+        ensures within { IfOk result (λ n. n ≤ length buf.old) }
+        ensures in_range { self.old ≤ 18446744073709551615 }
+        ensures steady { OnOk result (self.new ≡ self.old) }
+        ensures risen { OnErr result (self.new ≡ counted self.old) }
+    {
+        let answer = read_some(&mut self.reader, buf);
+        if answer.is_err() {
+            self.faults = self.faults.saturating_add(1);
+        }
+        answer
+    }
+}
+
+/// Reads once, and again where the read was interrupted.
+pub(crate) fn read_some<R: Read>(reader: &mut R, buf: &mut [u8]) -> Result<usize, Failed>
+    ensures { IfOk result (λ n. n ≤ length buf.old) }
+{
+    for _ in 0..u64::MAX {
+        match reader.read(buf) {
+            Ok(count) => return Ok(count),
+            Err(error) if error.kind() == ErrorKind::Interrupted => {}
+            Err(_) => return Err(Failed),
+        }
+    }
+    Err(Failed)
+}
+
+/// Standard output as a sink: a trusted edge, which tells nothing of what it holds.
+///
+/// A program makes it of `std::io::writer(&rt)`; any other writer serves too. To a contract it is its count of faults.
+#[derive(Drop)]
+pub struct StdSink<W: Write + Drop> {
+    writer: W,
+    faults: u64,
+}
+
+impl<W: Write + Drop> Model for StdSink<W> {
+    ghost Value = { ℕ };
+
+    ghost view = { λ s. s.faults };
+
+    ghost invariant = { λ s. s.faults ≤ 18446744073709551615 };
+}
+
+impl<W: Write + Drop> StdSink<W> {
+    /// A sink of what goes to this writer.
+    pub fn new(writer: W) -> Self
+        ensures { ⟦<StdSink<W> as Sink>⟧.faults result ≡ 0 }
+    {
+        StdSink { writer, faults: 0 }
+    }
+
+    /// How many calls failed.
+    pub fn faults(&self) -> u64
+        ensures { result ≡ self.now }
+    {
+        self.faults
+    }
+}
+
+impl<W: Write + Drop> Sink for StdSink<W> {
+    ghost holds = { λ _. None };
+
+    ghost faults = { λ s. s };
+
+    fn write(&mut self, bytes: &[u8]) -> Result<(), WriteStop>
+        ensures in_range { self.old ≤ 18446744073709551615 }
+        ensures steady { OnOk result (self.new ≡ self.old) }
+        ensures risen { OnErr result (self.new ≡ counted self.old) }
+        ensures stop { IfErr result (λ stop. stop ≡ WriteStop.Failed) }
+    {
+        let answer = write_whole(&mut self.writer, bytes);
+        if answer.is_err() {
+            self.faults = self.faults.saturating_add(1);
+        }
+        Ok(answer?)
+    }
+}
+
+/// Writes until all the bytes are taken, and again where a write was interrupted. A write that takes none is a fault.
+pub(crate) fn write_whole<W: Write>(writer: &mut W, bytes: &[u8]) -> Result<(), Failed> {
+    let mut left = bytes;
+    for _ in 0..u64::MAX {
+        if left.is_empty() {
+            return Ok(());
+        }
+        match writer.write(left) {
+            Ok(0) => return Err(Failed),
+            Ok(count) => left = &left[count..],
+            Err(error) if error.kind() == ErrorKind::Interrupted => {}
+            Err(_) => return Err(Failed),
+        }
+    }
+    Err(Failed)
+}

@@ -1,0 +1,22 @@
+//! The text of certificates: what `ffsolve` writes of each check's answer, and `ffcheck` reads.
+//!
+//! A certificate is line 1, which names its version, and then one entry for each check. What text an entry has is said in
+//! `specs/Spelling.antt`.
+#![tactic(auto)]
+
+mod entries;
+mod sequences;
+mod spelled;
+mod writing;
+
+pub use entries::{
+    Cause, CertFault, CertLine, CertStop, Entry, Literal, Multiple, Numbered, Power, Term,
+};
+pub use sequences::Sequence;
+pub use writing::{text_len, write_entry};
+
+/// How many bytes the text of an entry may have.
+pub const MAX_BYTES: u64 = 67_108_864;
+
+#[cfg(test)]
+mod tests;

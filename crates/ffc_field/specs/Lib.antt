@@ -1,0 +1,9 @@
+pub mod Binomial
+pub mod Bounded
+pub mod Fermat
+pub mod Laws
+pub mod Modular
+pub mod Orders
+pub mod Primality
+pub mod Proth
+pub mod Squaring

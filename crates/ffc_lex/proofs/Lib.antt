@@ -1,0 +1,9 @@
+pub mod ListLemmas
+pub mod ReadingLemmas
+pub mod LexemeLemmas
+pub mod FitsLemmas
+pub mod ReadyLemmas
+pub mod StepLemmas
+pub mod BetweenLemmas
+pub mod KeptLemmas
+pub mod GoesOnLemmas

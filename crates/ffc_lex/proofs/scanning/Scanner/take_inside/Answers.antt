@@ -1,0 +1,26 @@
+use Rattle.std.proofs.Common.{sym, ap, ◌∙◌, subst, inl, inr}
+use Rattle.ffc_lex.specs.Scan.{IsReady}
+use Rattle.ffc_lex.proofs.StepLemmas.{string_pairs, word_stays, keyword_stays, field_stays}
+use Rattle.ffc_lex.proofs.scanning.Scanner.take_inside.Goals as goal
+
+pub returns-in-Comment-clause-read : goal.returns-in-Comment-clause-read
+returns-in-Comment-clause-read c n text facing e inside = c.take_in_comment.ensures.read n text facing (sym (ap (λ v. v.mode) c.self.view_is) ∙ c.in-Comment.is)
+
+pub returns-in-StrMark-clause-read : goal.returns-in-StrMark-clause-read
+returns-in-StrMark-clause-read c n text facing e inside =
+    subst (λ s. IsReady n text s) (sym c.stay.ensures)
+    (string_pairs n text c.args.byte c.args.self.now facing c.requires (sym (ap (λ v. v.mode) c.self.view_is) ∙ c.in-StrMark.is) e)
+
+pub returns-in-Word-clause-read : goal.returns-in-Word-clause-read
+returns-in-Word-clause-read c n text facing e inside =
+    subst (λ s. IsReady n text s) (sym c.advance.ensures)
+    (elim c.in-Word.is [
+      | inl word ↦ word_stays n text c.args.byte c.args.self.now facing c.requires (sym (ap (λ v. v.mode) c.self.view_is) ∙ word) e
+      | inr others ↦ elim others [
+        | inl keyword ↦ keyword_stays n text c.args.byte c.args.self.now facing c.requires (sym (ap (λ v. v.mode) c.self.view_is) ∙ keyword) e
+        | inr rest ↦ elim rest [
+          | inl field ↦ field_stays n text c.args.byte c.args.self.now facing c.requires (sym (ap (λ v. v.mode) c.self.view_is) ∙ field) e
+          | inr between ↦ absurd (inside (sym (ap (λ v. v.mode) c.self.view_is) ∙ between))
+        ]
+      ]
+    ])

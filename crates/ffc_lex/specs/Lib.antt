@@ -1,0 +1,9 @@
+pub mod Bytes
+pub mod Words
+pub mod Names
+pub mod Lexeme
+pub mod Reading
+pub mod GoingOn
+pub mod Scan
+pub mod Lexing
+pub mod Kept

@@ -1,0 +1,143 @@
+//! The lexer: bytes in any pieces to forms and text faults.
+ghost use Rattle.std.specs.Prelude.{◌≡◌, ℕ, ◌+◌, ◌-◌, false, true, [], take, drop, Some, None, IfOk, IfErr, IfSome, IfNone, OnOk};
+ghost use Rattle.ffc_lex.specs.Lexing.{IsOfLastForm, IsRead, MatchStop, due_fault, due_form, end_fault, extended};
+
+use crate::MAX_BYTES;
+use crate::faults::{LexFault, LexStop};
+use crate::scanning::Scanner;
+use crate::tokens::{Form, Token};
+use std::alloc::Global;
+use std::marker::Model;
+
+/// Reads a text that comes in pieces. Clauses see the text so far, how many forms of it were given, and the fault that is
+/// kept: from the first fault on, each call answers that fault. Each byte is looked at once, and a word's once more when it
+/// ends, so the time is linear in the text, whatever the pieces are.
+#[derive(Drop)]
+pub struct Lexer {
+    text: Vec<u8>,
+    scanner: Scanner,
+    given: u64,
+    fault: Option<LexFault>,
+    finished: bool,
+}
+
+impl Model for Lexer {
+    ghost use Rattle.ffc_lex.specs.Lexing.{Lexing};
+    ghost use Rattle.ffc_lex.specs.Kept.{IsKept};
+
+    ghost Value = { Lexing };
+
+    ghost view = { λ l. record { text = l.text.items; given = l.given; fault = l.fault; finished = l.finished } };
+
+    ghost invariant = { λ l. IsKept l.text.items l.given l.fault l.scanner };
+}
+
+impl Lexer {
+    /// A lexer of a text of which nothing has come. It takes no memory.
+    pub fn new(alloc: Global) -> Lexer
+        ensures { result ≡ record { text = []; given = 0; fault = None; finished = false } }
+    {
+        Lexer {
+            text: Vec::new(alloc),
+            scanner: Scanner::new(alloc),
+            given: 0,
+            fault: None,
+            finished: false,
+        }
+    }
+
+    /// Appends a piece to the text.
+    pub fn feed(&mut self, piece: &[u8]) -> Result<(), LexStop>
+        requires { self.old.finished ≡ false }
+        ensures ok { OnOk result ((self.old.fault ≡ None)
+            × (self.new ≡ record self.old { text = extended self.old.text piece.now })) }
+        ensures stop { IfErr result (λ stop. (self.new ≡ self.old) × MatchStop stop (λ fault. self.old.fault ≡ Some fault) (self.old.fault ≡ None)) }
+    {
+        if let Some(fault) = self.fault {
+            return Err(LexStop::Fault(fault));
+        }
+        let room = MAX_BYTES as usize + 1 - self.text.as_slice().len();
+        let length = piece.len().min(room);
+        self.text.extend_from_slice(&piece[..length])?;
+        Ok(())
+    }
+
+    /// Gives the next form. `None` says that it isn't whole in the text so far, and that no byte of that is at fault.
+    ///
+    /// Inside a form a word, with a `:` or `#` directly before it, is judged once the next byte has come, or by `finish`.
+    /// Every other byte is judged at once.
+    pub fn next_form(&mut self) -> Result<Option<Form>, LexStop>
+        ensures form { IfOk result (λ found. found ≡ due_form self.old.fault self.old.text self.old.given) }
+        ensures given { IfOk result (λ found. IfSome found (λ form. self.new ≡ record self.old { given = self.old.given + 1 })) }
+        ensures none { IfOk result (λ found. IfNone found (self.new ≡ self.old)) }
+        ensures no_fault { OnOk result (due_fault self.old.fault self.old.text self.old.given ≡ None) }
+        ensures stop { IfErr result (λ stop. MatchStop stop
+            (λ fault. (due_fault self.old.fault self.old.text self.old.given ≡ Some fault) × (self.new ≡ record self.old { fault = Some fault }))
+            (self.new ≡ self.old)) }
+    {
+        if let Some(fault) = self.fault {
+            return Err(LexStop::Fault(fault));
+        }
+        match self.scanner.scan(&self.text) {
+            Ok(Some(form)) => {
+                self.given += 1;
+                Ok(Some(form))
+            }
+            Ok(None) => Ok(None),
+            Err(LexStop::Fault(met)) => {
+                self.fault = Some(met);
+                Err(LexStop::Fault(met))
+            }
+            Err(LexStop::Memory) => Err(LexStop::Memory),
+        }
+    }
+
+    /// Says that the text ends here. Inside a form that is a fault: code 1 where the last word, `:` or `#` is no token,
+    /// else code 2.
+    pub fn finish(&mut self) -> Result<(), LexStop>
+        requires { IsRead self.old }
+        ensures ok { OnOk result ((end_fault self.old.fault self.old.text ≡ None)
+            × (self.new ≡ record self.old { finished = true })) }
+        ensures stop { IfErr result (λ stop. MatchStop stop
+            (λ fault. (end_fault self.old.fault self.old.text ≡ Some fault) × (self.new ≡ record self.old { fault = Some fault; finished = true }))
+            (self.new ≡ self.old)) }
+    {
+        if let Some(fault) = self.fault {
+            self.finished = true;
+            return Err(LexStop::Fault(fault));
+        }
+        match self.scanner.scan(&self.text) {
+            Ok(None) => {}
+            Ok(Some(_)) => unreachable!(),
+            Err(LexStop::Fault(_)) => unreachable!(),
+            Err(LexStop::Memory) => return Err(LexStop::Memory),
+        }
+        self.finished = true;
+        match self.scanner.fault_at_end(&self.text) {
+            None => Ok(()),
+            Some(fault) => {
+                self.fault = Some(fault);
+                Err(LexStop::Fault(fault))
+            }
+        }
+    }
+
+    /// A token as it is written.
+    pub fn bytes_of(&self, token: &Token) -> &[u8]
+        requires { IsOfLastForm token.now self.now }
+        ensures { result.now ≡ take token.now.length (drop token.now.start self.now.text) }
+    {
+        part(&self.text, token.start as usize, token.length as usize)
+    }
+}
+
+/// The bytes from `start` on, `length` of them where there are as many.
+fn part(text: &[u8], start: usize, length: usize) -> &[u8]
+    ensures { result.now ≡ take length (drop start text.now) }
+{
+    let rest = &text[start.min(text.len())..];
+    &rest[..length.min(rest.len())]
+}
+
+#[cfg(test)]
+mod tests;

@@ -1,0 +1,29 @@
+//! The lexer of scripts: from bytes, in any pieces, to forms and text faults.
+//!
+//! What a text's forms and faults are is said in `specs/` over the whole text (`reading_of`), with no word of pieces. A
+//! `Lexer` is fed pieces of a text, and gives that text's forms one by one. SMT-LIB 2.6, section 3.1.
+#![tactic(auto)]
+
+mod byte_classes;
+mod faults;
+mod laws;
+mod lexing;
+mod modes;
+mod names;
+mod scanning;
+mod texts;
+mod tokens;
+mod words;
+
+pub use faults::{LexFault, LexStop};
+pub use laws::reading_goes_on;
+pub use lexing::Lexer;
+pub use names::{is_reserved, is_theory_symbol, symbol_text};
+pub use texts::Text;
+pub use tokens::{Form, Token, TokenKind};
+
+/// How many bytes a script may have. The next one is code 17.
+pub const MAX_BYTES: u64 = 67_108_864;
+
+/// How many parentheses may be open. One more is code 14.
+pub const MAX_DEPTH: u64 = 65_536;

@@ -1,0 +1,21 @@
+use Rattle.std.proofs.Common.{◌≡◌, sym, ap, ap₂, ◌∙◌, subst, arith}
+use Rattle.ffc_ring.specs.Monomial.{IsMonomial, exponent, degree, mono_lcm}
+use Rattle.ffc_ring.proofs.MonomialLemmas.{IsMonomial-mono_lcm, exponent-mono_lcm}
+use Rattle.ffc_mono.proofs.mono.Mono.lcm.Goals as goal
+
+pub invariant_of-result : goal.invariant_of-result
+invariant_of-result c =
+    let a = c.args.self.now in
+    let b = c.args.other.now in
+    let product : c.in_ok-powers.powers.items ≡ mono_lcm a b = c.in_ok-powers.ensures ∙ ap₂ mono_lcm c.pairs.ensures.value c.pairs-2.ensures.value in (
+      subst IsMonomial (sym product) (IsMonomial-mono_lcm a b c.pairs.ensures.monomial c.pairs-2.ensures.monomial),
+      omega (arith, c.in-Some.ensures.1, ap degree c.as_slice.ensures),
+      omega (arith, c.in-Some.ensures.0, c.in-Some.ensures.1),
+    )
+
+pub returns-clause-exponents : goal.returns-clause-exponents
+returns-clause-exponents c x =
+    let a = c.args.self.now in
+    let b = c.args.other.now in
+    ap (λ m. exponent m x) (c.in_ok-powers.ensures ∙ ap₂ mono_lcm c.pairs.ensures.value c.pairs-2.ensures.value)
+    ∙ exponent-mono_lcm a b c.pairs.ensures.monomial c.pairs-2.ensures.monomial x

@@ -1,0 +1,9 @@
+use Rattle.std.proofs.Common.{◌≡◌, length}
+use Rattle.ffc_mono.specs.Orders.{reverse_lex_cmp}
+use Rattle.ffc_mono.proofs.order.last_difference.Given as goal
+
+abbrev pub invariant-loop-p : goal.invariant-loop-p
+invariant-loop-p l = reverse_lex_cmp l.left l.right ≡ reverse_lex_cmp l.fn.a l.fn.b
+
+abbrev pub decreases-loop-p : goal.decreases-loop-p
+decreases-loop-p l = length l.left

@@ -1,0 +1,5 @@
+pub mod EqualityLaws
+pub mod Joining
+pub mod MonomialOrder
+pub mod OrderLaws
+pub mod Orders

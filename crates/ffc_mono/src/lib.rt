@@ -1,0 +1,12 @@
+//! Monomials of total degree at most 1,024, and monomial orders.
+#![tactic(auto)]
+
+mod mono;
+mod order;
+mod powers;
+
+pub use mono::{DEGREE_LIMIT, Mono, MonoStop};
+pub use order::{GradedReverseLex, Lex, MonoOrder, graded_reverse_lex_order, lex_order};
+
+#[cfg(test)]
+mod tests;

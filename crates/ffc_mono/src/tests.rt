@@ -1,0 +1,128 @@
+use crate::{GradedReverseLex, Lex, Mono, MonoOrder, MonoStop};
+use std::alloc::Global;
+use std::cmp::Ordering;
+use std::process::Abort;
+use std::test::Fail;
+
+/// The monomials of degree at most 3 in x > y > z, from the greatest to the least in lexicographic order.
+const LEX: [[u32; 3]; 20] = [
+    [3, 0, 0],
+    [2, 1, 0],
+    [2, 0, 1],
+    [2, 0, 0],
+    [1, 2, 0],
+    [1, 1, 1],
+    [1, 1, 0],
+    [1, 0, 2],
+    [1, 0, 1],
+    [1, 0, 0],
+    [0, 3, 0],
+    [0, 2, 1],
+    [0, 2, 0],
+    [0, 1, 2],
+    [0, 1, 1],
+    [0, 1, 0],
+    [0, 0, 3],
+    [0, 0, 2],
+    [0, 0, 1],
+    [0, 0, 0],
+];
+
+/// The same in graded reverse lexicographic order.
+const GRADED_REVERSE_LEX: [[u32; 3]; 20] = [
+    [3, 0, 0],
+    [2, 1, 0],
+    [1, 2, 0],
+    [0, 3, 0],
+    [2, 0, 1],
+    [1, 1, 1],
+    [0, 2, 1],
+    [1, 0, 2],
+    [0, 1, 2],
+    [0, 0, 3],
+    [2, 0, 0],
+    [1, 1, 0],
+    [0, 2, 0],
+    [1, 0, 1],
+    [0, 1, 1],
+    [0, 0, 2],
+    [1, 0, 0],
+    [0, 1, 0],
+    [0, 0, 1],
+    [0, 0, 0],
+];
+
+/// The product of powers of the first three variables.
+fn power_product(alloc: Global, exponents: &[u32; 3]) -> Result<Mono, MonoStop> {
+    let variables = [
+        Mono::from_pairs(alloc, &[(0, 1)])?,
+        Mono::from_pairs(alloc, &[(1, 1)])?,
+        Mono::from_pairs(alloc, &[(2, 1)])?,
+    ];
+    let mut product = Mono::from_pairs(alloc, &[])?;
+    for (variable, exponent) in variables.iter().zip(exponents.iter()) {
+        for _ in 0..*exponent {
+            product = product.mul(variable)?;
+        }
+    }
+    Ok(product)
+}
+
+/// Each monomial of the list is greater than all behind it.
+fn descends<O: MonoOrder>(
+    rt: &impl Abort,
+    alloc: Global,
+    list: &[[u32; 3]],
+) -> Result<(), MonoStop> {
+    for (i, a) in list.iter().enumerate() {
+        let a = power_product(alloc, a)?;
+        for (j, b) in list.iter().enumerate() {
+            let b = power_product(alloc, b)?;
+            assert_eq!(rt; O::compare(&a, &b), j.cmp(&i), "{a:?} and {b:?}");
+        }
+    }
+    Ok(())
+}
+
+#[test]
+fn orders_of_the_textbook(rt: HostRuntime) -> Result<(), Fail> {
+    descends::<Lex>(&rt, rt.alloc(), &LEX)?;
+    descends::<GradedReverseLex>(&rt, rt.alloc(), &GRADED_REVERSE_LEX)?;
+    Ok(())
+}
+
+#[test]
+fn operations(rt: HostRuntime) -> Result<(), Fail> {
+    let alloc = rt.alloc();
+    let a = Mono::from_pairs(alloc, &[(0, 2), (1, 1)])?;
+    let b = Mono::from_pairs(alloc, &[(1, 1), (3, 1)])?;
+    let product = a.mul(&b)?;
+    assert_eq!(rt; product.pairs(), [(0, 2), (1, 2), (3, 1)].as_slice());
+    assert_eq!(rt; product.degree(), 5);
+    let multiple = a.lcm(&b)?;
+    assert_eq!(rt; multiple.pairs(), [(0, 2), (1, 1), (3, 1)].as_slice());
+    assert_eq!(rt; multiple, multiple.clone()?);
+    assert!(rt; !a.divides(&b) && a.divides(&multiple) && multiple.divides(&product));
+    let x1 = Mono::from_pairs(alloc, &[(1, 1)])?;
+    assert_eq!(rt; Lex::compare(&x1, &product), Ordering::Less);
+    if x1.divides(&product) {
+        assert_eq!(rt; product.quotient(&x1)?, multiple);
+    }
+    Ok(())
+}
+
+#[test]
+fn degrees_stop_at_the_limit(rt: HostRuntime) -> Result<(), Fail> {
+    let alloc = rt.alloc();
+    let most = Mono::from_pairs(alloc, &[(0, 1024)])?;
+    let x0 = Mono::from_pairs(alloc, &[(0, 1)])?;
+    let x1 = Mono::from_pairs(alloc, &[(1, 1)])?;
+    assert_eq!(rt; most.mul(&x0), Err(MonoStop::DegreeOver));
+    assert_eq!(rt; most.lcm(&x1), Err(MonoStop::DegreeOver));
+    assert_eq!(rt;
+        Mono::from_pairs(alloc, &[(0, 1025)]),
+        Err(MonoStop::DegreeOver)
+    );
+    assert_eq!(rt; most.lcm(&x0)?, most);
+    Ok(())
+}

@@ -1,0 +1,109 @@
+-- What the clauses of a polynomial's operations say of values, refusals and zero.
+use Rattle.std.proofs.Common.{◌≡◌, ℕ, suc, ◌+◌, ◌-◌, ◌*◌, ◌%◌, ◌<◌, Bool, true, eqb, List, [], ◌∷◌, ◌++◌, length, refl, sym, ap, ◌∙◌, inl, inr, arith, mul-one, zero-mul, eqb-true, mod-eq_of_lt, Result, Ok, Err, IfErr, IsErrAnd, IsErrOf}
+use Rattle.std.proofs.lemmas.Nat.{mul-mod_second}
+use Rattle.ffc_field.specs.Modular.{add_mod, sub_mod, mul_mod, neg_mod}
+use Rattle.ffc_ring.specs.Monomial.{Monomial, mono_value, mono_mul}
+use Rattle.ffc_ring.specs.Polynomial.{Terms, written, coefficient, SamePolynomial, term_product, product, scaled, difference, value_sum, poly_value, PassesDegree}
+use Rattle.ffc_ring.proofs.PolynomialLemmas.{weighted, weighted-term_product, SamePolynomial-from_weighted, one_value, poly_value-append, poly_value-product, poly_value-difference, value_sum-term_product, same_sums, cases_monomial, written-at, written-off}
+use Rattle.ffc_poly.specs.declared.stop.PolyStop.{PolyStop}
+use Rattle.ffc_poly.specs.declared.stop.PolyStop.TheVariants.{DegreeOver, TermsOver, Memory}
+use Rattle.ffc_poly.specs.Ordered.{residues, multiplied, times}
+use Rattle.ffc_poly.proofs.Merging.{weighted-multiplied}
+use Rattle.ffc_poly.proofs.Products.{SamePolynomial-scaled_one}
+use Rattle.ffc_poly.proofs.Coefficients.{coefficient-none}
+
+-- ---- values
+
+pub value_of_sum : (p : ℕ) (r a b : Terms) → SamePolynomial p r (a ++ b) → (point : ℕ → ℕ) → poly_value p point r ≡ add_mod p (poly_value p point a) (poly_value p point b)
+value_of_sum p r a b same point = one_value p point r (a ++ b) same ∙ poly_value-append p point a b
+
+pub value_of_difference : (p : ℕ) → 0 < p → (r a b : Terms) → SamePolynomial p r (difference p a b) → (point : ℕ → ℕ) → poly_value p point r ≡ sub_mod p (poly_value p point a) (poly_value p point b)
+value_of_difference p h r a b same point = one_value p point r (difference p a b) same ∙ poly_value-difference p h point a b
+
+pub value_of_product : (p : ℕ) (r a b : Terms) → SamePolynomial p r (product a b) → (point : ℕ → ℕ) → poly_value p point r ≡ mul_mod p (poly_value p point a) (poly_value p point b)
+value_of_product p r a b same point = one_value p point r (product a b) same ∙ poly_value-product p point a b
+
+pub value_of_term : (p c : ℕ) (m : Monomial) (r a : Terms) → SamePolynomial p r (term_product c m a) → (point : ℕ → ℕ) → poly_value p point r ≡ mul_mod p (c * mono_value point m) (poly_value p point a)
+value_of_term p c m r a same point =
+    one_value p point r (term_product c m a) same ∙ ap (λ k. k % p) (value_sum-term_product point c m a)
+    ∙ sym (mul-mod_second (c * mono_value point m) (value_sum point a) p)
+
+pub value_of_scaled : (p c : ℕ) (r a : Terms) → SamePolynomial p r (scaled c a) → (point : ℕ → ℕ) → poly_value p point r ≡ mul_mod p c (poly_value p point a)
+value_of_scaled p c r a same point = value_of_term p c [] r a same point ∙ ap (λ k. mul_mod p k (poly_value p point a)) (mul-one c)
+
+-- ---- sums and differences by a factor
+
+pub sum_by_one : (p one : ℕ) (a b : Terms) → one ≡ 1 → SamePolynomial p (a ++ scaled one b) (a ++ b)
+sum_by_one p one a b e =
+    same_sums p a a (scaled one b) b (λ m. refl) (λ m. ap (λ k. written (scaled k b) m % p) e ∙ SamePolynomial-scaled_one p b m)
+
+pub minus_one : (p one minus : ℕ) → 1 < p → one ≡ 1 % p → minus ≡ neg_mod p one → minus ≡ p - 1
+minus_one p one minus h e f = f ∙ ap (neg_mod p) (e ∙ mod-eq_of_lt h) ∙ mod-eq_of_lt (omega arith)
+
+pub difference_by_factor : (p k : ℕ) (a b : Terms) → k ≡ p - 1 → SamePolynomial p (a ++ scaled k b) (difference p a b)
+difference_by_factor p k a b e m = ap (λ j. written (a ++ scaled j b) m % p) e
+
+-- ---- zero
+
+pub nothing_times : (p c : ℕ) (m : Monomial) (ts : Terms) → c ≡ 0 → SamePolynomial p [] (term_product c m ts)
+nothing_times p c m ts e =
+    SamePolynomial-from_weighted p [] (term_product c m ts)
+    (λ g. ap (λ k. k % p) (sym (weighted-term_product g c m ts ∙ ap (λ k. k * weighted (λ n. g (mono_mul m n)) ts) e ∙ zero-mul (weighted (λ n. g (mono_mul m n)) ts))))
+
+pub times_nothing : (p c : ℕ) (m : Monomial) (ts : Terms) → ts ≡ [] → SamePolynomial p [] (term_product c m ts)
+times_nothing p c m ts e n = ap (λ k. written (term_product c m k) n % p) (sym e)
+
+pub nothing_product : (p : ℕ) (a b : Terms) → a ≡ [] → SamePolynomial p [] (product a b)
+nothing_product p a b e n = ap (λ k. written (product k b) n % p) (sym e)
+
+product-nothing : (a : Terms) → product a [] ≡ []
+product-nothing [] = refl
+product-nothing (t ∷ a) = product-nothing a
+
+pub product_nothing : (p : ℕ) (a b : Terms) → b ≡ [] → SamePolynomial p [] (product a b)
+product_nothing p a b e n = ap (λ k. written k n % p) (sym (product-nothing a)) ∙ ap (λ k. written (product a k) n % p) (sym e)
+
+-- a term with the coefficient 0 has no coefficient
+zero_term : (p c : ℕ) (m n : Monomial) → c ≡ 0 → coefficient p ((c, m) ∷ []) n ≡ 0
+zero_term p c m n e =
+    elim (cases_monomial m n) [
+      | inl here ↦ ap (λ k. k % p) (written-at n (c, m) [] here ∙ ap (λ k. k + 0) e) ∙ coefficient-none p n
+      | inr there ↦ ap (λ k. k % p) (written-off n (c, m) [] there) ∙ coefficient-none p n
+    ]
+
+pub PassesDegree-zero_term : (p limit c : ℕ) (m : Monomial) (b : Terms) → c ≡ 0 → PassesDegree p limit ((c, m) ∷ []) b → ⊥
+PassesDegree-zero_term p limit c m b e (k, n, hk, hn, over) = hk (zero_term p c m k e)
+
+-- the test of a slice for emptiness is the test for zero
+pub zero_test : {F : Type 0} (value : F → ℕ) (ts : List (F × Monomial)) (now : Terms) (b : Bool) → b ≡ eqb (length ts) 0 → residues value ts ≡ now → (b ≡ true → now ≡ []) × (now ≡ [] → b ≡ true)
+zero_test value [] now b e is = (λ _. sym is, λ _. e)
+zero_test value (t ∷ ts) now b e is =
+    (λ h. absurd (omega (arith, eqb-true (length (t ∷ ts)) 0 (sym e ∙ h))), λ h. absurd (omega (arith, ap length (is ∙ h))))
+
+-- ---- refusals
+
+pub no_degree : {T : Type 0} (r : Result T PolyStop) (P : Type 0) → IfErr r (λ d. (d ≡ TermsOver) × P) → IsErrOf r DegreeOver → ⊥
+no_degree (Ok x) P h k = absurd (cc k)
+no_degree (Err d) P h k = absurd (cc (k, h.0))
+
+pub no_degree_ok : {T : Type 0} (x : T) → IsErrOf {E = PolyStop} (Ok x) DegreeOver → ⊥
+no_degree_ok x k = absurd (cc k)
+
+pub no_degree_memory : {T : Type 0} (r : Result T PolyStop) → IsErrAnd r (λ d. d ≡ Memory) → IsErrOf r DegreeOver → ⊥
+no_degree_memory (Ok x) h k = absurd (cc k)
+no_degree_memory (Err d) h k = absurd (cc (k, h))
+
+-- ---- c times the terms
+
+pub length-times : (p c : ℕ) (m : Monomial) (ts : Terms) → length (times p c m ts) ≡ length ts
+length-times p c m [] = refl
+length-times p c m (t ∷ ts) = ap suc (length-times p c m ts)
+
+pub length-multiplied : (p c : ℕ) (ts : Terms) → length (multiplied p c ts) ≡ length ts
+length-multiplied p c [] = refl
+length-multiplied p c (t ∷ ts) = ap suc (length-multiplied p c ts)
+
+pub SamePolynomial-multiplied : (p c : ℕ) (ts : Terms) → SamePolynomial p (multiplied p c ts) (scaled c ts)
+SamePolynomial-multiplied p c ts =
+    SamePolynomial-from_weighted p (multiplied p c ts) (scaled c ts)
+    (λ g. weighted-multiplied p c g ts ∙ ap (λ k. k % p) (sym (weighted-term_product g c [] ts)))

@@ -1,0 +1,7 @@
+pub mod Clauses
+pub mod Coefficients
+pub mod Lists
+pub mod Merging
+pub mod MergingSteps
+pub mod Products
+pub mod Values

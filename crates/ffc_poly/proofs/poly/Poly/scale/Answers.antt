@@ -1,0 +1,51 @@
+use Rattle.std.proofs.Common.{◌≡◌, ◌≢◌, [], ◌++◌, ◌%◌, length, sym, ap, ◌∙◌, subst, arith}
+use Rattle.ffc_ring.specs.Polynomial.{written}
+use Rattle.ffc_mono.specs.declared.mono.TheConstants.{DEGREE_LIMIT}
+use Rattle.ffc_poly.specs.Ordered.{residues, IsOrdered, multiplied}
+use Rattle.ffc_poly.proofs.Merging.{IsOrdered-multiplied}
+use Rattle.ffc_poly.proofs.Lists.{length-residues}
+use Rattle.ffc_poly.proofs.Clauses.{nothing_times, value_of_scaled, SamePolynomial-multiplied, length-multiplied}
+use Rattle.ffc_poly.proofs.poly.Poly.scale.Goals as goal
+
+pub returns-then-residue-eq0-clause-product : goal.returns-then-residue-eq0-clause-product
+returns-then-residue-eq0-clause-product g c =
+    let p = g.F.Field.ORDER in
+    let nothing : g.F.Field.value c.args.c ≡ 0 = sym c.residue.ensures.value ∙ c.if-residue-eq0.true in
+    λ m. ap (λ k. written k m % p) c.zero.ensures ∙ nothing_times p (g.F.Field.value c.args.c) [] c.args.self.now nothing m
+
+pub invariant_of-result : goal.invariant_of-result
+invariant_of-result g c =
+    let value = g.F.Field.value in
+    let p = g.F.Field.ORDER in
+    let k = value c.args.c in
+    let now = c.args.self.now in
+    let out : residues value c.append_scaled.new.out.items ≡ multiplied p k now =
+    c.in_ok-append_scaled.ensures ∙ ap (λ w. residues value w ++ multiplied p k (residues value c.terms.result.now)) c.new-terms.ensures.items
+    ∙ ap (multiplied p k) c.terms.ensures.value in
+    let other : k ≢ 0 = λ e. c.if-residue-eq0.false (c.residue.ensures.value ∙ e) in (
+      subst (IsOrdered p g.O.MonoOrder.cmp DEGREE_LIMIT) (sym out)
+          (IsOrdered-multiplied p g.met.F.Field.prime g.O.MonoOrder.cmp g.met.O.MonoOrder.laws DEGREE_LIMIT k other (g.met.F.Field.below c.args.c) now c.terms.ensures.ordered),
+      omega (arith, length-residues value c.append_scaled.new.out.items, ap length out, length-multiplied p k now, c.terms.ensures.fits),
+    )
+
+pub returns-clause-product : goal.returns-clause-product
+returns-clause-product g c =
+    let value = g.F.Field.value in
+    let p = g.F.Field.ORDER in
+    let k = value c.args.c in
+    let now = c.args.self.now in
+    let out : residues value c.append_scaled.new.out.items ≡ multiplied p k now =
+    c.in_ok-append_scaled.ensures ∙ ap (λ w. residues value w ++ multiplied p k (residues value c.terms.result.now)) c.new-terms.ensures.items
+    ∙ ap (multiplied p k) c.terms.ensures.value in
+    λ m. ap (λ w. written w m % p) out ∙ SamePolynomial-multiplied p k now m
+
+pub returns-clause-value : goal.returns-clause-value
+returns-clause-value g c =
+    let value = g.F.Field.value in
+    let p = g.F.Field.ORDER in
+    let k = value c.args.c in
+    let now = c.args.self.now in
+    let out : residues value c.append_scaled.new.out.items ≡ multiplied p k now =
+    c.in_ok-append_scaled.ensures ∙ ap (λ w. residues value w ++ multiplied p k (residues value c.terms.result.now)) c.new-terms.ensures.items
+    ∙ ap (multiplied p k) c.terms.ensures.value in
+    value_of_scaled p k (residues value c.append_scaled.new.out.items) now (λ m. ap (λ w. written w m % p) out ∙ SamePolynomial-multiplied p k now m)

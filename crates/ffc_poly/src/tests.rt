@@ -1,0 +1,184 @@
+use crate::{Poly, PolyStop};
+use ffc_field::{F5, Field, Goldilocks};
+use ffc_mono::{GradedReverseLex, Lex, Mono, MonoOrder, MonoStop};
+use std::alloc::Global;
+use std::process::Abort;
+use std::test::Fail;
+
+/// A term by its coefficient and its exponents of the first two variables.
+type Row = (u64, u32, u32);
+
+/// The power of a variable.
+fn power(alloc: Global, variable: u32, exponent: u32) -> Result<Mono, MonoStop> {
+    let mut product = Mono::from_pairs(alloc, &[])?;
+    let factor = Mono::from_pairs(alloc, &[(variable, 1)])?;
+    for _ in 0..exponent {
+        product = product.mul(&factor)?;
+    }
+    Ok(product)
+}
+
+/// The term of a row.
+fn term<F: Field>(alloc: Global, row: Row) -> Result<(F, Mono), MonoStop> {
+    let (coefficient, x, y) = row;
+    let monomial = power(alloc, 0, x)?.mul(&power(alloc, 1, y)?)?;
+    Ok((F::of(u128::from(coefficient)), monomial))
+}
+
+/// The sum of these terms.
+fn sum<F: Field, O: MonoOrder>(alloc: Global, rows: &[Row]) -> Result<Poly<F, O>, Fail> {
+    let mut terms = Vec::new(alloc);
+    for row in rows {
+        terms.push(term::<F>(alloc, *row)?)?;
+    }
+    Ok(Poly::from_terms(alloc, terms.as_slice())?)
+}
+
+/// Whether a polynomial is the sum of these terms.
+fn is_sum<F: Field, O: MonoOrder>(
+    alloc: Global,
+    a: &Poly<F, O>,
+    rows: &[Row],
+) -> Result<bool, Fail> {
+    let wanted = sum::<F, O>(alloc, rows)?;
+    Ok(a.sub(&wanted)?.is_zero())
+}
+
+/// Whether the product of two sums is the sum of these terms.
+fn is_product<F: Field, O: MonoOrder>(
+    alloc: Global,
+    a: &[Row],
+    b: &[Row],
+    rows: &[Row],
+) -> Result<bool, Fail> {
+    let a = sum::<F, O>(alloc, a)?;
+    let b = sum::<F, O>(alloc, b)?;
+    is_sum(alloc, &a.mul(&b)?, rows)
+}
+
+#[test]
+fn product_with_cancelled_terms(rt: HostRuntime) -> Result<(), Fail> {
+    let a = [(1, 1, 0), (1, 0, 1)];
+    let b = [(1, 1, 0), (4, 0, 1)];
+    let product = [(1, 2, 0), (4, 0, 2)];
+    assert!(rt; is_product::<F5, Lex>(rt.alloc(), &a, &b, &product)?);
+    Ok(())
+}
+
+/// The product is by sympy.
+#[test]
+fn product_over_f5(rt: HostRuntime) -> Result<(), Fail> {
+    let a = [(1, 2, 0), (3, 1, 1), (1, 0, 1)];
+    let b = [(2, 1, 0), (4, 0, 2), (1, 0, 0)];
+    let product = [
+        (2, 3, 0),
+        (4, 2, 2),
+        (1, 2, 1),
+        (1, 2, 0),
+        (2, 1, 3),
+        (4, 0, 3),
+        (1, 0, 1),
+    ];
+    assert!(rt; is_product::<F5, GradedReverseLex>(rt.alloc(), &a, &b, &product)?);
+    Ok(())
+}
+
+/// The product is by sympy.
+#[test]
+fn product_over_goldilocks(rt: HostRuntime) -> Result<(), Fail> {
+    let a = [(4294967296, 1, 0), (3, 0, 1)];
+    let b = [(4294967295, 1, 0), (1, 0, 2), (7, 0, 0)];
+    let product = [
+        (18446744069414584320, 2, 0),
+        (4294967296, 1, 2),
+        (12884901885, 1, 1),
+        (30064771072, 1, 0),
+        (3, 0, 3),
+        (21, 0, 1),
+    ];
+    assert!(rt; is_product::<Goldilocks, Lex>(rt.alloc(), &a, &b, &product)?);
+    Ok(())
+}
+
+#[test]
+fn sum_of_like_terms(rt: HostRuntime) -> Result<(), Fail> {
+    let a = sum::<F5, Lex>(rt.alloc(), &[(4, 0, 0), (1, 1, 0), (4, 1, 0)])?;
+    assert!(rt; a.is_constant());
+    Ok(())
+}
+
+#[test]
+fn sum_of_polynomials(rt: HostRuntime) -> Result<(), Fail> {
+    let a = sum::<F5, Lex>(rt.alloc(), &[(3, 1, 2), (1, 1, 0)])?;
+    assert!(rt; is_sum(rt.alloc(), &a.add(&a)?, &[(1, 1, 2), (2, 1, 0)])?);
+    Ok(())
+}
+
+#[test]
+fn multiple_by_constant(rt: HostRuntime) -> Result<(), Fail> {
+    let a = sum::<F5, Lex>(rt.alloc(), &[(4, 0, 2), (1, 1, 0)])?;
+    assert!(rt; is_sum(rt.alloc(), &a.scale(F5::of(2))?, &[(3, 0, 2), (2, 1, 0)])?);
+    Ok(())
+}
+
+#[test]
+fn multiple_by_term(rt: HostRuntime) -> Result<(), Fail> {
+    let a = sum::<F5, Lex>(rt.alloc(), &[(4, 0, 2), (1, 1, 0)])?;
+    let multiple = a.mul_term(F5::of(2), &power(rt.alloc(), 0, 1)?)?;
+    assert!(rt; is_sum(rt.alloc(), &multiple, &[(3, 1, 2), (2, 2, 0)])?);
+    Ok(())
+}
+
+/// The degree of the leading monomial of x + y^3.
+fn leading_degree<O: MonoOrder>(alloc: Global) -> Result<Option<u32>, Fail> {
+    let a = sum::<F5, O>(alloc, &[(1, 1, 0), (1, 0, 3)])?;
+    match a.lead() {
+        None => Ok(None),
+        Some((_, monomial)) => Ok(Some(monomial.degree())),
+    }
+}
+
+#[test]
+fn leading_monomials(rt: HostRuntime) -> Result<(), Fail> {
+    assert_eq!(rt; leading_degree::<Lex>(rt.alloc())?, Some(1));
+    assert_eq!(rt; leading_degree::<GradedReverseLex>(rt.alloc())?, Some(3));
+    Ok(())
+}
+
+#[test]
+fn values_at_points(rt: HostRuntime) -> Result<(), Fail> {
+    let a = sum::<F5, Lex>(rt.alloc(), &[(1, 1, 2), (2, 0, 0)])?;
+    assert!(rt; a.eval(&[F5::of(3), F5::of(4)]) == F5::of(0));
+    assert!(rt; a.eval(&[F5::of(3)]) == F5::of(2));
+    Ok(())
+}
+
+/// Why the product of x^d and x has no value.
+fn degree_stop(alloc: Global, d: u32) -> Result<Option<PolyStop>, Fail> {
+    let a = sum::<F5, GradedReverseLex>(alloc, &[(1, d, 0)])?;
+    Ok(a.mul_term(F5::of(2), &power(alloc, 0, 1)?).err())
+}
+
+#[test]
+fn degree_limit(rt: HostRuntime) -> Result<(), Fail> {
+    assert_eq!(rt; degree_stop(rt.alloc(), 1023)?, None);
+    assert_eq!(rt; degree_stop(rt.alloc(), 1024)?, Some(PolyStop::DegreeOver));
+    Ok(())
+}
+
+/// The sum of 363 variables.
+fn variables(alloc: Global, first: u32) -> Result<Poly<F5, Lex>, Fail> {
+    let mut terms = Vec::new(alloc);
+    for i in 0..363u32 {
+        terms.push((F5::of(1), power(alloc, first.wrapping_add(i), 1)?))?;
+    }
+    Ok(Poly::from_terms(alloc, terms.as_slice())?)
+}
+
+#[test]
+fn term_limit(rt: HostRuntime) -> Result<(), Fail> {
+    let a = variables(rt.alloc(), 0)?;
+    let b = variables(rt.alloc(), 363)?;
+    assert_eq!(rt; a.mul(&b).err(), Some(PolyStop::TermsOver));
+    Ok(())
+}

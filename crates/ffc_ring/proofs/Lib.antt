@@ -1,0 +1,2 @@
+pub mod MonomialLemmas
+pub mod PolynomialLemmas

@@ -1,0 +1,4 @@
+pub mod Monomial
+pub mod MonomialLaws
+pub mod Polynomial
+pub mod PolynomialLaws

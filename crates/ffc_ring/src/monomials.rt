@@ -1,0 +1,37 @@
+//! The laws of monomials.
+ghost use Rattle.ffc_ring.specs.MonomialLaws.{OneMonomial, ProductIsMonomial, ProductAddsExponents, LcmIsMonomial, LcmTakesGreater, ProductAddsDegrees, ProductCommutes, ProductAssociates, ProductWithOne, ProductCancels, DividesProduct, DivisorIsNoHigher, QuotientIsMonomial, QuotientTimesDivisor, ProductOfValues};
+
+/// Monomials with equal exponents are equal.
+pub fn equal_exponents()
+    ensures { OneMonomial }
+{}
+
+/// What a product is.
+pub fn product()
+    ensures monomial { ProductIsMonomial }
+    ensures exponents { ProductAddsExponents }
+    ensures degrees { ProductAddsDegrees }
+    ensures value { ProductOfValues }
+{}
+
+/// What a least common multiple is.
+pub fn least_common_multiple()
+    ensures monomial { LcmIsMonomial }
+    ensures exponents { LcmTakesGreater }
+{}
+
+/// Products are those of a commutative monoid in which factors cancel.
+pub fn monoid()
+    ensures commutes { ProductCommutes }
+    ensures associates { ProductAssociates }
+    ensures with_one { ProductWithOne }
+    ensures cancels { ProductCancels }
+{}
+
+/// Divisibility, and what a quotient is.
+pub fn divisibility()
+    ensures product { DividesProduct }
+    ensures degree { DivisorIsNoHigher }
+    ensures quotient_monomial { QuotientIsMonomial }
+    ensures quotient { QuotientTimesDivisor }
+{}

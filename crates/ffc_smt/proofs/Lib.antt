@@ -1,0 +1,10 @@
+pub mod Extends
+pub mod NodeMeanings
+pub mod Keeping
+pub mod Again
+pub mod Bounds
+pub mod TreeLemmas
+pub mod FormLemmas
+pub mod InterningLemmas
+pub mod SortLemmas
+pub mod StateLemmas

@@ -1,0 +1,17 @@
+pub mod Trees
+pub mod Terms
+pub mod Meaning
+pub mod Making
+pub mod Faults
+pub mod Numbers
+pub mod Scopes
+pub mod TermReading
+pub mod CommandReading
+pub mod Scripts
+pub mod Rows
+pub mod Law
+pub mod Again
+pub mod Bounds
+pub mod TreeLaws
+pub mod Interning
+pub mod Sorting

@@ -1,0 +1,12 @@
+//! What scripts say.
+#![tactic(auto)]
+
+mod laws;
+mod rows;
+
+pub use laws::{
+    choosing_is_one, forms_are_trees, interning_is_one, nodes_keep_values, scripts_have_sorts,
+    states_have_sorts, terms_are_made_once, terms_have_sorts, trees_keep_tokens,
+    weight_bounds_nodes,
+};
+pub use rows::{codes, first_faults, levels, nodes, places, texts, values};

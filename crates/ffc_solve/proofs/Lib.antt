@@ -1,0 +1,15 @@
+pub mod Digits
+pub mod Pieces
+pub mod Meaning
+pub mod Underway
+pub mod Placing
+pub mod Booleans
+pub mod Search
+pub mod Pairs
+pub mod Sound
+pub mod Terms
+pub mod Commands
+pub mod Reached
+pub mod Ending
+pub mod Keeping
+pub mod Measured

@@ -1,0 +1,15 @@
+pub mod Source
+pub mod Text
+pub mod Reading
+pub mod Script
+pub mod Tables
+pub mod Certificate
+pub mod Enumeration
+pub mod Typing
+pub mod Context
+pub mod Judge
+pub mod Answers
+pub mod Solving
+pub mod Underway
+pub mod Words
+pub mod Status

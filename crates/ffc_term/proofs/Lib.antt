@@ -1,0 +1,10 @@
+pub mod InTurn
+pub mod NodeLemmas
+pub mod TableLemmas
+pub mod WalkLemmas
+pub mod ListLemmas
+pub mod CheckLemmas
+pub mod ValueLemmas
+pub mod IteLemmas
+pub mod MeasureLemmas
+pub mod LawLemmas

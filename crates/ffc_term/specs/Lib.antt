@@ -1,0 +1,9 @@
+pub mod Nodes
+pub mod Values
+pub mod Tables
+pub mod Checks
+pub mod Measuring
+pub mod Keeping
+pub mod Marking
+pub mod Laws
+pub mod Modular

@@ -1,0 +1,24 @@
+//! The table of nodes that the terms of a script share, what they measure, and their values.
+#![tactic(auto)]
+
+mod check;
+mod eval;
+mod kept;
+pub mod laws;
+mod list;
+mod measure;
+mod modular;
+mod node;
+mod store;
+mod table;
+#[cfg(test)]
+mod tests;
+mod value;
+mod walk;
+
+pub use check::Check;
+pub use list::NodeList;
+pub use measure::Measures;
+pub use node::{Node, NodeId, Sort};
+pub use table::{NodeTable, TermStop};
+pub use value::{Assignment, Value};

@@ -1,0 +1,69 @@
+//! Lists of nodes by number, as the children of a node.
+ghost use Rattle.std.specs.Prelude.{◌≡◌, ℕ, List, nat_eq};
+ghost use Rattle.std.specs.Hash as fed;
+ghost use Rattle.std.specs.Cmp.Lexicographic.{pointwise};
+ghost use Rattle.std.specs.Cmp.Rules.{comparing, hashing};
+ghost use Rattle.std.proofs.Common.{rules};
+
+use crate::node::NodeId;
+use std::hash::{Hash, Hasher};
+use std::marker::Model;
+
+/// A list of nodes, by number. Clauses see it as the list alone.
+#[derive(Debug, Drop)]
+pub struct NodeList {
+    ids: Vec<NodeId>,
+}
+
+impl Model for NodeList {
+    ghost Value = { List ℕ };
+
+    ghost view = { λ a. a.ids.items };
+}
+
+impl NodeList {
+    /// The vector as a list. It takes no memory.
+    pub fn new(ids: Vec<NodeId>) -> Self
+        ensures { result ≡ ids.items }
+    {
+        NodeList { ids }
+    }
+
+    pub fn as_slice(&self) -> &[NodeId]
+        ensures { result.now ≡ self.now }
+    {
+        self.ids.as_slice()
+    }
+
+    /// The list as a vector. It takes no memory.
+    pub fn into_vec(self) -> Vec<NodeId>
+        ensures { result.items ≡ self }
+    {
+        let NodeList { ids } = self;
+        ids
+    }
+}
+
+impl PartialEq for NodeList {
+    ghost eq = { pointwise nat_eq };
+
+    ghost laws = { Prim.search (comparing, rules) };
+
+    fn eq(&self, other: &NodeList) -> bool {
+        self.ids == other.ids
+    }
+}
+
+impl Eq for NodeList {
+    ghost laws = { Prim.search (comparing, rules) };
+}
+
+impl Hash for NodeList {
+    ghost hash_input = { fed.slice fed.u32 };
+
+    ghost respects_eq = { Prim.search (hashing, rules) };
+
+    fn hash<H: Hasher>(&self, state: &mut H) {
+        self.ids.hash(state);
+    }
+}

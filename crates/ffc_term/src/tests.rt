@@ -1,0 +1,325 @@
+//! Tables made at run time: each node is tried before it is made.
+ghost use Rattle.std.specs.Prelude.{◌≡◌, ℕ, List, ◌<◌, ◌≤◌, length, take, All, IsTrue, IfSome, IsSome, count_by};
+ghost use Rattle.ffc_field.specs.Orders.{IsOrder};
+ghost use Rattle.ffc_term.specs.declared.node.Node.{Node};
+ghost use Rattle.ffc_term.specs.Nodes.{is_constant, sort_at};
+ghost use Rattle.ffc_term.specs.Tables.{Fits, CanCut, IsBooleanAt, IsFieldAt, IsFieldIte, IsNumbered, AreBoolean, AreOfOneField, constant_count};
+
+use crate::{Assignment, Measures, Node, NodeId, NodeList, NodeTable, Sort, TermStop, Value};
+use ffc_field::FieldId;
+use std::alloc::{AllocError, Global};
+use std::process::Abort;
+use std::test::Fail;
+
+fn is_order(order: u64) -> bool
+    ensures { IsTrue result → IsOrder order }
+{
+    FieldId::of_order(u128::from(order)).is_some()
+}
+
+fn is_boolean(table: &NodeTable, id: NodeId) -> bool
+    ensures { IsTrue result → IsBooleanAt table.now id }
+{
+    if id >= table.len() {
+        return false;
+    }
+    match table.sort_of(id) {
+        Sort::Bool => true,
+        Sort::Field(_) => false,
+    }
+}
+
+fn is_field(table: &NodeTable, order: u64, id: NodeId) -> bool
+    ensures { IsTrue result → IsFieldAt table.now order id }
+{
+    if id >= table.len() {
+        return false;
+    }
+    match table.sort_of(id) {
+        Sort::Bool => false,
+        Sort::Field(own) => own == order,
+    }
+}
+
+fn are_boolean(table: &NodeTable, ids: &[NodeId]) -> bool
+    ensures { IsTrue result → All (IsBooleanAt table.now) ids.now }
+{
+    for id in ids {
+        if !is_boolean(table, *id) {
+            return false;
+        }
+    }
+    true
+}
+
+fn are_field(table: &NodeTable, order: u64, ids: &[NodeId]) -> bool
+    ensures { IsTrue result → All (IsFieldAt table.now order) ids.now }
+{
+    for id in ids {
+        if !is_field(table, order, *id) {
+            return false;
+        }
+    }
+    true
+}
+
+fn are_some_boolean(table: &NodeTable, ids: &[NodeId]) -> bool
+    ensures { IsTrue result → AreBoolean table.now ids.now }
+{
+    !ids.is_empty() && are_boolean(table, ids)
+}
+
+// The order of the first of these nodes, or 0.
+fn order_of_first(table: &NodeTable, ids: &[NodeId]) -> u64 {
+    match ids.first() {
+        Some(id) if *id < table.len() => table.sort_of(*id).order(),
+        _ => 0,
+    }
+}
+
+fn are_of_one_field(table: &NodeTable, ids: &[NodeId]) -> bool
+    ensures { IsTrue result → AreOfOneField table.now ids.now }
+{
+    let order = order_of_first(table, ids);
+    !ids.is_empty() && are_field(table, order, ids)
+}
+
+fn fits(table: &NodeTable, node: &Node) -> bool
+    ensures { IsTrue result → Fits table.now node.now }
+{
+    match node {
+        Node::True | Node::False | Node::BoolConst(_) => true,
+        Node::FieldConst(_, order) => is_order(*order),
+        Node::Num(n, order) => n < order && is_order(*order),
+        Node::Not(a) => is_boolean(table, *a),
+        Node::And(ids) | Node::Or(ids) => are_some_boolean(table, ids.as_slice()),
+        Node::Iff(a, b) | Node::Xor(a, b) => is_boolean(table, *a) && is_boolean(table, *b),
+        Node::IteBool(c, a, b) => is_boolean(table, *c)
+            && is_boolean(table, *a)
+            && is_boolean(table, *b),
+        Node::IteField(c, a, b) => is_boolean(table, *c) && are_of_one_field(table, &[*a, *b]),
+        Node::Eq(a, b) => are_of_one_field(table, &[*a, *b]),
+        Node::Neg(a) => are_of_one_field(table, &[*a]),
+        Node::Add(ids) | Node::Mul(ids) | Node::Bitsum(ids) => are_of_one_field(
+            table,
+            ids.as_slice(),
+        ),
+    }
+}
+
+// Neither an `ite` of field sort nor a constant.
+fn is_plain(node: &Node) -> bool
+    ensures ite { IsTrue result → ¬ (IsFieldIte node.now) }
+    ensures numbered { IsTrue result → (nodes : List Node) → IsNumbered nodes node.now }
+{
+    !matches!(
+        node,
+        Node::IteField(..) | Node::BoolConst(_) | Node::FieldConst(..)
+    )
+}
+
+fn make(rt: &impl Abort, table: &mut NodeTable, node: Node) -> Result<NodeId, TermStop> {
+    assert!(rt; fits(table, &node));
+    assert!(rt; is_plain(&node));
+    table.intern(node)
+}
+
+fn make_ite(
+    rt: &impl Abort,
+    table: &mut NodeTable,
+    c: NodeId,
+    a: NodeId,
+    b: NodeId,
+) -> Result<NodeId, TermStop> {
+    assert!(rt; fits(table, &Node::IteField(c, a, b)));
+    table.ite_field(c, a, b)
+}
+
+fn count_constants(table: &NodeTable) -> u32
+    ensures { result ≡ constant_count table.now }
+{
+    let mut count = 0;
+    for id in 0..table.len() {
+        if table.node(id).is_constant() {
+            count += 1;
+        }
+    }
+    count
+}
+
+fn declare(rt: &impl Abort, table: &mut NodeTable, sort: Sort) -> Result<NodeId, TermStop> {
+    let number = count_constants(table);
+    match sort {
+        Sort::Bool => table.intern(Node::BoolConst(number)),
+        Sort::Field(order) => {
+            assert!(rt; is_order(order));
+            table.intern(Node::FieldConst(number, order))
+        }
+    }
+}
+
+fn list(alloc: Global, ids: &[NodeId]) -> Result<NodeList, AllocError> {
+    Ok(NodeList::new(ids.to_vec(alloc)?))
+}
+
+// The value of a node under an assignment.
+fn evaluate(
+    rt: &(impl Abort + AllocGlobal),
+    table: &NodeTable,
+    root: NodeId,
+    values: &Assignment,
+) -> Result<Value, AllocError> {
+    assert!(rt; root < table.len());
+    let nodes = table.nodes_of(&[root])?;
+    let mut out = vec![in rt.alloc(); Value::Bool(false); table.len() as usize]?;
+    table.eval_into(&nodes, values, &mut out);
+    Ok(out[root as usize])
+}
+
+fn numbers(rt: &impl Abort, table: &mut NodeTable) -> Result<[NodeId; 4], TermStop> {
+    let three = make(rt, table, Node::Num(3, 5))?;
+    let again = make(rt, table, Node::Num(3, 5))?;
+    let four = make(rt, table, Node::Num(4, 5))?;
+    let condition = make(rt, table, Node::True)?;
+    Ok([three, again, four, condition])
+}
+
+// How many nodes and constants the check over a node has, and its measures.
+fn measured(
+    rt: &impl Abort,
+    table: &NodeTable,
+    id: NodeId,
+) -> Result<(usize, usize, Measures), AllocError> {
+    assert!(rt; id < table.len());
+    let nodes = table.nodes_of(&[id])?;
+    let constants = table.constants_of(&[id])?;
+    let measures = table.measures(&[id])?;
+    Ok((nodes.len(), constants.len(), measures))
+}
+
+#[test]
+fn an_ite_brings_its_equalities(rt: HostRuntime) -> Result<(), Fail> {
+    let mut table = NodeTable::new(rt.alloc())?;
+    let made = numbers(&rt, &mut table)?;
+    assert_eq!(rt; made, [0, 0, 1, 2]);
+    let ite = make_ite(&rt, &mut table, 2, 0, 1)?;
+    assert_eq!(rt; (ite, table.len()), (3, 6));
+    let row = measured(&rt, &table, 5)?;
+    assert_eq!(rt; row, (6, 0, Measures { span: 1, work: 6 }));
+    Ok(())
+}
+
+// Of each order p: the sum of p - 1 and p - 2, their product, p - 2 negated, and the bit sum of p - 1, p - 2 and p - 2.
+const EXPECTED: [(u64, [u64; 4]); 8] = [
+    (2, [1, 0, 0, 1]),
+    (3, [0, 2, 2, 2]),
+    (5, [2, 2, 2, 2]),
+    (17, [14, 2, 2, 4]),
+    (65_537, [65_534, 2, 2, 65_524]),
+    (2_013_265_921, [2_013_265_918, 2, 2, 2_013_265_908]),
+    (2_130_706_433, [2_130_706_430, 2, 2, 2_130_706_420]),
+    (
+        18_446_744_069_414_584_321,
+        [18_446_744_069_414_584_318, 2, 2, 18_446_744_069_414_584_308],
+    ),
+];
+
+fn sum_and_product(
+    rt: &(impl Abort + AllocGlobal),
+    table: &mut NodeTable,
+    x: NodeId,
+    n: NodeId,
+) -> Result<[NodeId; 2], TermStop> {
+    let pair = list(rt.alloc(), &[x, n])?;
+    let sum = make(rt, table, Node::Add(pair))?;
+    let pair = list(rt.alloc(), &[x, n])?;
+    let product = make(rt, table, Node::Mul(pair))?;
+    Ok([sum, product])
+}
+
+fn negation_and_bits(
+    rt: &(impl Abort + AllocGlobal),
+    table: &mut NodeTable,
+    x: NodeId,
+    n: NodeId,
+) -> Result<[NodeId; 2], TermStop> {
+    let negated = make(rt, table, Node::Neg(n))?;
+    let three = list(rt.alloc(), &[x, n, n])?;
+    let bits = make(rt, table, Node::Bitsum(three))?;
+    Ok([negated, bits])
+}
+
+fn operations(
+    rt: &(impl Abort + AllocGlobal),
+    table: &mut NodeTable,
+    order: u64,
+) -> Result<[NodeId; 4], TermStop> {
+    assert!(rt; order > 1);
+    let x = declare(rt, table, Sort::Field(order))?;
+    let n = make(rt, table, Node::Num(order - 2, order))?;
+    let [sum, product] = sum_and_product(rt, table, x, n)?;
+    let [negated, bits] = negation_and_bits(rt, table, x, n)?;
+    Ok([sum, product, negated, bits])
+}
+
+#[test]
+fn eight_orders(rt: HostRuntime) -> Result<(), Fail> {
+    let mut table = NodeTable::new(rt.alloc())?;
+    let mut values = Vec::new(rt.alloc());
+    let mut roots = Vec::new(rt.alloc());
+    for (order, expected) in EXPECTED {
+        values.push(Value::Field(order.saturating_sub(1)))?;
+        roots.push((operations(&rt, &mut table, order)?, expected))?;
+    }
+    let values = Assignment::new(values);
+    for (ids, expected) in &roots {
+        for (id, number) in ids.iter().zip(expected) {
+            let value = evaluate(&rt, &table, *id, &values)?;
+            assert_eq!(rt; value, Value::Field(*number));
+        }
+    }
+    Ok(())
+}
+
+// Where this holds, nodes may be dropped from any number on.
+fn has_no_ite(table: &NodeTable) -> bool
+    ensures { IsTrue result → (len : ℕ) → CanCut table.now len }
+{
+    for id in 0..table.len() {
+        if matches!(table.node(id), Node::IteField(..)) {
+            return false;
+        }
+    }
+    true
+}
+
+// The equality of x*y*y + x and y.
+fn equation(
+    rt: &(impl Abort + AllocGlobal),
+    table: &mut NodeTable,
+    x: NodeId,
+    y: NodeId,
+) -> Result<[NodeId; 3], TermStop> {
+    let factors = list(rt.alloc(), &[x, y, y])?;
+    let product = make(rt, table, Node::Mul(factors))?;
+    let summands = list(rt.alloc(), &[product, x])?;
+    let sum = make(rt, table, Node::Add(summands))?;
+    let equal = make(rt, table, Node::Eq(sum, y))?;
+    Ok([product, sum, equal])
+}
+
+#[test]
+fn dropped_nodes_are_made_again(rt: HostRuntime) -> Result<(), Fail> {
+    let mut table = NodeTable::new(rt.alloc())?;
+    let x = declare(&rt, &mut table, Sort::Field(17))?;
+    let y = declare(&rt, &mut table, Sort::Field(17))?;
+    let once = equation(&rt, &mut table, x, y)?;
+    assert!(rt; has_no_ite(&table));
+    table.truncate(2);
+    assert_eq!(rt; table.len(), 2);
+    let again = equation(&rt, &mut table, x, y)?;
+    assert_eq!(rt; once, again);
+    assert!(rt; table.len() > 4);
+    assert_eq!(rt; (table.degree(4), table.length(4)), (3, 2));
+    Ok(())
+}

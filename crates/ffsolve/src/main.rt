@@ -1,0 +1,53 @@
+//! Answers the SMT-LIB script on standard input, and writes a certificate of the answers to a file.
+#![tactic(auto)]
+
+ghost use Rattle.std.specs.Prelude.{◌≡◌, ◌↔◌, map, None};
+ghost use Rattle.std.specs.Process.{exit_status};
+ghost use Rattle.ffc_solve.specs.Words.{certificate_name};
+ghost use Rattle.ffc_solve.specs.Status.{code_of};
+
+use ffc_base::{FileSink, StdSink, StdSource};
+use ffc_solve::{SolveStatus, solve_main};
+use std::env;
+use std::io::{self, ErrorKind};
+use std::process::ExitCode;
+use std::rt::{Env, Files};
+
+/// Answers the script on standard input. The words are those of the command line, the program's name first.
+fn answer<R: Files + Input + Print + AllocGlobal>(rt: &R, words: &[&str]) -> SolveStatus
+    ensures usage { (result ≡ SolveStatus.Usage) ↔ (certificate_name (map (λ w. w.now) words.now) ≡ None) }
+{
+    let mut script = StdSource::new(rt.reader());
+    let mut out = StdSink::new(io::writer(rt));
+    let mut cert = FileSink::new(rt);
+    solve_main(rt.alloc(), words, &mut script, &mut out, &mut cert)
+}
+
+/// Answers with the words of the command line. The call fails where memory is wanting or a word is no UTF-8.
+fn answer_with_words<R: Files + Env + Input + Print + AllocGlobal>(
+    rt: &R,
+) -> io::Result<SolveStatus> {
+    let words: Vec<String> = env::args(rt)?.collect(rt.alloc())?;
+    let words: Vec<&str> = words.iter().map(|word| word.as_str()).collect(rt.alloc())?;
+    Ok(answer(rt, words.as_slice()))
+}
+
+/// Ends with the number of the status, and says how the program is used where the words were refused.
+fn end<R: Eprint>(rt: &R, status: SolveStatus) -> ExitCode
+    ensures { exit_status result ≡ code_of status }
+{
+    if status == SolveStatus::Usage {
+        // There is nobody to tell where standard error takes no text.
+        let _ = eprintln!(rt; "usage: ffsolve --cert FILE");
+    }
+    ExitCode::from(status.code())
+}
+
+fn main(rt: HostRuntime) -> ExitCode {
+    let status = match answer_with_words(&rt) {
+        Ok(status) => status,
+        Err(error) if error.kind() == ErrorKind::OutOfMemory => SolveStatus::Memory,
+        Err(_) => SolveStatus::Usage,
+    };
+    end(&rt, status)
+}

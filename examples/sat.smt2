@@ -1,0 +1,4 @@
+(set-logic QF_FF)
+(declare-const x (_ FiniteField 3))
+(assert (= x (as ff-1 (_ FiniteField 3))))
+(check-sat)
