@@ -1,1 +1,11 @@
 pub mod Appending
+pub mod NumberLemmas
+pub mod LoopLemmas
+pub mod TakingLemmas
+pub mod NextLemmas
+pub mod TreeLemmas
+pub mod SplitLemmas
+pub mod ReadLemmas
+pub mod ScanLemmas
+pub mod RestLemmas
+pub mod KeptLemmas

@@ -1,3 +1,12 @@
+pub mod Bounds
+pub mod Certificate
 pub mod Extending
+pub mod Items
+pub mod Kept
+pub mod Lines
+pub mod Reading
+pub mod Scan
 pub mod Spelling
+pub mod Taking
+pub mod Trees
 pub mod WellFormed

@@ -1,0 +1,91 @@
+-- What a reader keeps, and what follows for its answers.
+use Rattle.std.proofs.Common.{◌≡◌, ℕ, zero, suc, ◌≤◌, List, [], ◌∷◌, ◌++◌, drop, Option, Some, None, refl, sym, ap, ◌∙◌, subst, arith, length-append, append_assoc}
+use Rattle.std.specs.Prelude.{slice_get, if◌then◌else◌, Bool, true, false, MatchOption}
+use Rattle.std.specs.List.{position_or_len}
+use Rattle.std.proofs.lemmas.List.{append-nil, drop-append-le}
+use Rattle.ffc_cert.specs.declared.entries.CertFault.{CertFault}
+use Rattle.ffc_cert.specs.declared.entries.Numbered.{Numbered}
+use Rattle.ffc_cert.specs.declared.progress.Progress.{Progress}
+use Rattle.ffc_cert.specs.declared.scanning.Scanner.{Scanner}
+use Rattle.ffc_cert.specs.Reading.{Reading, Complete, Open, Stopped, ending, fault_at, is_behind, read_text, reading_of, stop_fault, is_line_end}
+use Rattle.ffc_cert.specs.Scan.{IsReady, IsStopped, IsEntry, IsDone, ahead, without, end_here}
+use Rattle.ffc_cert.specs.Certificate.{Certificate, IsRead, next_entry_of, fault_behind, due_fault}
+
+longer : (xs ys : List ℕ) → position_or_len is_line_end xs ≤ position_or_len is_line_end (xs ++ ys)
+longer [] ys = omega arith
+longer (x ∷ xs) ys = grind (arith, longer xs ys)
+
+pub fed : (wanted : ℕ) (text piece : List ℕ) (s : Scanner) → IsReady wanted text s → IsReady wanted (text ++ piece) s
+fed wanted text piece s r =
+    let behind : drop s.start (text ++ piece) ≡ drop s.start text ++ piece = drop-append-le s.start text piece (omega (arith, r.within, r.limit)) in record {
+      within = r.within;
+      limit = omega (arith, r.limit, length-append text piece);
+      unended = rw behind (omega (arith, r.unended, longer (drop s.start text) piece));
+      line = r.line;
+      complete = r.complete;
+      bounded = r.bounded;
+      reads = λ more. rw (behind, append_assoc text piece more, append_assoc (drop s.start text) piece more) (r.reads (piece ++ more));
+    }
+
+pub entry_due : (wanted n given : ℕ) (text : List ℕ) (entry : Numbered) → IsEntry wanted n text entry → n ≡ given → next_entry_of wanted text given ≡ Some entry
+entry_due wanted n given text entry h same =
+    let whole = append-nil text in let here = h [] in let one = rw whole at here in rw (← same) one
+
+none_left : (n : ℕ) (xs : List Numbered) → drop n xs ≡ [] → slice_get xs n ≡ None
+none_left zero [] h = refl
+none_left zero (x ∷ xs) h = absurd (cc)
+none_left (suc n) [] h = refl
+none_left (suc n) (x ∷ xs) h = none_left n xs h
+
+ended : (wanted n given : ℕ) (text : List ℕ) (r : Reading) → without n (reading_of wanted text) ≡ r → n ≡ given → r.entries ≡ []
+    → (next_entry_of wanted text given ≡ None) × ((reading_of wanted text).end ≡ r.end)
+ended wanted n given text r h same empty =
+    (rw (← same) (none_left n (reading_of wanted text).entries (ap (λ (x : Reading). x.entries) h ∙ empty)), ap (λ (x : Reading). x.end) h)
+
+pub done_end : (wanted given : ℕ) (text : List ℕ) (s : Scanner) → IsReady wanted text s → IsDone wanted text s → s.progress.complete ≡ given
+    → (next_entry_of wanted text given ≡ None) × ((reading_of wanted text).end ≡ end_here wanted s.progress)
+done_end wanted given text s r d same =
+    let h : without s.progress.complete (reading_of wanted text) ≡ read_text wanted s.progress (ahead text s) = (let here = r.reads [] in rw (append-nil text, append-nil (drop s.start text)) at here) in
+    let e = ended wanted s.progress.complete given text (read_text wanted s.progress (ahead text s)) h same d.0 in
+    (e.0, e.1 ∙ d.1)
+
+no_stop : (p : Progress) (b : Bool) → stop_fault (if b then Complete else Open (fault_at 4 p)) ≡ None
+no_stop p true = refl
+no_stop p false = refl
+
+pub done_due : (wanted given : ℕ) (text : List ℕ) (s : Scanner) → IsReady wanted text s → IsDone wanted text s → s.progress.complete ≡ given
+    → (next_entry_of wanted text given ≡ None) × (stop_fault (reading_of wanted text).end ≡ None)
+unfolding end_here
+done_due wanted given text s r d same =
+    let e = done_end wanted given text s r d same in
+    (e.0, ap stop_fault e.1 ∙ no_stop s.progress (is_behind s.progress.place s.progress.complete wanted))
+
+pub stopped_due : (wanted n given : ℕ) (text : List ℕ) (fault : CertFault) → IsStopped wanted n text fault → n ≡ given
+    → (next_entry_of wanted text given ≡ None) × (stop_fault (reading_of wanted text).end ≡ Some fault)
+stopped_due wanted n given text fault h same =
+    let k : without n (reading_of wanted text) ≡ ending (Stopped fault) = let whole = append-nil text in let here = h [] in rw whole at here in
+    let e = ended wanted n given text (ending (Stopped fault)) k same refl in
+    (e.0, ap stop_fault e.1)
+
+pub entry_no_fault : (wanted given : ℕ) (text : List ℕ) (entry : Numbered) → next_entry_of wanted text given ≡ Some entry → due_fault None wanted text given ≡ None
+entry_no_fault wanted given text entry h = ap (λ (o : Option Numbered). fault_behind o wanted text) h
+
+pub end_fault_due : (wanted given : ℕ) (text : List ℕ) (f : Option CertFault) → (next_entry_of wanted text given ≡ None) × (stop_fault (reading_of wanted text).end ≡ f)
+    → due_fault None wanted text given ≡ f
+end_fault_due wanted given text f h = ap (λ (o : Option Numbered). fault_behind o wanted text) h.0 ∙ h.1
+
+-- no entry or fault is left to be found
+pub no_entry : (wanted n : ℕ) (text : List ℕ) (entry : Numbered) → IsEntry wanted n text entry → next_entry_of wanted text n ≡ None → ⊥
+no_entry wanted n text entry h none =
+    let clash : Some entry ≡ None = sym (entry_due wanted n n text entry h refl) ∙ none in
+    cc
+
+pub no_fault : (wanted n : ℕ) (text : List ℕ) (fault : CertFault) → IsStopped wanted n text fault → stop_fault (reading_of wanted text).end ≡ None → ⊥
+no_fault wanted n text fault h none =
+    let clash : Some fault ≡ None = sym (stopped_due wanted n n text fault h refl).1 ∙ none in
+    cc
+
+-- what is known where the text so far was read
+pub read_out : (c : Certificate) → IsRead c → c.fault ≡ None → (next_entry_of c.wanted c.text c.given ≡ None) × (stop_fault (reading_of c.wanted c.text).end ≡ None)
+read_out c read none =
+    subst (λ o. MatchOption o ((next_entry_of c.wanted c.text c.given ≡ None) × (stop_fault (reading_of c.wanted c.text).end ≡ None)) (λ _. Unit {0})) none read

@@ -1,0 +1,9 @@
+use Rattle.std.proofs.Common.{◌≡◌, ◌-◌, length}
+use Rattle.ffc_cert.specs.Scan.{IsReady}
+use Rattle.ffc_cert.proofs.scanning.Scanner.scan.Given as goal
+
+abbrev pub invariant-lines : goal.invariant-lines
+invariant-lines l = IsReady l.wanted l.text l.self × (l.self.progress.complete ≡ l.fn.self.progress.complete)
+
+abbrev pub decreases-lines : goal.decreases-lines
+decreases-lines l = length l.text - l.self.start

@@ -1,0 +1,27 @@
+use Rattle.std.proofs.lemmas.Result.{err_from_is_err_and}
+use Rattle.ffc_cert.proofs.ScanLemmas.{goes, gives, gives_entry, stops}
+use Rattle.ffc_cert.proofs.scanning.Scanner.take_whole.Goals as goal
+
+pub returns-in_err-taken-clause-after : goal.returns-in_err-taken-clause-after
+returns-in_err-taken-clause-after c =
+    let p = err_from_is_err_and c.from_residual.result c.from_residual.ensures.1 in
+    rw (p.1, p.2) (stops c.args.wanted c.args.text.now c.args.self.now c.args.end c.requires.ready c.requires.whole c.requires.end c.in_err-taken.field-0.0 c.take_line.new.self c.in_err-taken.ensures.taken)
+
+pub returns-in-Some-clause-after : goal.returns-in-Some-clause-after
+returns-in-Some-clause-after c =
+    let next = rw c.in-Some.is at c.in_ok-taken.ensures.taken in
+    let count = rw c.in-Some.is at c.in_ok-taken.ensures.counts in (
+      gives_entry c.args.wanted c.args.text.now c.args.self.now c.args.end c.requires.ready c.requires.whole c.requires.end c.in-Some.entry c.take_line.new.self next,
+      (
+        gives c.args.wanted c.args.text.now c.args.self.now c.args.end c.requires.ready c.requires.whole c.requires.end c.in-Some.entry c.take_line.new.self next c.take_line.ensures.follows count,
+        count,
+      ),
+    )
+
+pub returns-in-None-clause-after : goal.returns-in-None-clause-after
+returns-in-None-clause-after c =
+    let next = rw c.in-None.is at c.in_ok-taken.ensures.taken in
+    let count = rw c.in-None.is at c.in_ok-taken.ensures.counts in (
+      goes c.args.wanted c.args.text.now c.args.self.now c.args.end c.requires.ready c.requires.whole c.requires.end c.take_line.new.self next c.take_line.ensures.follows count,
+      count,
+    )

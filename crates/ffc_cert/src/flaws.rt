@@ -1,0 +1,54 @@
+//! What is wrong with a line.
+use std::alloc::{AllocError, AllocFailed};
+
+/// Why a line has no form that may stand there: the first cause from the left.
+#[derive(Clone, Copy, Debug, PartialEq, Eq)]
+pub enum Flaw {
+    /// An item that can't stand there.
+    Form,
+    /// Digits that are no canonical number, or one out of range.
+    Number,
+    /// The line ends before an item that it needs.
+    Missing,
+}
+
+/// Why a line was not read.
+#[derive(Clone, Copy, Debug, PartialEq, Eq)]
+pub enum LineStop {
+    Flaw(Flaw),
+    /// Memory was wanting.
+    Memory,
+}
+
+impl From<Flaw> for LineStop {
+    ghost use Rattle.std.specs.Prelude.{◌≡◌};
+    ghost use Rattle.ffc_cert.specs.declared.flaws.LineStop.TheVariants.{Flaw};
+
+    ghost from_gives = { λ flaw e. e ≡ Flaw flaw };
+
+    fn from(flaw: Flaw) -> LineStop {
+        LineStop::Flaw(flaw)
+    }
+}
+
+impl From<AllocError> for LineStop {
+    ghost use Rattle.std.specs.Prelude.{◌≡◌};
+    ghost use Rattle.ffc_cert.specs.declared.flaws.LineStop.TheVariants.{Memory};
+
+    ghost from_gives = { λ _ e. e ≡ Memory };
+
+    fn from(_: AllocError) -> LineStop {
+        LineStop::Memory
+    }
+}
+
+impl<T: Drop> From<AllocFailed<T>> for LineStop {
+    ghost use Rattle.std.specs.Prelude.{◌≡◌};
+    ghost use Rattle.ffc_cert.specs.declared.flaws.LineStop.TheVariants.{Memory};
+
+    ghost from_gives = { λ _ e. e ≡ Memory };
+
+    fn from(_: AllocFailed<T>) -> LineStop {
+        LineStop::Memory
+    }
+}

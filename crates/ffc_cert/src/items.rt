@@ -1,0 +1,204 @@
+//! Items of a line, and how they are read.
+ghost use Rattle.std.specs.Prelude.{◌≡◌, ℕ, ◌+◌, ◌-◌, ◌^◌, ◌<◌, ◌≤◌, ◌==◌, ◌↔◌, List, [], length, Result, IfOk, IsTrue, MatchResult, SomeIff, Ok};
+ghost use Rattle.std.specs.Char.{is_ascii_digit};
+ghost use Rattle.std.specs.List.{position_or_len, list_all};
+ghost use Rattle.std.specs.Str.Parse.{digits_value};
+ghost use Rattle.ffc_cert.specs.Items.{Reads, Stops, is_digits, is_canonical, first_item, behind_item, item_at, number_in, sign_of, literal_in, number_at, literal_at, power_at};
+
+use crate::entries::{Literal, Power};
+use crate::flaws::{Flaw, LineStop};
+use memchr::memchr;
+use std::marker::Model;
+
+/// The place of the first such byte, or the length.
+pub fn place_of(byte: u8, bytes: &[u8]) -> usize
+    ensures place { result ≡ position_or_len (λ c. c == byte) bytes.now }
+    ensures within { result ≤ length bytes.now }
+{
+    memchr(byte, bytes).unwrap_or(bytes.len())
+}
+
+fn all_digits(bytes: &[u8]) -> bool
+    ensures { result ≡ list_all is_ascii_digit bytes.now }
+{
+    bytes.iter().all(|c| c.is_ascii_digit())
+}
+
+#[tactic(auto, unfolding(crate::specs::Items::is_digits))]
+fn is_digits(item: &[u8]) -> bool
+    ensures { result ≡ is_digits item.now }
+{
+    !item.is_empty() && all_digits(item)
+}
+
+#[tactic(auto, unfolding(crate::specs::Items::is_canonical))]
+fn is_canonical(item: &[u8]) -> bool
+    ensures { result ≡ is_canonical item.now }
+{
+    match item {
+        [] => false,
+        [_] => true,
+        [first, _, ..] => *first != b'0',
+    }
+}
+
+/// The number that the digits write, if it is below 2^64.
+#[tactic(auto, unfolding(crate::specs::Items::is_digits))]
+fn value_of(digits: &[u8]) -> Option<u64>
+    requires { IsTrue (is_digits digits.now) }
+    ensures { SomeIff result (digits_value 10 digits.now < 2 ^ 64) (digits_value 10 digits.now) }
+{
+    match str::from_utf8(digits) {
+        Ok(text) => text.parse().ok(),
+        Err(_) => None,
+    }
+}
+
+/// An item as a number that is at most this one.
+#[tactic(auto, unfolding(crate::specs::Items::number_in, crate::specs::Items::number_of))]
+fn number_in(most: u64, item: &[u8]) -> Result<u64, Flaw>
+    ensures value { result ≡ number_in (most + 1) item.now }
+    ensures within { IfOk result (λ n. n ≤ most) }
+{
+    if !is_digits(item) {
+        return Err(Flaw::Form);
+    }
+    if !is_canonical(item) {
+        return Err(Flaw::Number);
+    }
+    match value_of(item) {
+        Some(n) if n <= most => Ok(n),
+        _ => Err(Flaw::Number),
+    }
+}
+
+/// An item as a number below 2^32.
+pub fn narrow_in(item: &[u8]) -> Result<u32, Flaw>
+    ensures { result ≡ number_in (2 ^ 32) item.now }
+{
+    let n = number_in(u64::from(u32::MAX), item)?;
+    Ok(n as u32)
+}
+
+#[tactic(auto, unfolding(crate::specs::Items::sign_of))]
+fn sign_of(sign: u8) -> Result<bool, Flaw>
+    ensures { result ≡ sign_of sign }
+{
+    match sign {
+        b'+' => Ok(true),
+        b'-' => Ok(false),
+        _ => Err(Flaw::Form),
+    }
+}
+
+/// An item as a literal.
+#[tactic(auto, unfolding(crate::specs::Items::literal_in))]
+fn literal_in(item: &[u8]) -> Result<Literal, Flaw>
+    ensures { result ≡ literal_in item.now }
+{
+    match item {
+        [] => Err(Flaw::Form),
+        [sign, digits @ ..] => {
+            let sign = sign_of(*sign)?;
+            let node = narrow_in(digits)?;
+            Ok((sign, node))
+        }
+    }
+}
+
+/// What is left of a line. Clauses see its bytes.
+#[derive(Drop)]
+pub struct Items<'a> {
+    rest: &'a [u8],
+}
+
+impl<'a> Model for Items<'a> {
+    ghost use Rattle.std.specs.Prelude.{List, ℕ};
+
+    ghost Value = { List ℕ };
+
+    ghost view = { λ items. items.rest.now };
+}
+
+impl<'a> Items<'a> {
+    /// The first item of a line, and the items behind it.
+    pub fn of_line(line: &'a [u8]) -> (&'a [u8], Items<'a>)
+        ensures first { result.0.now ≡ first_item line.now }
+        ensures rest { result.1 ≡ behind_item line.now }
+    {
+        let end = place_of(b' ', line);
+        (&line[..end], Items { rest: &line[end..] })
+    }
+
+    /// The next item.
+    #[tactic(auto, unfolding(crate::specs::Items::item_at))]
+    pub fn next(&mut self) -> Result<&'a [u8], LineStop>
+        ensures { MatchResult result (λ item. item_at self.old ≡ Ok (item.now, self.new)) (λ stop. Stops stop (item_at self.old)) }
+    {
+        match self.rest {
+            [] => Err(LineStop::Flaw(Flaw::Missing)),
+            [b' ', behind @ ..] => {
+                let end = place_of(b' ', behind);
+                self.rest = &behind[end..];
+                Ok(&behind[..end])
+            }
+            [_, ..] => Err(LineStop::Flaw(Flaw::Form)),
+        }
+    }
+
+    /// Whether no item is left.
+    pub fn is_empty(&self) -> bool
+        ensures { IsTrue result ↔ (self.now ≡ []) }
+    {
+        self.rest.is_empty()
+    }
+
+    /// The next item as a number that is at most this one.
+    #[tactic(auto, unfolding(crate::specs::Items::number_at))]
+    pub fn number(&mut self, most: u64) -> Result<u64, LineStop>
+        ensures value { Reads result self.new (number_at (most + 1) self.old) }
+        ensures within { IfOk result (λ n. n ≤ most) }
+    {
+        let item = self.next()?;
+        Ok(number_in(most, item)?)
+    }
+
+    /// The next item as a number below 2^32.
+    pub fn narrow(&mut self) -> Result<u32, LineStop>
+        ensures { Reads result self.new (number_at (2 ^ 32) self.old) }
+    {
+        let n = self.number(u64::from(u32::MAX))?;
+        Ok(n as u32)
+    }
+
+    /// The next item as a number below 2^64.
+    pub fn wide(&mut self) -> Result<u64, LineStop>
+        ensures { Reads result self.new (number_at (2 ^ 64) self.old) }
+    {
+        self.number(u64::MAX)
+    }
+
+    #[tactic(auto, unfolding(crate::specs::Items::literal_at))]
+    pub fn literal(&mut self) -> Result<Literal, LineStop>
+        ensures { Reads result self.new (literal_at self.old) }
+    {
+        let item = self.next()?;
+        Ok(literal_in(item)?)
+    }
+
+    /// A variable that is not below this number, and its exponent.
+    #[tactic(auto, unfolding(crate::specs::Items::power_at, crate::specs::Items::variable_at, crate::specs::Items::exponent_at))]
+    pub fn power(&mut self, least: u64) -> Result<Power, LineStop>
+        ensures { Reads result self.new (power_at least self.old) }
+    {
+        let variable = self.narrow()?;
+        if u64::from(variable) < least {
+            return Err(LineStop::Flaw(Flaw::Form));
+        }
+        let exponent = self.narrow()?;
+        if exponent == 0 {
+            return Err(LineStop::Flaw(Flaw::Form));
+        }
+        Ok((variable, exponent))
+    }
+}

@@ -1,0 +1,140 @@
+//! The reader: bytes in any pieces to entries and faults.
+ghost use Rattle.std.specs.Prelude.{◌≡◌, ◌+◌, ◌<◌, ◌^◌, ◌++◌, [], false, true, Some, None, IfOk, IfErr, IfSome, IfNone, OnOk};
+ghost use Rattle.ffc_cert.specs.Certificate.{IsRead, due_entry, due_fault, end_fault, version_of};
+ghost use Rattle.ffc_cert.specs.Taking.{MatchStop};
+
+use crate::entries::{CertFault, CertStop, Numbered};
+use crate::scanning::Scanner;
+use std::alloc::Global;
+use std::marker::Model;
+
+/// Reads a certificate that comes in pieces. Clauses see the text so far, from how many entries it is to be, how many were
+/// given, and the fault that is kept: from the first fault on, each call answers that fault. Each byte is looked at a few
+/// times, so the time is linear in the text, whatever the pieces are, and memory is taken by the bytes that came.
+#[derive(Drop)]
+pub struct CertReader {
+    alloc: Global,
+    wanted: u64,
+    text: Vec<u8>,
+    scanner: Scanner,
+    given: u64,
+    fault: Option<CertFault>,
+    finished: bool,
+}
+
+impl Model for CertReader {
+    ghost use Rattle.ffc_cert.specs.Certificate.{Certificate};
+    ghost use Rattle.ffc_cert.specs.Kept.{IsKept};
+
+    ghost Value = { Certificate };
+
+    ghost view = { λ r. record { wanted = r.wanted; text = r.text.items; given = r.given; fault = r.fault; finished = r.finished } };
+
+    ghost invariant = { λ r. IsKept r.wanted r.text.items r.given r.fault r.scanner };
+}
+
+impl CertReader {
+    /// A reader of a text of which nothing has come, and that is to have so many entries. It takes no memory.
+    pub fn new(alloc: Global, entries: u64) -> CertReader
+        requires { entries < 2 ^ 32 }
+        ensures { result ≡ record { wanted = entries; text = []; given = 0; fault = None; finished = false } }
+    {
+        CertReader {
+            alloc,
+            wanted: entries,
+            text: Vec::new(alloc),
+            scanner: Scanner::new(alloc),
+            given: 0,
+            fault: None,
+            finished: false,
+        }
+    }
+
+    /// Appends a piece to the text.
+    pub fn feed(&mut self, piece: &[u8]) -> Result<(), CertStop>
+        requires { self.old.finished ≡ false }
+        ensures ok { OnOk result ((self.old.fault ≡ None) × (self.new ≡ record self.old { text = self.old.text ++ piece.now })) }
+        ensures stop { IfErr result (λ stop. (self.new ≡ self.old) × MatchStop stop (λ fault. self.old.fault ≡ Some fault) (self.old.fault ≡ None)) }
+    {
+        match self.fault {
+            Some(fault) => return Err(CertStop::Fault(fault)),
+            None => {}
+        }
+        self.text.extend_from_slice(piece)?;
+        Ok(())
+    }
+
+    /// Gives the next entry. `None` says that it isn't whole in the text so far, or that all were given, and that nothing
+    /// judged so far is at fault. A line is judged once it is whole, and a byte behind the last entry at once.
+    pub fn next_entry(&mut self) -> Result<Option<Numbered>, CertStop>
+        ensures entry { IfOk result (λ found. found ≡ due_entry self.old.fault self.old.wanted self.old.text self.old.given) }
+        ensures given { IfOk result (λ found. IfSome found (λ entry. self.new ≡ record self.old { given = self.old.given + 1 })) }
+        ensures none { IfOk result (λ found. IfNone found (self.new ≡ self.old)) }
+        ensures no_fault { OnOk result (due_fault self.old.fault self.old.wanted self.old.text self.old.given ≡ None) }
+        ensures stop { IfErr result (λ stop. MatchStop stop
+            (λ fault. (due_fault self.old.fault self.old.wanted self.old.text self.old.given ≡ Some fault) × (self.new ≡ record self.old { fault = Some fault }))
+            (self.new ≡ self.old)) }
+    {
+        match self.fault {
+            Some(fault) => return Err(CertStop::Fault(fault)),
+            None => {}
+        }
+        match self.scanner.scan(self.alloc, self.wanted, &self.text) {
+            Ok(Some(entry)) => {
+                self.given += 1;
+                Ok(Some(entry))
+            }
+            Ok(None) => Ok(None),
+            Err(CertStop::Fault(fault)) => {
+                self.fault = Some(fault);
+                Err(CertStop::Fault(fault))
+            }
+            Err(CertStop::Memory) => Err(CertStop::Memory),
+        }
+    }
+
+    /// Says that the text ends here. That is a fault where line 1 or a wanted entry is not whole: code 4 on the line at
+    /// which the text ends.
+    pub fn finish(&mut self) -> Result<(), CertStop>
+        requires { IsRead self.old }
+        ensures ok { OnOk result ((end_fault self.old.fault self.old.wanted self.old.text ≡ None)
+            × (self.new ≡ record self.old { finished = true })) }
+        ensures stop { IfErr result (λ stop. MatchStop stop
+            (λ fault. (end_fault self.old.fault self.old.wanted self.old.text ≡ Some fault) × (self.new ≡ record self.old { fault = Some fault; finished = true }))
+            (self.new ≡ self.old)) }
+    {
+        match self.fault {
+            Some(fault) => {
+                self.finished = true;
+                return Err(CertStop::Fault(fault));
+            }
+            None => {}
+        }
+        match self.scanner.end(self.alloc, self.wanted, &self.text) {
+            Ok(None) => {
+                self.finished = true;
+                Ok(())
+            }
+            Ok(Some(fault)) => {
+                self.finished = true;
+                self.fault = Some(fault);
+                Err(CertStop::Fault(fault))
+            }
+            Err(stop) => Err(stop),
+        }
+    }
+
+    /// The version that line 1 names, and `None` until line 1 is whole.
+    pub fn version(&self) -> Option<u8>
+        ensures { result ≡ version_of self.now.text }
+    {
+        let text = self.text.as_slice();
+        if text.starts_with(b"ffcert 1\n") {
+            Some(1)
+        } else if text.starts_with(b"ffcert 2\n") {
+            Some(2)
+        } else {
+            None
+        }
+    }
+}
