@@ -1,0 +1,11 @@
+pub mod ChainLemmas
+pub mod Coefficients
+pub mod DigitLemmas
+pub mod Divisions
+pub mod Passes
+pub mod ReachedLemmas
+pub mod RingLemmas
+pub mod Rows
+pub mod StepLemmas
+pub mod UnitLemmas
+pub mod ValueLemmas

@@ -1,0 +1,5 @@
+pub mod Chains
+pub mod Laws
+pub mod Rows
+pub mod Units
+pub mod Univariate

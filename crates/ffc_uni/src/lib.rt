@@ -1,0 +1,14 @@
+//! Polynomials in one variable over a field, and the power of the variable modulo one.
+#![tactic(auto)]
+
+mod chain;
+pub mod laws;
+mod row;
+mod stop;
+#[cfg(test)]
+mod tests;
+mod uni;
+
+pub use chain::{Chain, Steps, pow_mod_chain};
+pub use stop::UniStop;
+pub use uni::Uni;

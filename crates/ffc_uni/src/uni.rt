@@ -1,0 +1,123 @@
+//! Polynomials in one variable.
+ghost use Rattle.std.specs.Prelude.{◌≡◌, ◌≢◌, ℕ, ◌<◌, ◌≤◌, ◌↔◌, [], length, map, IsTrue, IfOk};
+ghost use Rattle.ffc_field.specs.Modular.{mul_mod};
+ghost use Rattle.ffc_uni.specs.Rows.{leading};
+ghost use Rattle.ffc_uni.specs.Univariate.{SameUnivariate, IsNormal, plus, times, product_of_roots, value_of};
+
+use crate::row;
+use ffc_field::Field;
+use std::alloc::{AllocError, Global};
+use std::marker::Model;
+
+/// A polynomial in one variable: its coefficients from the lowest, the last not 0. Clauses see the list of residues.
+#[derive(Debug, Drop)]
+pub struct Uni<F: Field> {
+    coefs: Vec<F>,
+}
+
+impl<F: Field> Model for Uni<F> {
+    ghost use Rattle.std.specs.Prelude.{ℕ, List, map};
+    ghost use Rattle.ffc_uni.specs.Univariate.{IsNormal};
+
+    ghost Value = { List ℕ };
+
+    ghost view = { λ u. map F.value u.coefs.items };
+
+    ghost invariant = { λ u. IsNormal F.ORDER (map F.value u.coefs.items) };
+}
+
+impl<F: Field> Uni<F> {
+    /// The polynomial with these coefficients, from the lowest.
+    pub fn from_coefs(alloc: Global, coefs: &[F]) -> Result<Self, AllocError>
+        ensures { IfOk result (λ r. SameUnivariate F.ORDER r (map F.value coefs.now)) }
+    {
+        let length = row::length_without_zeros(coefs);
+        let mut row = Vec::new(alloc);
+        row.extend_from_slice(&coefs[..length])?;
+        Ok(Uni { coefs: row })
+    }
+
+    /// The polynomial of a row, without the zeros at its end.
+    fn from_row(mut row: Vec<F>) -> Self
+        ensures same { SameUnivariate F.ORDER result (map F.value row.items) }
+        ensures short { length result ≤ length row.items }
+    {
+        let length = row::length_without_zeros(row.as_slice());
+        row.truncate(length);
+        Uni { coefs: row }
+    }
+
+    /// The coefficients from the lowest, the last not 0. It takes no memory.
+    pub fn coefs(&self) -> &[F]
+        ensures value { map F.value result.now ≡ self.now }
+        ensures normal { IsNormal F.ORDER self.now }
+    {
+        self.coefs.as_slice()
+    }
+
+    /// Whether it is the polynomial 0. It takes no memory.
+    pub fn is_zero(&self) -> bool
+        ensures { IsTrue result ↔ (self.now ≡ []) }
+    {
+        self.coefs().is_empty()
+    }
+
+    /// The product: each pair of coefficients is multiplied once.
+    pub fn mul(&self, other: &Self) -> Result<Self, AllocError>
+        ensures product { IfOk result (λ r. SameUnivariate F.ORDER r (times self.now other.now)) }
+        ensures value { IfOk result (λ r. (x : ℕ) → value_of F.ORDER x r ≡ mul_mod F.ORDER (value_of F.ORDER x self.now) (value_of F.ORDER x other.now)) }
+    {
+        let alloc = *self.coefs.allocator();
+        Ok(Self::from_row(row::product(alloc, self.coefs(), other.coefs())?))
+    }
+
+    /// The product of the X - root: one pass over it for each root.
+    pub fn from_roots(alloc: Global, roots: &[F]) -> Result<Self, AllocError>
+        ensures { IfOk result (λ r. SameUnivariate F.ORDER r (product_of_roots F.ORDER (map F.value roots.now))) }
+    {
+        Ok(Self::from_row(row::root_product(alloc, roots)?))
+    }
+
+    /// The inverse of the leading coefficient, which a division needs.
+    pub(crate) fn leading_inverse(&self) -> F
+        requires { self.now ≢ [] }
+        ensures { mul_mod F.ORDER (leading self.now) (F.value result) ≡ 1 }
+    {
+        row::leading_inverse(self.coefs())
+    }
+
+    /// Quotient Q and remainder R with self = Q*by + R, where R is 0 or of lower degree than `by`. The leading coefficient
+    /// of `by` is inverted once; then one pass over `by` for each coefficient of Q.
+    pub fn div_rem(&self, by: &Self) -> Result<(Self, Self), AllocError>
+        requires { by.now ≢ [] }
+        ensures division { IfOk result (λ d. SameUnivariate F.ORDER self.now (plus (times d.0 by.now) d.1)) }
+        ensures lower { IfOk result (λ d. length d.1 < length by.now) }
+    {
+        self.div_rem_with(by, by.leading_inverse())
+    }
+
+    /// The same, with the inverse of the leading coefficient of `by` at hand, so that many divisions find it once.
+    pub(crate) fn div_rem_with(&self, by: &Self, inverse: F) -> Result<(Self, Self), AllocError>
+        requires nonzero { by.now ≢ [] }
+        requires inverse { mul_mod F.ORDER (leading by.now) (F.value inverse) ≡ 1 }
+        ensures division { IfOk result (λ d. SameUnivariate F.ORDER self.now (plus (times d.0 by.now) d.1)) }
+        ensures lower { IfOk result (λ d. length d.1 < length by.now) }
+    {
+        let alloc = *self.coefs.allocator();
+        let divisor = by.coefs();
+        let (quotient, remainder) = row::quotient_and_remainder(
+            alloc,
+            self.coefs(),
+            divisor,
+            inverse,
+        )?;
+        Ok((Self::from_row(quotient), Self::from_row(remainder)))
+    }
+
+    /// The value at x, by Horner's rule. It takes no memory.
+    pub fn eval(&self, x: F) -> F
+        ensures { F.value result ≡ value_of F.ORDER (F.value x) self.now }
+    {
+        row::value_at(self.coefs(), x)
+    }
+}
