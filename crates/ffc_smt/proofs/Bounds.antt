@@ -174,7 +174,7 @@ unfolding weight
 count_weighs NoTerm = omega arith
 count_weighs (AndTerm t ts) = let one = weight_positive t in let two = count_weighs ts in omega arith
 
-made_stays : (t : Term) (old new : List Node) → Extends old new → IsMade old t → IsMade new t
+pub made_stays : (t : Term) (old new : List Node) → Extends old new → IsMade old t → IsMade new t
 made_stays t old new (more, e) h = record { before = h.before; more = h.more ++ more; made_then = e ∙ ap (λ ns. ns ++ more) h.made_then ∙ append_assoc (made [] h.before t).nodes h.more more }
 
 mutual
@@ -193,7 +193,7 @@ mutual
   all_defined_stays (AndTerm t ts) old new further h = (defined_stays t old new further h.0, all_defined_stays ts old new further h.1)
 
 -- a term that was made makes nothing
-made_nothing : (t : Term) (ns : List Node) → IsMade ns t → IsWellFormed ns → (made [] ns t).nodes ≡ ns
+pub made_nothing : (t : Term) (ns : List Node) → IsMade ns t → IsWellFormed ns → (made [] ns t).nodes ≡ ns
 made_nothing t ns h formed = ap (λ m. m.nodes) (made_again [] t [] [] h.before ns tt (h.more, h.made_then) formed)
 
 more_weight : (w s : ℕ) → 1 ≤ w → s ≤ w * s

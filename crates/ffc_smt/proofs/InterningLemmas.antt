@@ -14,7 +14,7 @@ use Rattle.ffc_smt.specs.Making.{Made, placed, interned, choice}
 use Rattle.ffc_smt.proofs.Again.{interned_there, with_second, with_equalities}
 
 -- a table with a number
-abbrev with_table : ℕ → List Node → Made
+abbrev pub with_table : ℕ → List Node → Made
 with_table id ns = record { nodes = ns; id = id }
 
 absent_placed : (ns : List Node) (n : Node) (o : Option ℕ) → position ((by_parts.ghosts).eq n) ns ≡ o → (Contains ns n → ⊥) → placed ns n o ≡ record { nodes = ns ++ n ∷ []; id = length ns }
@@ -47,24 +47,24 @@ second_same t a b e = grind (arith, nat_tests)
 second_other : (t a b : ℕ) → (a ≡ b → ⊥) → second_equality t a b ≡ t + 2
 second_other t a b e = grind (arith, nat_tests)
 
-nodes_same : (t c a b : ℕ) → a ≡ b → ite_nodes t c a b ≡ IteField c a b ∷ Eq t a ∷ []
+pub nodes_same : (t c a b : ℕ) → a ≡ b → ite_nodes t c a b ≡ IteField c a b ∷ Eq t a ∷ []
 nodes_same t c a b e = ap (λ r. IteField c a b ∷ Eq t a ∷ r) (let test : (a == b) ≡ true = grind (arith, nat_tests) in ap (λ x. if x then [] else Eq t b ∷ []) test)
 
-nodes_other : (t c a b : ℕ) → (a ≡ b → ⊥) → ite_nodes t c a b ≡ IteField c a b ∷ Eq t a ∷ Eq t b ∷ []
+pub nodes_other : (t c a b : ℕ) → (a ≡ b → ⊥) → ite_nodes t c a b ≡ IteField c a b ∷ Eq t a ∷ Eq t b ∷ []
 nodes_other t c a b e = ap (λ r. IteField c a b ∷ Eq t a ∷ r) (let test : (a == b) ≡ false = grind (arith, nat_tests) in ap (λ x. if x then [] else Eq t b ∷ []) test)
 
 -- where the `ite` is there, so are its equalities
-choice_there : (ns : List Node) (p c a b id : ℕ) → IsTable ns → IsNodeAt ns id (IteField c a b) → choice (sort.Field p) ns c a b ≡ record { nodes = ns; id = id }
+pub choice_there : (ns : List Node) (p c a b id : ℕ) → IsTable ns → IsNodeAt ns id (IteField c a b) → choice (sort.Field p) ns c a b ≡ record { nodes = ns; id = id }
 choice_there ns p c a b id table at =
     let behind = table.equalities id c a b at in
     ap (with_equalities a b) (interned_there ns (IteField c a b) id table.well_formed at)
     ∙ ap (with_second id b) (interned_there ns (Eq id a) (id + 1) table.well_formed behind.0)
     ∙ ap (λ m. with_table id m.nodes) (interned_there ns (Eq id b) (second_equality id a b) table.well_formed behind.1)
 
-two_behind : (old : List Node) (x y : Node) → (old ++ x ∷ []) ++ y ∷ [] ≡ old ++ x ∷ y ∷ []
+pub two_behind : (old : List Node) (x y : Node) → (old ++ x ∷ []) ++ y ∷ [] ≡ old ++ x ∷ y ∷ []
 two_behind old x y = append_assoc old (x ∷ []) (y ∷ [])
 
-three_behind : (old : List Node) (x y z : Node) → ((old ++ x ∷ []) ++ y ∷ []) ++ z ∷ [] ≡ old ++ x ∷ y ∷ z ∷ []
+pub three_behind : (old : List Node) (x y z : Node) → ((old ++ x ∷ []) ++ y ∷ []) ++ z ∷ [] ≡ old ++ x ∷ y ∷ z ∷ []
 three_behind old x y z = append_assoc (old ++ x ∷ []) (y ∷ []) (z ∷ []) ∙ append_assoc old (x ∷ []) (y ∷ z ∷ [])
 
 -- else all are put behind the others

@@ -6,5 +6,12 @@ pub mod Bounds
 pub mod TreeLemmas
 pub mod FormLemmas
 pub mod InterningLemmas
+pub mod ReadLemmas
 pub mod SortLemmas
+pub mod CommandLemmas
 pub mod StateLemmas
+pub mod TableMaking
+pub mod SoundTerms
+pub mod SoundReading
+pub mod SoundStates
+pub mod ScriptLemmas

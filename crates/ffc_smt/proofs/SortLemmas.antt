@@ -14,37 +14,10 @@ use Rattle.ffc_smt.specs.Terms.{Name, Operator, Not, And, Or, Xor, Implies, Equa
 use Rattle.ffc_smt.specs.Meaning.{Env, found, Element, TruthValue, FieldValue, order, truth, sort_of, applied, constant_value, val, vals}
 use Rattle.ffc_smt.specs.Numbers.{Signed, literal_order, literal_number}
 use Rattle.ffc_smt.specs.Scopes.{Meant, AsConstant, AsTerm, AsMacro, Scope}
-use Rattle.ffc_smt.specs.Faults.{Fault, fault_at, Read, Sound, Faulty, faults, faulty, unless, read_map, behind, no_more}
+use Rattle.ffc_smt.specs.Faults.{Fault, fault_at, Read, Sound, Faulty, faults, faulty, read_map, behind, no_more}
 use Rattle.ffc_smt.specs.TermReading.{Sorted, Argument, Wanted, AnyField, Only, is_sort, is_field, is_wanted, same_as, misfit, misfits, own_faults, missing, surplus, first_place, terms_of, wanted, least, most, result_sort, argument_sort, operators, Head, LetHead, AsHead, Function, Macro, NoHead, head_meant, head_named, head_of, is_word, term_meant, term_named, number_term, number_read, literal_read, as_read, leaf_by_kind, Binding, binding_faults, variables, twice, values, Bound, some_binding, bound_read, locals_of, terms_of_bound, let_term, of_height, function_read, parameter_misfits, macro_read, term_read, arguments_read, let_read, bindings_read, binding_read}
 use Rattle.ffc_smt.specs.Sorting.{AreOfSorts, HasSort, sorts_of_parameters, IsSortedScope}
-
-abbrev pub IfSound : {A : Type 0} → Read A → (A → Type 0) → Type 0
-IfSound (Sound a) P = P a
-IfSound (Faulty f fs) P = Unit {0}
-
-pub all_sound : {A : Type 0} (r : Read A) (P : A → Type 0) → ((a : A) → P a) → IfSound r P
-all_sound (Sound a) P h = h a
-all_sound (Faulty f fs) P h = tt
-
-pub unless_sound : {A : Type 0} (fs : List Fault) (r : Read A) (P : A → Type 0) → (fs ≡ [] → IfSound r P) → IfSound (unless fs r) P
-unless_sound [] r P h = h refl
-unless_sound (f ∷ fs) r P h = tt
-
-pub map_sound : {A B : Type 0} (f : A → B) (r : Read A) (P : B → Type 0) → IfSound r (λ a. P (f a)) → IfSound (read_map f r) P
-map_sound f (Sound a) P h = h
-map_sound f (Faulty g gs) P h = tt
-
-pub behind_sound : {A B : Type 0} (r : Read A) (next : A → Read B) (P : A → Type 0) (Q : B → Type 0) → IfSound r P → ((a : A) → P a → IfSound (next a) Q) → IfSound (behind r next) Q
-behind_sound (Sound a) next P Q h k = k a h
-behind_sound (Faulty f fs) next P Q h k = tt
-
-pub either_sound : {A : Type 0} (b : Bool) (r s : Read A) (P : A → Type 0) → IfSound r P → IfSound s P → IfSound (if b then r else s) P
-either_sound true r s P h g = h
-either_sound false r s P h g = g
-
-both_none : (fs gs : List Fault) → fs ++ gs ≡ [] → (fs ≡ []) × (gs ≡ [])
-both_none [] gs e = (refl, e)
-both_none (f ∷ fs) gs e = cc
+use Rattle.ffc_smt.proofs.ReadLemmas.{IfSound, all_sound, unless_sound, map_sound, behind_sound, either_sound, both_none}
 
 -- the sort of an operation on fields
 field_sort : (x : Element) (p : ℕ) → sort_of x ≡ sort.Field p → sort.Field (order x) ≡ sort.Field p
@@ -98,12 +71,28 @@ a_field sort.Bool e = cc
 a_field (sort.Field p) e = (p, refl)
 
 -- a term that is no misfit
-no_misfit : (w : Wanted) (at : Word) (t : Sorted) → misfit w at (Sound t) ≡ [] → is_wanted w t.sort ≡ true
+pub no_misfit : (w : Wanted) (at : Word) (t : Sorted) → misfit w at (Sound t) ≡ [] → is_wanted w t.sort ≡ true
 no_misfit w at t e = by_test (is_wanted w t.sort) e
   where
     by_test : (b : Bool) → (if b then [] else fault_at 10 at ∷ []) ≡ [] → b ≡ true
     by_test true e = refl
     by_test false e = cc
+
+-- how many arguments there are
+
+pub long_enough : (f : Fault) (len n : ℕ) → (if nat_lt len n then f ∷ [] else []) ≡ [] → n ≤ len
+long_enough f len n e = by_test (nat_lt len n) refl e
+  where
+    by_test : (b : Bool) → nat_lt len n ≡ b → (if b then f ∷ [] else []) ≡ [] → n ≤ len
+    by_test true e d = cc
+    by_test false e d = grind (arith, nat_tests)
+
+nothing_first : (args : List Argument) → first_place args ≡ [] → args ≡ []
+nothing_first [] e = refl
+nothing_first (a ∷ args) e = cc
+
+pub short_enough : (n : ℕ) (args : List Argument) → surplus (Some n) args ≡ [] → length args ≤ n
+short_enough n args e = let d = ap (length {A = Argument}) (nothing_first (drop n args) e) in omega (arith, d, length-drop n args)
 
 module _ (locals : Env Sort) where
   abbrev pub IsTyped : Sorted → Type 0
@@ -204,20 +193,6 @@ module _ (locals : Env Sort) where
       function_case op closing args h one.0 one.1 two.1 three.1)
 
   -- Macros
-
-  long_enough : (f : Fault) (len n : ℕ) → (if nat_lt len n then f ∷ [] else []) ≡ [] → n ≤ len
-  long_enough f len n e = by_test (nat_lt len n) refl e
-    where
-      by_test : (b : Bool) → nat_lt len n ≡ b → (if b then f ∷ [] else []) ≡ [] → n ≤ len
-      by_test true e d = cc
-      by_test false e d = grind (arith, nat_tests)
-
-  nothing_first : (args : List Argument) → first_place args ≡ [] → args ≡ []
-  nothing_first [] e = refl
-  nothing_first (a ∷ args) e = cc
-
-  short_enough : (n : ℕ) (args : List Argument) → surplus (Some n) args ≡ [] → length args ≤ n
-  short_enough n args e = let d = ap (length {A = Argument}) (nothing_first (drop n args) e) in omega (arith, d, length-drop n args)
 
   parameter_first : (p : Parameter) (at : Word) (r : Read Sorted) (rest : List Argument) (ps : List Parameter) (env : Env Element) (A : List Value)
       → IsSortedRead r → AreOfSorts locals env → faults r ≡ [] → misfit (Only p.sort) at r ≡ []
@@ -322,7 +297,7 @@ module _ (limit : ℕ) (scope : Scope) (well : IsSortedScope scope) where
   variable_typed locals w name None e = meant_typed locals w name (found scope.names name) refl
   variable_typed locals w name (Some s) e = λ env A agree. variable_sort [] s (found locals name) (found env name) e (found_sort locals env name agree)
 
-  named_typed : (locals : Env Sort) (w : Word) (name : Name) → IsSortedRead locals (term_named scope locals w name)
+  pub named_typed : (locals : Env Sort) (w : Word) (name : Name) → IsSortedRead locals (term_named scope locals w name)
   unfolding val
   named_typed locals w name =
       either_sound (bytes_eq name (codes "true")) _ _ (IsTyped locals) (λ env A agree. refl)

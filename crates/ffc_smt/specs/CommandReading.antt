@@ -315,7 +315,7 @@ readers l s =
     ∷ (codes "get-value", record { moment = BehindLogic; read = one (λ t. read_map GetValue (list_read false (asked_read l s) t)) })
     ∷ (codes "push", record { moment = BehindLogic; read = λ closing items. read_map Push (levels_read (λ n. not (nat_lt l.levels (level_of s + n))) closing items) })
     ∷ (codes "pop", record { moment = BehindLogic; read = λ closing items. read_map Pop (levels_read (λ n. not (nat_lt (level_of s) n)) closing items) })
-    ∷ (codes "reset-assertions", record { moment = Always; read = alone ResetAssertions })
+    ∷ (codes "reset-assertions", record { moment = BehindLogic; read = alone ResetAssertions })
     ∷ (codes "reset", record { moment = Always; read = alone Reset })
     ∷ (codes "exit", record { moment = Always; read = alone Exit })
     ∷ []

@@ -15,3 +15,6 @@ pub mod Bounds
 pub mod TreeLaws
 pub mod Interning
 pub mod Sorting
+pub mod WellSorted
+pub mod States
+pub mod ScriptLaw

@@ -30,6 +30,10 @@ abbrev pub asked_values : List Value → List Step → List Element
 asked_values assignment [] = []
 asked_values assignment (x ∷ xs) = map (λ a. val [] assignment a.term) (asked_by x.command) ++ asked_values assignment xs
 
+-- the first order that was named, at each check
+abbrev pub first_orders_of : List ℕ → List ℕ
+first_orders_of text = map (λ c. c.first_order) (checks_of (reads text).steps)
+
 -- the nodes after the last command
 abbrev pub nodes_behind : List Node → List Step → List Node
 nodes_behind nodes [] = nodes
@@ -66,6 +70,7 @@ pub record AreCodes : Type 0 where
   pub no_head : Ends (codes "(1)") (AtFault 1 2 5)
   pub logic_name : Ends (codes "(set-logic ALL)") (AtFault 1 12 6)
   pub no_logic : Ends (codes "(check-sat)") (AtFault 1 2 7)
+  pub no_logic_to_clear : Ends (codes "(reset-assertions)") (AtFault 1 2 7)
   pub logic_twice : Ends (logic (codes "(set-logic QF_FF)")) (AtFault 1 19 7)
   pub option_too_late : Ends (logic (codes "(set-option :global-declarations maybe)")) (AtFault 1 30 7)
   pub name : Ends (logic (codes "(assert x)")) (AtFault 1 26 8)
@@ -80,6 +85,7 @@ pub record AreCodes : Type 0 where
   pub height : EndsWithin (record limits { height = 1 }) (logic (codes "(assert (or (not (not true)) (not (not true))))")) (AtFault 1 30 14)
   pub nodes : EndsWithin (record limits { nodes = 1 }) (logic (codes "(assert (not true))")) (AtFault 1 18 15)
   pub weight : EndsWithin (record limits { weight = 1 }) (logic (codes "(assert (not true))")) (AtFault 1 18 15)
+  pub assumed_weight : EndsWithin (record limits { weight = 2 }) (logic (codes "(check-sat-assuming (true (not true)))")) (AtFault 1 18 15)
   pub at_the_limits : EndsWithin (record { height = 1; levels = 1; nodes = 2; weight = 2 }) (logic (codes "(push)(assert (not true))")) Done
   pub too_many_levels : Ends (logic (codes "(push 65537)")) (AtFault 1 24 16)
   pub levels_left_out : EndsWithin (record limits { levels = 0 }) (logic (codes "(push)")) (AtFault 1 23 16)
@@ -101,6 +107,8 @@ pub record AreFirstFaults : Type 0 where
   pub all_before_nodes : EndsWithin (record limits { nodes = 0 }) (logic (codes "(assert (and true nope))")) (AtFault 1 36 8)
   -- a term with a fault has no sort, so it raises no second one
   pub one_fault : Ends (logic (codes "(assert (not (as ffx (_ FiniteField 5))))")) (AtFault 1 35 13)
+  -- nor does one that is too high
+  pub too_high : EndsWithin (record limits { height = 0 }) (logic (codes "(assert (ff.neg #f1m3))")) (AtFault 1 26 14)
   pub text_before_all : Ends (logic (codes "(assert (and nope 007))")) (AtFault 1 36 1)
 
 -- What fits at a place, and what doesn't
@@ -118,6 +126,7 @@ pub record ArePlaces : Type 0 where
   pub macro_alone : Ends (logic (codes "(define-fun f ((x Bool)) Bool x)(assert f)")) (AtFault 1 58 5)
   pub macro_without_arguments : Ends (logic (codes "(define-fun f ((x Bool)) Bool x)(assert (f))")) (AtFault 1 60 5)
   pub macro_sort : Ends (logic (codes "(define-fun f ((x Bool)) Bool x)(assert (f #f1m3))")) (AtFault 1 61 10)
+  pub parameter_sort : Ends (logic (codes "(define-fun f ((x G)) Bool true)")) (AtFault 1 36 8)
   pub body_sort : Ends (logic (codes "(define-fun f () Bool #f1m3)")) (AtFault 1 40 10)
   -- constants
   pub ff_alone : Ends (logic (codes "(assert (= (as ff (_ FiniteField 5)) #f1m5))")) (AtFault 1 33 13)
@@ -139,6 +148,8 @@ pub record ArePlaces : Type 0 where
   pub assumed_unknown : Ends (logic (codes "(check-sat-assuming ((not nope)))")) (AtFault 1 44 8)
   pub assumed_field : Ends (logic (codes "(declare-const x (_ FiniteField 5))(check-sat-assuming ((not x)))")) (AtFault 1 79 10)
   -- labels
+  pub no_label : Ends (logic (codes "(assert (! true))")) (AtFault 1 33 5)
+  pub other_label : Ends (logic (codes "(assert (! true :name n))")) (AtFault 1 34 5)
   pub name_elsewhere : Ends (logic (codes "(assert (not (! true :named n)))")) (AtFault 1 32 5)
   pub label_taken : Ends (logic (codes "(declare-const b Bool)(assert (! b :named b))")) (AtFault 1 60 9)
   pub label_itself : Ends (logic (codes "(assert (! n :named n))")) (AtFault 1 29 8)
@@ -155,6 +166,7 @@ pub record ArePlaces : Type 0 where
   pub fine_5 : Ends (logic (codes "(set-info :x ())(set-option :print-success |true|)")) Done
   pub fine_6 : Ends (logic (codes "(define-fun f ((and2 Bool) (x Bool)) Bool (and and2 x))(assert (let ((f true)) f))")) Done
   pub fine_7 : Ends (logic (codes "(declare-const || Bool)(assert ||)")) Done
+  pub fine_8 : EndsWithin (record { height = 1; levels = 0; nodes = 3; weight = 3 }) (logic (codes "(define-fun d () Bool (not true))(assert (! (not d) :named n))(check-sat-assuming (n (not d)))")) Done
 
 -- Levels and scopes
 
@@ -171,6 +183,10 @@ pub record AreLevels : Type 0 where
   pub assumed : values_in_force (logic (codes "(declare-const b Bool)(declare-const c Bool)(assert (=> b c))(check-sat-assuming (b (not c)))(check-sat)")) (value.Bool true ∷ value.Bool false ∷ [])
       ≡ (TruthValue false ∷ TruthValue true ∷ TruthValue true ∷ []) ∷ (TruthValue false ∷ []) ∷ []
   pub named : Ends (logic (codes "(push)(assert (! true :named n))(assert (not n))(pop)(assert n)")) (AtFault 1 79 8)
+  pub named_globally : Ends (codes "(set-option :global-declarations true)(set-logic QF_FF)(push)(assert (! true :named n))(pop)(assert n)") Done
+  pub set_again : Ends (logic (codes "(reset)(set-option :global-declarations true)")) Done
+  -- the first order that is named stays, and what information holds names none
+  pub first_orders : first_orders_of (codes "(set-info :x #f1m3)(set-logic QF_FF)(check-sat)(declare-const x (_ FiniteField 5))(check-sat)(reset)(set-logic QF_FF)(declare-const x (_ FiniteField 3))(check-sat)") ≡ 2 ∷ 5 ∷ 5 ∷ []
   pub forgotten : Ends (logic (codes "(declare-const x Bool)(reset)(set-logic QF_FF)(assert x)")) (AtFault 1 72 8)
 
 -- Values
@@ -187,11 +203,13 @@ pub record AreValues : Type 0 where
       ≡ (TruthValue true ∷ TruthValue true ∷ TruthValue false ∷ TruthValue true ∷ []) ∷ []
   -- the macro's y is the declared one
   pub macro_scope : asked_values (value.Field 3 ∷ value.Field 5 ∷ []) (reads macro_text).steps ≡ FieldValue 17 13 ∷ FieldValue 17 8 ∷ []
+  pub two_sorts : Ends (two_orders []) Done
   pub other_order : Ends (two_orders (codes "(assert (= x y))")) (AtFault 1 101 10)
   pub side_by_side : values_in_force (two_orders (codes "(assert (= x #f4m5))(assert (= y #f2m3))(check-sat)")) (value.Field 4 ∷ value.Field 2 ∷ [])
       ≡ (TruthValue true ∷ TruthValue true ∷ []) ∷ []
   pub widest : values_in_force (logic (codes "(assert (= (as ff340282366920938463463374607431768211455 (_ FiniteField 2)) #f1m2))(check-sat)")) [] ≡ (TruthValue true ∷ []) ∷ []
   pub too_wide : Ends (logic (codes "(assert (= (as ff340282366920938463463374607431768211456 (_ FiniteField 2)) #f1m2))(check-sat)")) (AtFault 1 33 13)
+  pub too_wide_below : Ends (logic (codes "(assert (= (as ff-340282366920938463463374607431768211456 (_ FiniteField 2)) #f1m2))")) (AtFault 1 33 13)
   -- 1 + 2*2 + 4*3, -(3*5), 16 where a sum wraps
   pub field : asked_values [] (reads (over_17 (codes "(get-value ((ff.bitsum #f1m17 #f2m17 #f3m17) (ff.neg (ff.mul #f3m17 #f5m17)) (ff.add #f16m17 #f16m17 #f1m17) (as ff-1 F) #f-18m17))"))).steps
       ≡ FieldValue 17 0 ∷ FieldValue 17 2 ∷ FieldValue 17 16 ∷ FieldValue 17 16 ∷ FieldValue 17 16 ∷ []

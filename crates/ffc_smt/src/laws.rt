@@ -3,7 +3,15 @@ ghost use Rattle.ffc_smt.specs.Again.{MadeOnce};
 ghost use Rattle.ffc_smt.specs.Bounds.{WeightBoundsNodes};
 ghost use Rattle.ffc_smt.specs.Interning.{ChoosingIsOne, InterningIsOne};
 ghost use Rattle.ffc_smt.specs.Law.{NodesKeepValues};
+ghost use Rattle.ffc_smt.specs.ScriptLaw.{ScriptsKeepValues, ScriptsReadTerms};
 ghost use Rattle.ffc_smt.specs.Sorting.{ScriptsHaveSorts, StatesHaveSorts, TermsHaveSorts};
+ghost use Rattle.ffc_smt.specs.States.{
+  CommandsKeepStates,
+  ReadTermsAreDefined,
+  ReadTermsAreSound,
+  ScriptsKeepStates,
+  SoundTermsMakeTables,
+};
 ghost use Rattle.ffc_smt.specs.TreeLaws.{FormsAreTrees, TreesKeepTokens};
 
 /// Every node that a term makes has, under every assignment, the value of the term.
@@ -54,4 +62,40 @@ pub fn states_have_sorts()
 /// Before every command of a script all names have their sorts.
 pub fn scripts_have_sorts()
     ensures { ScriptsHaveSorts }
+{}
+
+/// A term that is read is well-sorted, and what it speaks of was declared and made.
+pub fn read_terms_are_sound()
+    ensures { ReadTermsAreSound }
+{}
+
+/// Such a term makes a table of a table, and its node means it.
+pub fn sound_terms_make_tables()
+    ensures { SoundTermsMakeTables }
+{}
+
+/// What the defined names of a term that is read stand for was made.
+pub fn read_terms_are_defined()
+    ensures { ReadTermsAreDefined }
+{}
+
+/// The nodes of every state are a table, and all its terms are sound: so at the start, and so after each command.
+pub fn commands_keep_states()
+    ensures { CommandsKeepStates }
+{}
+
+/// So before and after every command of a script.
+pub fn scripts_keep_states()
+    ensures { ScriptsKeepStates }
+{}
+
+/// For every text, each step that is a check, each term in force there and every assignment, the term's node in the
+/// nodes so far has the value of the term.
+pub fn scripts_keep_values()
+    ensures { ScriptsKeepValues }
+{}
+
+/// For every text and each step, every term that could be read there makes a table, and its node means it.
+pub fn scripts_read_terms()
+    ensures { ScriptsReadTerms }
 {}

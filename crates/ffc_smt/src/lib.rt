@@ -5,8 +5,9 @@ mod laws;
 mod rows;
 
 pub use laws::{
-    choosing_is_one, forms_are_trees, interning_is_one, nodes_keep_values, scripts_have_sorts,
-    states_have_sorts, terms_are_made_once, terms_have_sorts, trees_keep_tokens,
-    weight_bounds_nodes,
+    choosing_is_one, commands_keep_states, forms_are_trees, interning_is_one, nodes_keep_values,
+    read_terms_are_defined, read_terms_are_sound, scripts_have_sorts, scripts_keep_states,
+    scripts_keep_values, scripts_read_terms, sound_terms_make_tables, states_have_sorts,
+    terms_are_made_once, terms_have_sorts, trees_keep_tokens, weight_bounds_nodes,
 };
 pub use rows::{codes, first_faults, levels, nodes, places, texts, values};

@@ -15,4 +15,4 @@ use Rattle.ffc_smt.proofs.rows.codes.Goals as goal
 
 pub returns : goal.returns
 unfolding is_word_byte is_line_end is_text_byte is_quoted_byte byte_class is_numeral is_decimal is_symbol_word is_field_word word_kind keyword_kind hash_kind lexeme_at size_of word_at comment_at quoted_at string_at reading_of read next_at after_lexeme sorts items_of inside_of tree_of height weight val interned equality neighbours difference differences_from differences exclusive implication implications applied_made made sort_read term_read form_read command_read nodes_after asked_made command_weight reads_within script_from after named_orders orders_in
-returns c = record { command = refl; quoted_command = refl; missing = refl; surplus = refl; no_head = refl; logic_name = refl; no_logic = refl; logic_twice = refl; option_too_late = refl; name = refl; sort_name = refl; theory_name = refl; taken = refl; twice = refl; sort = refl; order = refl; literal_order = refl; number = refl; height = refl; nodes = refl; weight = refl; at_the_limits = refl; too_many_levels = refl; levels_left_out = refl; below = refl }
+returns c = record { command = refl; quoted_command = refl; missing = refl; surplus = refl; no_head = refl; logic_name = refl; no_logic = refl; no_logic_to_clear = refl; logic_twice = refl; option_too_late = refl; name = refl; sort_name = refl; theory_name = refl; taken = refl; twice = refl; sort = refl; order = refl; literal_order = refl; number = refl; height = refl; nodes = refl; weight = refl; assumed_weight = refl; at_the_limits = refl; too_many_levels = refl; levels_left_out = refl; below = refl }

@@ -15,4 +15,4 @@ use Rattle.ffc_smt.proofs.rows.first_faults.Goals as goal
 
 pub returns : goal.returns
 unfolding is_word_byte is_line_end is_text_byte is_quoted_byte byte_class is_numeral is_decimal is_symbol_word is_field_word word_kind keyword_kind hash_kind lexeme_at size_of word_at comment_at quoted_at string_at reading_of read next_at after_lexeme sorts items_of inside_of tree_of height weight val interned equality neighbours difference differences_from differences exclusive implication implications applied_made made sort_read term_read form_read command_read nodes_after asked_made command_weight reads_within script_from after named_orders orders_in
-returns c = record { sort_before_name = refl; name_before_sort = refl; theory_name_before_order = refl; name_before_twice = refl; twice_before_name = refl; body_before_surplus = refl; argument_before_missing = refl; lower_code = refl; number_before_order = refl; no_logic_before_all = refl; all_before_nodes = refl; one_fault = refl; text_before_all = refl }
+returns c = record { sort_before_name = refl; name_before_sort = refl; theory_name_before_order = refl; name_before_twice = refl; twice_before_name = refl; body_before_surplus = refl; argument_before_missing = refl; lower_code = refl; number_before_order = refl; no_logic_before_all = refl; all_before_nodes = refl; one_fault = refl; too_high = refl; text_before_all = refl }

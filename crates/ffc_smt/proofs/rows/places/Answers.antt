@@ -15,4 +15,4 @@ use Rattle.ffc_smt.proofs.rows.places.Goals as goal
 
 pub returns : goal.returns
 unfolding is_word_byte is_line_end is_text_byte is_quoted_byte byte_class is_numeral is_decimal is_symbol_word is_field_word word_kind keyword_kind hash_kind lexeme_at size_of word_at comment_at quoted_at string_at reading_of read next_at after_lexeme sorts items_of inside_of tree_of height weight val interned equality neighbours difference differences_from differences exclusive implication implications applied_made made sort_read term_read form_read command_read nodes_after asked_made command_weight reads_within script_from after named_orders orders_in
-returns c = record { bare_function = refl; no_argument = refl; constant_head = refl; variable_head = refl; true_head = refl; unknown_head = refl; quoted_name = refl; reserved_name = refl; macro_alone = refl; macro_without_arguments = refl; macro_sort = refl; body_sort = refl; ff_alone = refl; ff_minus = refl; as_bool = refl; as_numeral = refl; array = refl; bit_vector = refl; function_with_sorts = refl; theory_sort = refl; bool_sort = refl; empty_let = refl; no_values = refl; assumed_form = refl; assumed_number = refl; assumed_function = refl; assumed_unknown = refl; assumed_field = refl; name_elsewhere = refl; label_taken = refl; label_itself = refl; labelled_sort = refl; option_value = refl; option_too_long = refl; push_symbol = refl; push_past = refl; fine_1 = refl; fine_2 = refl; fine_3 = refl; fine_4 = refl; fine_5 = refl; fine_6 = refl; fine_7 = refl }
+returns c = record { bare_function = refl; no_argument = refl; constant_head = refl; variable_head = refl; true_head = refl; unknown_head = refl; quoted_name = refl; reserved_name = refl; macro_alone = refl; macro_without_arguments = refl; macro_sort = refl; parameter_sort = refl; body_sort = refl; ff_alone = refl; ff_minus = refl; as_bool = refl; as_numeral = refl; array = refl; bit_vector = refl; function_with_sorts = refl; theory_sort = refl; bool_sort = refl; empty_let = refl; no_values = refl; assumed_form = refl; assumed_number = refl; assumed_function = refl; assumed_unknown = refl; assumed_field = refl; no_label = refl; other_label = refl; name_elsewhere = refl; label_taken = refl; label_itself = refl; labelled_sort = refl; option_value = refl; option_too_long = refl; push_symbol = refl; push_past = refl; fine_1 = refl; fine_2 = refl; fine_3 = refl; fine_4 = refl; fine_5 = refl; fine_6 = refl; fine_7 = refl; fine_8 = refl }
