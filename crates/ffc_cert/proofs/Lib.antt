@@ -9,3 +9,13 @@ pub mod ReadLemmas
 pub mod ScanLemmas
 pub mod RestLemmas
 pub mod KeptLemmas
+pub mod Codes
+pub mod NumberCodes
+pub mod ListCodes
+pub mod TermCodes
+pub mod LineCodes
+pub mod GrammarLemmas
+pub mod OpeningCodes
+pub mod PrefixLemmas
+pub mod GivenLemmas
+pub mod BackLemmas

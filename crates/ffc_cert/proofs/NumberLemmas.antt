@@ -48,7 +48,7 @@ pub parsed : {E : Type 0} (ds : List ℕ) (r : Result ℕ E) → 0 < length ds �
     → SomeIff (result_ok r) (digits_value 10 ds < 2 ^ 64) (digits_value 10 ds)
 parsed ds r some digits h = some_from_ok r _ _ _ some (parse_digits own 64 ds r h digits)
 
-both : (a b : Bool) → (a && b) ≡ true → (a ≡ true) × (b ≡ true)
+pub both : (a b : Bool) → (a && b) ≡ true → (a ≡ true) × (b ≡ true)
 both true b h = (refl, h)
 both false b h = absurd (cc)
 

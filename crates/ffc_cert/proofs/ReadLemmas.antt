@@ -11,14 +11,14 @@ after_next (Halt fault) more = ending (Stopped fault)
 after_next (Move q) more = more q
 after_next (Give entry q) more = with_entry entry (more q)
 
-read_next : (wanted : ℕ) (p : Progress) (part next : List ℕ) (parts : List (List ℕ)) (n : Next) → next_at wanted p part ≡ n
+pub read_next : (wanted : ℕ) (p : Progress) (part next : List ℕ) (parts : List (List ℕ)) (n : Next) → next_at wanted p part ≡ n
     → read wanted p part (next ∷ parts) ≡ after_next n (λ q. read wanted q next parts)
 unfolding read
 read_next wanted p part next parts (Halt fault) h = rw (read, h) refl
 read_next wanted p part next parts (Move q) h = rw (read, h) refl
 read_next wanted p part next parts (Give entry q) h = rw (read, h) refl
 
-through : (wanted : ℕ) (p : Progress) (part : List ℕ) (bytes : List ℕ) (n : Next) → next_at wanted p part ≡ n → Parts is_line_end bytes
+pub through : (wanted : ℕ) (p : Progress) (part : List ℕ) (bytes : List ℕ) (n : Next) → next_at wanted p part ≡ n → Parts is_line_end bytes
     → read_parts wanted p (part ∷ slice_split is_line_end bytes) ≡ after_next n (λ q. read_text wanted q bytes)
 through wanted p part bytes n h parts = rw parts.split (read_next wanted p part parts.first parts.others n h)
 

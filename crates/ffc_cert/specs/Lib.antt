@@ -1,9 +1,12 @@
 pub mod Bounds
 pub mod Certificate
 pub mod Extending
+pub mod Grammar
 pub mod Items
 pub mod Kept
+pub mod Laws
 pub mod Lines
+pub mod Ranges
 pub mod Reading
 pub mod Scan
 pub mod Spelling

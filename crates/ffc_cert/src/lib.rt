@@ -8,6 +8,7 @@ mod entries;
 mod flaws;
 mod forms;
 mod items;
+pub mod laws;
 mod progress;
 mod readable;
 mod reading;

@@ -2,6 +2,7 @@
 ghost use Rattle.std.specs.Prelude.{◌≡◌, ◌+◌, ◌<◌, ◌^◌, ◌++◌, [], false, true, Some, None, IfOk, IfErr, IfSome, IfNone, OnOk};
 ghost use Rattle.ffc_cert.specs.Certificate.{IsRead, due_entry, due_fault, end_fault, version_of};
 ghost use Rattle.ffc_cert.specs.Taking.{MatchStop};
+ghost use Rattle.ffc_cert.specs.WellFormed.{IsReadableIn};
 
 use crate::entries::{CertFault, CertStop, Numbered};
 use crate::scanning::Scanner;
@@ -65,9 +66,11 @@ impl CertReader {
     }
 
     /// Gives the next entry. `None` says that it isn't whole in the text so far, or that all were given, and that nothing
-    /// judged so far is at fault. A line is judged once it is whole, and a byte behind the last entry at once.
+    /// judged so far is at fault. A line is judged once it is whole, and a byte behind the last entry at once. A given entry
+    /// is well formed in the version of the text, and its own text is not too long.
     pub fn next_entry(&mut self) -> Result<Option<Numbered>, CertStop>
         ensures entry { IfOk result (λ found. found ≡ due_entry self.old.fault self.old.wanted self.old.text self.old.given) }
+        ensures readable { IfOk result (λ found. IfSome found (λ entry. IsReadableIn (version_of self.old.text) entry.entry)) }
         ensures given { IfOk result (λ found. IfSome found (λ entry. self.new ≡ record self.old { given = self.old.given + 1 })) }
         ensures none { IfOk result (λ found. IfNone found (self.new ≡ self.old)) }
         ensures no_fault { OnOk result (due_fault self.old.fault self.old.wanted self.old.text self.old.given ≡ None) }

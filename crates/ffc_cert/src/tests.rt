@@ -138,15 +138,82 @@ fn reads_in_two_pieces(rt: HostRuntime) -> Result<(), Fail> {
         b"unsat 1\nf 0\nv 0 2\nz\ns 0 0 0\n",
     )?;
     check_text(&rt, alloc, b"ffcert 2\n", CORE)?;
+    check_text(
+        &rt,
+        alloc,
+        b"ffcert 2\n",
+        b"unsat 3\na 0\nf 5 1 -3\np 0 0 3\nu 1 1 1 3\nu 0 1 4\nu 0 2 0 4\nc 2 0 1 1 0 1 1 3 1 0 1\nz\nr 0 2 0 1\n",
+    )?;
     check_text(&rt, alloc, b"ffcert 2\n", b"sat 2\n= 0 4294967296\n= 1 2\n")?;
     Ok(())
 }
 
+/// Entries with each form of a line, that have one text in both versions.
+const FORMS: [&[u8]; 13] = [
+    b"sat 0\n",
+    b"sat 2\n= 0 18446744073709551615\n= 4294967295 0\n",
+    b"unknown degree\n",
+    b"unknown terms\n",
+    b"unknown memory\n",
+    b"unknown steps 18446744073709551615 0 10 7\n",
+    b"unsat e\n",
+    b"unsat 0\n",
+    b"unsat 1\na 4294967295\n",
+    b"unsat 1\nn 4294967295 9 10\n",
+    b"unsat 1\nr 0 0\n",
+    b"unsat 1\nr 2 +4294967295 -0 2 0 4294967295\n",
+    b"unsat 2\na 0\nr 1 +7 0\n",
+];
+
+/// What stands behind a lemma's line: each form of a line of a tree.
+const TREES: [&[u8]; 10] = [
+    b"z\n",
+    b"c 0\nz\n",
+    b"c 2 0 0 4294967295 2 18446744073709551615 0 0 2 0 1 3 4294967295\nz\n",
+    b"p 4294967295 7 0\nz\n",
+    b"p 0 7 2\nu 0 0\nu 2 18446744073709551615 0 1 5\nz\n",
+    b"s 0 4294967295 0\n",
+    b"s 0 1 2 18446744073709551615 0\nz\nz\n",
+    b"v 4294967295 0\n",
+    b"v 1 2\nc 0\nz\nv 2 1\nz\n",
+    b"s 0 1 1 3\np 0 1 1\nu 0 0\nv 0 1\nz\n",
+];
+
+#[test]
+fn reads_each_form_of_a_line(rt: HostRuntime) -> Result<(), Fail> {
+    let alloc = rt.alloc();
+    for entry in FORMS {
+        check_text(&rt, alloc, b"ffcert 1\n", entry)?;
+        check_text(&rt, alloc, b"ffcert 2\n", entry)?;
+    }
+    for tree in TREES {
+        let mut entry = Vec::new(alloc);
+        entry.extend_from_slice(b"unsat 1\nf 2 +4294967295 -0\n")?;
+        entry.extend_from_slice(tree)?;
+        check_text(&rt, alloc, b"ffcert 1\n", &entry)?;
+        let mut entry = Vec::new(alloc);
+        entry.extend_from_slice(b"unsat 1\nf 18446744073709551615 1 -3\n")?;
+        entry.extend_from_slice(tree)?;
+        check_text(&rt, alloc, b"ffcert 2\n", &entry)?;
+    }
+    Ok(())
+}
+
 /// Texts that are at fault, and where.
-const FAULTS: [(&[u8], u64, u64, u8); 16] = [
+const FAULTS: [(&[u8], u64, u64, u8); 26] = [
     (b"", 0, 1, 4),
     (b"ffcert 1", 0, 1, 4),
     (b"ffcert 3\n", 0, 1, 1),
+    (b"ffcert 01\n", 0, 1, 1),
+    (b"ffcert 1 \nsat 0\n", 0, 1, 1),
+    (b"\n", 0, 1, 1),
+    (b"ffcert 1\nunsat  1\na 0\n", 1, 2, 2),
+    (b"ffcert 1\nsat 00\n", 1, 2, 3),
+    (b"ffcert 1\nunsat 2\na 0\na 0 \n", 1, 4, 2),
+    (b"ffcert 1\nunsat 2\na 0\na 4294967296\n", 1, 4, 3),
+    (b"ffcert 1\nunsat 1\nr 1 +01 0\n", 1, 3, 3),
+    (b"ffcert 1\nunsat 1\nr 1 +-1 0\n", 1, 3, 2),
+    (b"ffcert 1\nunsat 1\nr 1 1 0\n", 1, 3, 2),
     (b"ffcert 1\nsat 4294967295\n", 1, 3, 4),
     (b"ffcert 1\nunsat 1\nr 4294967295\n", 1, 3, 2),
     (b"ffcert 1\nunsat 4\na 0\na 01\n", 1, 4, 3),
@@ -167,6 +234,54 @@ fn finds_the_first_fault(rt: HostRuntime) -> Result<(), Fail> {
     for (text, entry, line, code) in FAULTS {
         check_fault(&rt, rt.alloc(), text, (entry, line, code));
     }
+    Ok(())
+}
+
+#[test]
+fn refuses_an_altered_certificate(rt: HostRuntime) -> Result<(), Fail> {
+    let alloc = rt.alloc();
+    let mut twice = Vec::new(alloc);
+    twice.extend_from_slice(b"ffcert 1\n")?;
+    twice.extend_from_slice(PRODUCT)?;
+    twice.extend_from_slice(PRODUCT)?;
+    check_fault(&rt, alloc, &twice, (2, 9, 2));
+    check_fault(
+        &rt,
+        alloc,
+        b"ffcert 1\nunsat 4\na 0\na 1\nf 2 -4 -6\nc 0\nz\nr 0 3 0 1 02\n",
+        (1, 8, 3),
+    );
+    check_fault(
+        &rt,
+        alloc,
+        b"ffcert 1\nunsat 4\na 0\na 1\nf 2 -4 -6\nc 0\nz\nr 0 3 0 1\n",
+        (1, 8, 2),
+    );
+    Ok(())
+}
+
+/// A certificate with 67,108,847 bytes of its one entry, in a line that has 3,195,658 coefficients and wants one more.
+fn long_front(alloc: Global) -> Result<Vec<u8>, Fail> {
+    let mut text = Vec::new(alloc);
+    text.extend_from_slice(b"ffcert 1\nunsat 1\nf 0\np 0 0 1\nu 3195659")?;
+    for _ in 0..3_195_658u64 {
+        text.extend_from_slice(b" 18446744073709551615")?;
+    }
+    Ok(text)
+}
+
+/// Where the entry has 67,108,865 bytes its last line is at fault, and two bytes more are too many in the line before.
+#[test]
+fn limits_the_length_of_an_entry(rt: HostRuntime) -> Result<(), Fail> {
+    let alloc = rt.alloc();
+    let mut text = long_front(alloc)?;
+    let front = text.len();
+    assert_eq!(rt; front, 67_108_856);
+    text.extend_from_slice(b" 123456789012 0\nz\n")?;
+    assert_eq!(rt; fault_of(alloc, &text, front), Some((1, 6, 5)));
+    text.truncate(front);
+    text.extend_from_slice(b" 12345678901234 0\nz\n")?;
+    assert_eq!(rt; fault_of(alloc, &text, front), Some((1, 5, 5)));
     Ok(())
 }
 
