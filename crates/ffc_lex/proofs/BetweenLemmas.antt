@@ -1,6 +1,7 @@
 -- What each step of the scanner keeps between two tokens, and what it knows at the end of the text.
-use Rattle.std.proofs.Common.{◌≡◌, ℕ, ◌+◌, ◌-◌, ◌<◌, ◌≤◌, Bool, true, false, cond, List, [], ◌∷◌, ◌++◌, length, take, drop, refl, sym, ap, ◌∙◌, subst, arith, Some, None, eqb, inl, inr}
+use Rattle.std.proofs.Common.{◌≡◌, ℕ, ◌+◌, ◌-◌, ◌<◌, ◌≤◌, Bool, true, false, cond, List, [], ◌∷◌, ◌++◌, length, take, drop, refl, sym, ap, ◌∙◌, subst, arith, Option, Some, None, Result, Ok, Err, eqb, inl, inr}
 use Rattle.std.specs.Option.{is_some}
+use Rattle.std.specs.Result.{IsErrAnd}
 use Rattle.std.proofs.Math.Seq.{take-length}
 use Rattle.std.proofs.lemmas.List.{length-drop}
 use Rattle.std.proofs.lemmas.Bool.Decides.{eqb_tells}
@@ -19,7 +20,7 @@ use Rattle.ffc_lex.specs.declared.TheConstants.{MAX_BYTES, MAX_DEPTH}
 use Rattle.ffc_lex.specs.Bytes.{byte_class}
 use Rattle.ffc_lex.specs.Lexeme.{Lexeme, Skip, Token, Bad, Unended, lexeme_at}
 use Rattle.ffc_lex.specs.Reading.{Open, Between, Within, Stopped, Halt, Move, Give, past, fault_at, token_at, halted, unended, after_kind, next_at, read, reading_of, forms_of, fault_of, end_fault_of, within_fault, stop_fault}
-use Rattle.ffc_lex.specs.Scan.{Scan, Fits, Begins, IsReady, IsFacing, IsStopped, IsForm, AfterStop, IsNoParenthesis, kind_in, without, ahead, scanned, open_of, begun, moved, settled}
+use Rattle.ffc_lex.specs.Scan.{Scan, Fits, Begins, IsReady, IsFacing, IsStopped, IsForm, AfterStop, AfterTake, IsNoParenthesis, kind_in, without, ahead, scanned, open_of, begun, moved, settled}
 use Rattle.ffc_lex.specs.Lexing.{next_form_of, due_fault}
 use Rattle.ffc_lex.proofs.ListLemmas.{none_from}
 use Rattle.ffc_lex.proofs.ReadingLemmas.{next_token, next_unended, read_end, read_nothing}
@@ -87,7 +88,7 @@ abbrev pub opened_at : ℕ → Place → Scan → Open
 opened_at k place s = record { depth = s.depth + 1; first = cond (eqb s.depth 0) place s.first; tokens = s.tokens ++ token_at kinds.LeftParen k s.start ∷ [] }
 
 pub left_opens : (n : ℕ) (text : List ℕ) (c : ℕ) (s : Scan) → IsFirst n text c s → byte_class c ≡ classes.LeftParen → eqb s.depth MAX_DEPTH ≡ false
-    → IsReady n text (arrived (past c s.at) (opened_at (s.at.index - s.start.index + 1) s.at s))
+    → IsReady n text (arrived s.kept (past c s.at) (opened_at (s.at.index - s.start.index + 1) s.at s))
 left_opens n text c s f e room =
     through n text c s (opened_at (s.at.index - s.start.index + 1) s.at s) f.facing f.limit (λ cs.
     paren_next n text c s kinds.LeftParen cs f (λ ds. left_at s.depth c ds e)
@@ -107,14 +108,14 @@ abbrev pub closed_at : ℕ → Scan → Open
 closed_at k s = record { depth = s.depth - 1; first = s.first; tokens = closed_tokens k s }
 
 pub right_closes : (n : ℕ) (text : List ℕ) (c : ℕ) (s : Scan) → IsFirst n text c s → byte_class c ≡ classes.RightParen → eqb s.depth 0 ≡ false → eqb s.depth 1 ≡ false
-    → IsReady n text (arrived (past c s.at) (closed_at (s.at.index - s.start.index + 1) s))
+    → IsReady n text (arrived s.kept (past c s.at) (closed_at (s.at.index - s.start.index + 1) s))
 right_closes n text c s f e some more =
     through n text c s (closed_at (s.at.index - s.start.index + 1) s) f.facing f.limit (λ cs.
     paren_next n text c s kinds.RightParen cs f (λ ds. right_at s.depth c ds e)
     ∙ (rw (some, more) refl ∙ ap (λ k. Move k (closed_at k s)) (one_byte n text c s f)))
 
 pub right_ends : (n : ℕ) (text : List ℕ) (c : ℕ) (s : Scan) → IsFirst n text c s → byte_class c ≡ classes.RightParen → eqb s.depth 0 ≡ false → eqb s.depth 1 ≡ true
-    → IsForm n text (closed_tokens (s.at.index - s.start.index + 1) s) × IsReady (n + 1) text (begun (past c s.at))
+    → IsForm n text (closed_tokens (s.at.index - s.start.index + 1) s) × IsReady (n + 1) text (begun s.kept (past c s.at))
 right_ends n text c s f e some one =
     let place : s.at ≡ s.start = same_place n text c s f in
     let form : List TokenRecord = closed_tokens (s.at.index - s.start.index + 1) s in
@@ -124,8 +125,8 @@ right_ends n text c s f e some one =
     ∙ (ap (λ xs. next_at (xs ++ c ∷ (drop (s.start.index + 1) text ++ more)) s.start (open_of s)) (sym (none_scanned n text c s f))
     ∙ (paren_next n text c s kinds.RightParen (drop (s.start.index + 1) text ++ more) f (λ ds. right_at s.depth c ds e)
     ∙ (rw (some, one) refl ∙ ap (λ k. Give (closed_tokens k s)) (one_byte n text c s f)))) in
-    let both : IsForm n text form × IsReady (n + 1) text (begun (past c s.start)) = given n text s c form f.facing place f.limit next in
-    (both.0, subst (λ p. IsReady (n + 1) text (begun (past c p))) (sym place) both.1)
+    let both : IsForm n text form × IsReady (n + 1) text (begun s.kept (past c s.start)) = given n text s c form f.facing place f.limit next in
+    (both.0, subst (λ p. IsReady (n + 1) text (begun s.kept (past c p))) (sym place) both.1)
 
 -- the end of the text
 
@@ -185,6 +186,11 @@ form_due n text form is = ap (λ xs. next_form_of xs n) (sym (append_nil text)) 
 -- a fault that a call returns, and its place as the clauses name it
 pub stop_at : (stop : LexStop) (code : ℕ) (p q : Place) (n : ℕ) (text : List ℕ) (s : Scan) → stop ≡ Fault (fault_at code p) → p ≡ q → IsStopped n text (fault_at code q) → AfterStop stop n text s
 stop_at stop code p q n text s e place h = subst (λ t. AfterStop t n text s) (sym e) (subst (λ r. IsStopped n text (fault_at code r)) (sym place) h)
+
+-- a stop that is handed on
+pub stop_after : (r : Result (Option (List TokenRecord)) LexStop) (stop : LexStop) (n : ℕ) (text : List ℕ) (s : Scan) → IsErrAnd r (λ e. e ≡ stop) → AfterStop stop n text s → AfterTake r n text s
+stop_after (Ok x) stop n text s e h = absurd e
+stop_after (Err other) stop n text s e h = subst (λ t. AfterStop t n text s) (sym e) h
 
 -- want of memory, which changes nothing
 pub stop_memory : (stop : LexStop) (n : ℕ) (text : List ℕ) (s : Scan) → stop ≡ Memory → IsReady n text s → AfterStop stop n text s

@@ -2,6 +2,7 @@ pub mod ListLemmas
 pub mod ReadingLemmas
 pub mod LexemeLemmas
 pub mod FitsLemmas
+pub mod HeldLemmas
 pub mod ReadyLemmas
 pub mod StepLemmas
 pub mod BetweenLemmas

@@ -69,15 +69,15 @@ stays n text c s mode f l fits =
     }
 
 -- the place behind so many bytes, and what is scanned from there on
-abbrev pub arrived : Place → Open → Scan
-arrived place left = record { at = place; start = place; mode = modes.Between; depth = left.depth; first = left.first; tokens = left.tokens }
+abbrev pub arrived : ℕ → Place → Open → Scan
+arrived kept place left = record { kept = kept; at = place; start = place; mode = modes.Between; depth = left.depth; first = left.first; tokens = left.tokens }
 
 -- bytes that are read
 pub consumed : (n : ℕ) (text : List ℕ) (s : Scan) (k : ℕ) (place : Place) (left : Open)
     → IsReady n text s → 0 < k → s.start.index + k ≤ length text → place.index ≡ s.start.index + k → place.index ≤ MAX_BYTES → n ≤ place.index
     → place ≡ place_after (take k (ahead text s)) s.start
     → ((more : List ℕ) → next_at (ahead text s ++ more) s.start (open_of s) ≡ Move k left)
-    → IsReady n text (arrived place left)
+    → IsReady n text (arrived s.kept place left)
 consumed n text s k place left r some inside index limit few at next =
     let len : length (ahead text s) ≡ length text - s.start.index = length-drop s.start.index text in
     let fits : k ≤ length (ahead text s) = omega arith in
@@ -131,7 +131,7 @@ ahead_first n text c s f same =
 -- the end of a form
 pub given : (n : ℕ) (text : List ℕ) (s : Scan) (c : ℕ) (form : List TokenRecord) → IsFacing n text c s → s.at ≡ s.start → s.at.index < MAX_BYTES
     → ((more : List ℕ) → next_at (ahead text s ++ more) s.start (open_of s) ≡ Give form)
-    → IsForm n text form × IsReady (n + 1) text (begun (past c s.start))
+    → IsForm n text form × IsReady (n + 1) text (begun s.kept (past c s.start))
 given n text s c form f same limit next =
     let place : Place = past c s.start in
     let rest : List ℕ = drop (s.start.index + 1) text in

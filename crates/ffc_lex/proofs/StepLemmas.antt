@@ -25,7 +25,7 @@ ahead_more n text c s more f = ap (λ xs. xs ++ more) (ahead_split n text c s f)
 -- bytes that are read, the next one with them
 pub through : (n : ℕ) (text : List ℕ) (c : ℕ) (s : Scan) (left : Open) → IsFacing n text c s → s.at.index < MAX_BYTES
     → ((cs : List ℕ) → next_at (scanned text s ++ c ∷ cs) s.start (open_of s) ≡ Move (s.at.index - s.start.index + 1) left)
-    → IsReady n text (arrived (past c s.at) left)
+    → IsReady n text (arrived s.kept (past c s.at) left)
 through n text c s left f l next =
     let lt : s.at.index < length text = within_text n text c s f in
     let le : s.start.index ≤ s.at.index = f.ready.order in
@@ -39,7 +39,7 @@ through n text c s left f l next =
 -- bytes that are read, but not the next one
 before : (n : ℕ) (text : List ℕ) (c : ℕ) (s : Scan) (left : Open) → IsFacing n text c s → 0 < length (scanned text s)
     → ((cs : List ℕ) → next_at (scanned text s ++ c ∷ cs) s.start (open_of s) ≡ Move (s.at.index - s.start.index) left)
-    → IsFacing n text c (arrived s.at left)
+    → IsFacing n text c (arrived s.kept s.at left)
 before n text c s left f some next =
     let lt : s.at.index < length text = within_text n text c s f in
     let le : s.start.index ≤ s.at.index = f.ready.order in

@@ -1,6 +1,6 @@
 -- A scanner's state, and when it has read a text up to its next byte. It is private to the scanner: the lexer's contracts
 -- are over the whole text.
-use Rattle.std.specs.Prelude.{◌≡◌, ℕ, ◌+◌, ◌-◌, ◌<◌, ◌≤◌, Bool, true, false, not, ◌==◌, List, [], ◌∷◌, ◌++◌, length, take, drop, Option, Some, None, Result, Ok, Err, slice_get}
+use Rattle.std.specs.Prelude.{◌≡◌, ℕ, ◌+◌, ◌-◌, ◌<◌, ◌≤◌, Bool, true, false, not, ◌==◌, List, [], ◌∷◌, ◌++◌, All, length, take, drop, Option, Some, None, Result, Ok, Err, slice_get}
 use Rattle.std.specs.List.{prefix_len}
 use Rattle.ffc_lex.specs.declared.byte_classes.ByteClass.{ByteClass}
 use Rattle.ffc_lex.specs.declared.byte_classes.ByteClass.TheVariants.{Semicolon, Bar, Quote, Colon, Hash}
@@ -21,6 +21,8 @@ use Rattle.ffc_lex.specs.Lexeme.{Bad, lexeme_at, string_at}
 use Rattle.ffc_lex.specs.Reading.{past, place_after, token_at, Open, Reading, Stopped, halted, read, reading_of, forms_of}
 
 pub record Scan : Type 0 where
+  -- how many bytes of the text were let go
+  pub kept : ℕ
   pub at : Place
   pub start : Place
   pub mode : Mode
@@ -28,20 +30,50 @@ pub record Scan : Type 0 where
   pub first : Place
   pub tokens : List Token
 
--- so that no counter can overflow
-pub record IsInRange (at start : Place) (opened : ℕ) : Type 0 where
+-- the first byte that is still to be read: of a comment the next one, else that from which a token may begin
+abbrev pub reach : Mode → Place → Place → ℕ
+reach Between at start = start.index
+reach Comment at start = at.index
+reach Word at start = start.index
+reach Keyword at start = start.index
+reach FieldLiteral at start = start.index
+reach Quoted at start = start.index
+reach Str at start = start.index
+reach StrMark at start = start.index
+
+-- where the first of these tokens begins, or another place where there is none
+abbrev pub first_start : List Token → ℕ → ℕ
+first_start [] otherwise = otherwise
+first_start (t ∷ ts) otherwise = t.start
+
+abbrev pub IsBetween : ℕ → ℕ → Token → Type 0
+IsBetween low high t = (low ≤ t.start) × (t.start + t.length ≤ high)
+
+-- The tokens end before a place, none begins before the first, and no byte from that one on, or from where the next token
+-- may begin, was let go.
+pub record IsHeld (gone next high : ℕ) (tokens : List Token) : Type 0 where
+  pub kept : gone ≤ first_start tokens next
+  pub between : All (IsBetween (first_start tokens next) high) tokens
+
+-- so that no counter can overflow, and what is still wanted is held
+pub record IsInRange (kept : ℕ) (at start : Place) (mode : Mode) (opened : ℕ) (tokens : List Token) : Type 0 where
   pub index : at.index ≤ MAX_BYTES
   pub line : at.line ≤ at.index + 1
   pub column : at.column ≤ at.index + 1
   pub order : start.index ≤ at.index
   pub depth : opened ≤ MAX_DEPTH
+  pub held : IsHeld kept (reach mode at start) start.index tokens
+
+-- the first byte that is still wanted
+abbrev pub floor_of : Scan → ℕ
+floor_of s = first_start s.tokens (reach s.mode s.at s.start)
 
 abbrev pub open_of : Scan → Open
 open_of s = record { depth = s.depth; first = s.first; tokens = s.tokens }
 
 -- before the first byte
-abbrev pub begun : Place → Scan
-begun place = record { at = place; start = place; mode = Between; depth = 0; first = place; tokens = [] }
+abbrev pub begun : ℕ → Place → Scan
+begun kept place = record { kept = kept; at = place; start = place; mode = Between; depth = 0; first = place; tokens = [] }
 
 -- a byte is looked at
 abbrev pub moved : ℕ → Scan → Scan

@@ -1,5 +1,5 @@
 //! Classes of bytes.
-ghost use Rattle.std.specs.Prelude.{◌≡◌};
+ghost use Rattle.std.specs.Prelude.{◌≡◌, ◌==◌};
 ghost use Rattle.ffc_lex.specs.Bytes.{byte_class, is_line_end, is_quoted_byte, is_text_byte, is_word_byte};
 
 /// What a byte is, at the start of a token or between two.
@@ -59,6 +59,13 @@ pub(crate) fn ends_line(byte: u8) -> bool
     ensures { result ≡ is_line_end byte }
 {
     byte == b'\n' || byte == b'\r'
+}
+
+/// Whether a byte is a quotation mark, which ends a string or is the first of two.
+pub(crate) fn is_quote(byte: u8) -> bool
+    ensures { result ≡ (byte == 34) }
+{
+    byte == b'"'
 }
 
 /// Whether a byte may stand in a string.

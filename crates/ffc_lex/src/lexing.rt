@@ -1,22 +1,35 @@
 //! The lexer: bytes in any pieces to forms and text faults.
-ghost use Rattle.std.specs.Prelude.{◌≡◌, ℕ, ◌+◌, ◌-◌, false, true, [], take, drop, Some, None, IfOk, IfErr, IfSome, IfNone, OnOk};
+ghost use Rattle.std.specs.Prelude.{◌≡◌, ℕ, ◌+◌, ◌-◌, ◌≤◌, false, true, [], length, take, drop, Some, None, IfOk, IfErr, IfSome, IfNone, OnOk};
 ghost use Rattle.ffc_lex.specs.Lexing.{IsOfLastForm, IsRead, MatchStop, due_fault, due_form, end_fault, extended};
 
 use crate::MAX_BYTES;
 use crate::faults::{LexFault, LexStop};
-use crate::scanning::Scanner;
+use crate::last_form::LastForm;
+use crate::scanning::{Scanner, first_start_of};
 use crate::tokens::{Form, Token};
-use std::alloc::Global;
+use crate::told::Told;
+use std::alloc::{AllocError, Global};
 use std::marker::Model;
 
+/// How many bytes may be held that no call needs any more, beside as many as there are others.
+const MAX_DEAD: usize = 4096;
+
 /// Reads a text that comes in pieces. Clauses see the text so far, how many forms of it were given, and the fault that is
-/// kept: from the first fault on, each call answers that fault. Each byte is looked at once, and a word's once more when it
-/// ends, so the time is linear in the text, whatever the pieces are.
+/// kept: from the first fault on, each call answers that fault.
+///
+/// Each byte is looked at once, and a word's once more when it ends, so the time is linear in the text, whatever the pieces
+/// are. Of the text it holds the form that isn't ended, the last one that was given and what was fed behind them: its memory
+/// is at most a constant times the bytes of these and of the largest piece.
 #[derive(Drop)]
 pub struct Lexer {
-    text: Vec<u8>,
+    alloc: Global,
+    /// The text so far.
+    told: Told,
+    /// The text without the bytes that were let go.
+    window: Vec<u8>,
     scanner: Scanner,
     given: u64,
+    form: LastForm,
     fault: Option<LexFault>,
     finished: bool,
 }
@@ -27,9 +40,9 @@ impl Model for Lexer {
 
     ghost Value = { Lexing };
 
-    ghost view = { λ l. record { text = l.text.items; given = l.given; fault = l.fault; finished = l.finished } };
+    ghost view = { λ l. record { text = l.told.bytes; given = l.given; fault = l.fault; finished = l.finished } };
 
-    ghost invariant = { λ l. IsKept l.text.items l.given l.fault l.scanner };
+    ghost invariant = { λ l. IsKept l.told.bytes l.given l.fault l.scanner l.window.items l.form.bytes.items l.form.start l.form.end };
 }
 
 impl Lexer {
@@ -38,9 +51,16 @@ impl Lexer {
         ensures { result ≡ record { text = []; given = 0; fault = None; finished = false } }
     {
         Lexer {
-            text: Vec::new(alloc),
+            alloc,
+            told: Told::new(),
+            window: Vec::new(alloc),
             scanner: Scanner::new(alloc),
             given: 0,
+            form: LastForm {
+                start: 0,
+                end: 0,
+                bytes: Vec::new(alloc),
+            },
             fault: None,
             finished: false,
         }
@@ -56,9 +76,30 @@ impl Lexer {
         if let Some(fault) = self.fault {
             return Err(LexStop::Fault(fault));
         }
-        let room = MAX_BYTES as usize + 1 - self.text.as_slice().len();
-        let length = piece.len().min(room);
-        self.text.extend_from_slice(&piece[..length])?;
+        self.let_go()?;
+        let length = self.scanner.kept() as usize + self.window.len();
+        let taken = piece.len().min(MAX_BYTES as usize + 1 - length);
+        let piece = &piece[..taken];
+        self.window.extend_from_slice(piece)?;
+        self.told.append(piece);
+        Ok(())
+    }
+
+    /// Lets go of the bytes that no call needs any more, once they are more than the others: so over a run the cost is
+    /// constant a byte.
+    fn let_go(&mut self) -> Result<(), AllocError>
+        requires { self.old.fault ≡ None }
+        ensures { self.new ≡ self.old }
+    {
+        let kept = self.scanner.kept();
+        let dead = (self.scanner.floor() - kept) as usize;
+        if dead <= self.window.len() - dead + MAX_DEAD {
+            return Ok(());
+        }
+        let window = Vec::from_slice(self.alloc, &self.window[dead..])?;
+        self.form.set_aside(self.alloc, &self.window, kept)?;
+        self.window = window;
+        self.scanner.let_go();
         Ok(())
     }
 
@@ -78,9 +119,11 @@ impl Lexer {
         if let Some(fault) = self.fault {
             return Err(LexStop::Fault(fault));
         }
-        match self.scanner.scan(&self.text) {
+        match self.scanner.scan(&self.window) {
             Ok(Some(form)) => {
                 self.given += 1;
+                self.form.end = self.scanner.index();
+                self.form.start = first_start_of(form.tokens(), self.form.end);
                 Ok(Some(form))
             }
             Ok(None) => Ok(None),
@@ -106,14 +149,14 @@ impl Lexer {
             self.finished = true;
             return Err(LexStop::Fault(fault));
         }
-        match self.scanner.scan(&self.text) {
+        match self.scanner.scan(&self.window) {
             Ok(None) => {}
             Ok(Some(_)) => unreachable!(),
             Err(LexStop::Fault(_)) => unreachable!(),
             Err(LexStop::Memory) => return Err(LexStop::Memory),
         }
         self.finished = true;
-        match self.scanner.fault_at_end(&self.text) {
+        match self.scanner.fault_at_end(&self.window) {
             None => Ok(()),
             Some(fault) => {
                 self.fault = Some(fault);
@@ -127,16 +170,8 @@ impl Lexer {
         requires { IsOfLastForm token.now self.now }
         ensures { result.now ≡ take token.now.length (drop token.now.start self.now.text) }
     {
-        part(&self.text, token.start as usize, token.length as usize)
+        self.form.bytes_at(&self.window, self.scanner.kept(), token.start, token.length)
     }
-}
-
-/// The bytes from `start` on, `length` of them where there are as many.
-fn part(text: &[u8], start: usize, length: usize) -> &[u8]
-    ensures { result.now ≡ take length (drop start text.now) }
-{
-    let rest = &text[start.min(text.len())..];
-    &rest[..length.min(rest.len())]
 }
 
 #[cfg(test)]

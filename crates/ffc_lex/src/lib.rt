@@ -6,6 +6,7 @@
 
 mod byte_classes;
 mod faults;
+mod last_form;
 mod laws;
 mod lexing;
 mod modes;
@@ -13,6 +14,7 @@ mod names;
 mod scanning;
 mod texts;
 mod tokens;
+mod told;
 mod words;
 
 pub use faults::{LexFault, LexStop};

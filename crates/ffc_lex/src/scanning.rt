@@ -1,10 +1,10 @@
 //! The scanner: looks at each byte of a text once, in order, and makes tokens of them.
-ghost use Rattle.std.specs.Prelude.{◌≡◌, ℕ, ◌+◌, ◌-◌, ◌<◌, ◌≤◌, ◌==◌, false, if◌then◌else◌, List, [], drop, length, OnOk, OnErr};
+ghost use Rattle.std.specs.Prelude.{◌≡◌, ℕ, ◌+◌, ◌-◌, ◌<◌, ◌≤◌, ◌==◌, false, if◌then◌else◌, List, [], drop, length, IfOk, IfSome, OnOk, OnErr};
 ghost use Rattle.ffc_lex.specs.Bytes.{byte_class};
-ghost use Rattle.ffc_lex.specs.Reading.{end_fault_of, fault_at as fault_at_place, origin};
-ghost use Rattle.ffc_lex.specs.Scan.{AfterByte, AfterEnd, AfterScan, AfterTake, Begins, IsFacing, IsNoParenthesis, IsReady, begun, is_ended_by, kind_in, moved, scanned, settled, with_token, with_token_through};
+ghost use Rattle.ffc_lex.specs.Reading.{end_fault_of, fault_at as fault_at_place, origin, past};
+ghost use Rattle.ffc_lex.specs.Scan.{AfterByte, AfterEnd, AfterScan, AfterTake, Begins, IsFacing, IsNoParenthesis, IsReady, begun, is_ended_by, first_start, floor_of, IsHeld, kind_in, moved, reach, scanned, settled, with_token, with_token_through};
 
-use crate::byte_classes::{ByteClass, class_of, ends_line, is_quoted, is_text, is_word};
+use crate::byte_classes::{ByteClass, class_of, ends_line, is_quote, is_quoted, is_text, is_word};
 use crate::faults::{LexFault, LexStop};
 use crate::modes::Mode;
 use crate::tokens::{Form, Place, Token, TokenKind};
@@ -13,6 +13,25 @@ use crate::{MAX_BYTES, MAX_DEPTH};
 use std::alloc::{AllocError, Global};
 use std::marker::Model;
 use std::mem;
+
+/// The place behind a byte.
+fn place_past(byte: u8, place: Place) -> Place
+    requires index { place.index < MAX_BYTES }
+    requires line { place.line ≤ place.index + 1 }
+    requires column { place.column ≤ place.index + 1 }
+    ensures { result ≡ past byte place }
+{
+    let (line, column) = if byte == b'\n' {
+        (place.line + 1, 1)
+    } else {
+        (place.line, place.column + 1)
+    };
+    Place {
+        index: place.index + 1,
+        line,
+        column,
+    }
+}
 
 /// A fault at this place.
 fn lex_fault(place: Place, code: u8) -> LexFault
@@ -34,6 +53,8 @@ fn fault_at(place: Place, code: u8) -> LexStop
 #[derive(Drop)]
 pub(crate) struct Scanner {
     alloc: Global,
+    /// How many bytes in front of the text were let go.
+    kept: u64,
     /// The next byte.
     at: Place,
     /// The first byte of what is being scanned.
@@ -51,14 +72,14 @@ impl Model for Scanner {
 
     ghost Value = { Scan };
 
-    ghost view = { λ s. record { at = s.at; start = s.start; mode = s.mode; depth = s.depth; first = s.first; tokens = s.tokens.items } };
+    ghost view = { λ s. record { kept = s.kept; at = s.at; start = s.start; mode = s.mode; depth = s.depth; first = s.first; tokens = s.tokens.items } };
 
-    ghost invariant = { λ s. IsInRange s.at s.start s.depth };
+    ghost invariant = { λ s. IsInRange s.kept s.at s.start s.mode s.depth s.tokens.items };
 }
 
 impl Scanner {
     pub(crate) fn new(alloc: Global) -> Scanner
-        ensures { result ≡ begun origin }
+        ensures { result ≡ begun 0 origin }
     {
         let origin = Place {
             index: 0,
@@ -67,6 +88,7 @@ impl Scanner {
         };
         Scanner {
             alloc,
+            kept: 0,
             at: origin,
             start: origin,
             mode: Mode::Between,
@@ -76,18 +98,53 @@ impl Scanner {
         }
     }
 
+    /// How many bytes in front of the text were let go.
+    pub(crate) fn kept(&self) -> u64
+        ensures result { result ≡ self.now.kept }
+        ensures within { result ≤ self.now.at.index }
+    {
+        self.kept
+    }
+
+    /// The place of the next byte.
+    pub(crate) fn index(&self) -> u64
+        ensures { result ≡ self.now.at.index }
+    {
+        self.at.index
+    }
+
+    /// The first byte that is still to be read.
+    fn reach(&self) -> u64
+        ensures { result ≡ reach self.now.mode self.now.at self.now.start }
+    {
+        match self.mode {
+            Mode::Comment => self.at.index,
+            _ => self.start.index,
+        }
+    }
+
+    /// The first byte that is still wanted. No later token begins before it.
+    pub(crate) fn floor(&self) -> u64
+        ensures result { result ≡ floor_of self.now }
+        ensures kept { self.now.kept ≤ result }
+        ensures within { result ≤ self.now.at.index }
+    {
+        first_start_of(&self.tokens, self.reach())
+    }
+
+    /// Lets go of the bytes that are no longer wanted.
+    pub(crate) fn let_go(&mut self)
+        ensures { self.new ≡ record self.old { kept = floor_of self.old } }
+    {
+        self.kept = self.floor();
+    }
+
     /// Looks at the next byte, which stays in what is being scanned.
     fn advance(&mut self, byte: u8)
         requires { self.old.at.index < MAX_BYTES }
         ensures { self.new ≡ moved byte self.old }
     {
-        self.at.index += 1;
-        if byte == b'\n' {
-            self.at.line += 1;
-            self.at.column = 1;
-        } else {
-            self.at.column += 1;
-        }
+        self.at = place_past(byte, self.at);
     }
 
     /// Ends what is being scanned before the next byte.
@@ -100,6 +157,7 @@ impl Scanner {
 
     /// Ends a token before the next byte.
     fn push(&mut self, kind: TokenKind) -> Result<(), AllocError>
+        requires held { self.old.kept ≤ self.old.start.index }
         ensures ok { OnOk result (self.new ≡ with_token kind self.old) }
         ensures err { OnErr result (self.new ≡ self.old) }
     {
@@ -110,13 +168,15 @@ impl Scanner {
             line: self.start.line,
             column: self.start.column,
         })?;
-        self.settle();
+        self.start = self.at;
+        self.mode = Mode::Between;
         Ok(())
     }
 
     /// Looks at the next byte, with which a token ends.
     fn push_through(&mut self, kind: TokenKind, byte: u8) -> Result<(), AllocError>
-        requires { self.old.at.index < MAX_BYTES }
+        requires limit { self.old.at.index < MAX_BYTES }
+        requires held { self.old.kept ≤ self.old.start.index }
         ensures ok { OnOk result (self.new ≡ with_token_through kind byte self.old) }
         ensures err { OnErr result (self.new ≡ self.old) }
     {
@@ -127,8 +187,9 @@ impl Scanner {
             line: self.start.line,
             column: self.start.column,
         })?;
-        self.advance(byte);
-        self.settle();
+        self.at = place_past(byte, self.at);
+        self.start = self.at;
+        self.mode = Mode::Between;
         Ok(())
     }
 
@@ -138,35 +199,44 @@ impl Scanner {
     {
         match self.mode {
             Mode::Word | Mode::Keyword | Mode::FieldLiteral => !is_word(byte),
-            Mode::StrMark => byte != b'"',
+            Mode::StrMark => !is_quote(byte),
             _ => false,
         }
     }
 
-    /// What token the bytes from the start to the next byte are, if they are one.
-    fn kind_so_far(&self, text: &[u8]) -> Option<TokenKind>
-        requires { self.now.at.index ≤ length text.now }
-        ensures { result ≡ kind_in self.now.mode (scanned text.now self.now) }
+    /// The bytes that are being scanned.
+    fn so_far<'a>(&self, window: &'a [u8]) -> &'a [u8]
+        requires held { self.now.kept ≤ self.now.start.index }
+        requires within { self.now.at.index ≤ self.now.kept + length window.now }
+        ensures { (text : List ℕ) → window.now ≡ drop self.now.kept text → result.now ≡ scanned text self.now }
     {
-        let bytes = &text[self.start.index as usize..self.at.index as usize];
+        &window[(self.start.index - self.kept) as usize..(self.at.index - self.kept) as usize]
+    }
+
+    /// What token the bytes from the start to the next byte are, if they are one.
+    fn kind_so_far(&self, window: &[u8]) -> Option<TokenKind>
+        requires { self.now.at.index ≤ self.now.kept + length window.now }
+        ensures { (text : List ℕ) → window.now ≡ drop self.now.kept text → result ≡ kind_in self.now.mode (scanned text self.now) }
+    {
         match self.mode {
-            Mode::Word => kind_of_word(bytes),
-            Mode::Keyword => kind_of_keyword(behind_first(bytes)),
-            Mode::FieldLiteral => kind_of_hash(behind_first(bytes)),
+            Mode::Word => kind_of_word(self.so_far(window)),
+            Mode::Keyword => kind_of_keyword(behind_first(self.so_far(window))),
+            Mode::FieldLiteral => kind_of_hash(behind_first(self.so_far(window))),
             _ => Some(TokenKind::Str),
         }
     }
 
     /// Ends what the next byte ends before itself.
-    fn end_before(&mut self, text: &[u8], byte: u8) -> Result<(), LexStop>
-        requires { self.old.at.index ≤ length text.now }
+    fn end_before(&mut self, window: &[u8], byte: u8) -> Result<(), LexStop>
+        requires { self.old.at.index ≤ self.old.kept + length window.now }
+        ensures kept { self.new.kept ≡ self.old.kept }
         ensures same { self.new.at ≡ self.old.at }
-        ensures ended { (n : ℕ) → IsFacing n text.now byte self.old → AfterEnd result n text.now byte self.new }
+        ensures ended { (n : ℕ) (text : List ℕ) → window.now ≡ drop self.old.kept text → IsFacing n text byte self.old → AfterEnd result n text byte self.new }
     {
         if !self.ends_before(byte) {
             return Ok(());
         }
-        match self.kind_so_far(text) {
+        match self.kind_so_far(window) {
             Some(kind) => {
                 self.push(kind)?;
                 Ok(())
@@ -177,7 +247,8 @@ impl Scanner {
 
     /// Looks at the next byte, which stays in what is being scanned, now in this mode.
     fn stay(&mut self, mode: Mode, byte: u8)
-        requires { self.old.at.index < MAX_BYTES }
+        requires limit { self.old.at.index < MAX_BYTES }
+        requires held { self.old.kept ≤ self.old.start.index }
         ensures { self.new ≡ moved byte (record self.old { mode = mode }) }
     {
         self.mode = mode;
@@ -211,6 +282,7 @@ impl Scanner {
     /// Gives the tokens so far.
     fn take_form(&mut self) -> Form
         ensures form { result ≡ self.old.tokens }
+        ensures held { IsHeld self.old.kept self.old.at.index self.old.at.index result }
         ensures left { self.new ≡ record self.old { first = self.old.at; tokens = [] } }
     {
         self.first = self.at;
@@ -220,7 +292,9 @@ impl Scanner {
 
     /// Opens a parenthesis.
     fn open(&mut self, byte: u8) -> Result<(), LexStop>
-        requires { self.old.at.index < MAX_BYTES }
+        requires limit { self.old.at.index < MAX_BYTES }
+        requires held { self.old.kept ≤ self.old.start.index }
+        ensures kept { self.new.kept ≡ self.old.kept }
         ensures step { OnOk result (self.new.at.index ≡ self.old.at.index + 1) }
         ensures read { (n : ℕ) (text : List ℕ) → IsFacing n text byte self.old → self.old.mode ≡ Mode.Between → byte_class byte ≡ ByteClass.LeftParen → AfterByte result n text self.new }
     {
@@ -235,8 +309,11 @@ impl Scanner {
 
     /// Closes a parenthesis. Gives the form where that was its first.
     fn close(&mut self, byte: u8) -> Result<Option<Form>, LexStop>
-        requires { self.old.at.index < MAX_BYTES }
+        requires limit { self.old.at.index < MAX_BYTES }
+        requires held { self.old.kept ≤ self.old.start.index }
+        ensures kept { self.new.kept ≡ self.old.kept }
         ensures step { OnOk result (self.new.at.index ≡ self.old.at.index + 1) }
+        ensures held { IfOk result (λ found. IfSome found (λ form. IsHeld self.old.kept self.new.at.index self.new.at.index form)) }
         ensures read { (n : ℕ) (text : List ℕ) → IsFacing n text byte self.old → self.old.mode ≡ Mode.Between → byte_class byte ≡ ByteClass.RightParen → AfterTake result n text self.new }
     {
         if self.depth == 0 {
@@ -252,7 +329,9 @@ impl Scanner {
 
     /// Looks at the first byte of what is scanned in this mode.
     fn begin(&mut self, mode: Mode, byte: u8) -> Result<(), LexStop>
-        requires { self.old.at.index < MAX_BYTES }
+        requires limit { self.old.at.index < MAX_BYTES }
+        requires held { self.old.kept ≤ self.old.start.index }
+        ensures kept { self.new.kept ≡ self.old.kept }
         ensures step { OnOk result (self.new.at.index ≡ self.old.at.index + 1) }
         ensures read { (n : ℕ) (text : List ℕ) → IsFacing n text byte self.old → self.old.mode ≡ Mode.Between → Begins mode byte → AfterByte result n text self.new }
     {
@@ -265,7 +344,9 @@ impl Scanner {
 
     /// Looks at a byte between two tokens that is no parenthesis.
     fn take_first(&mut self, class: ByteClass, byte: u8) -> Result<(), LexStop>
-        requires { self.old.at.index < MAX_BYTES }
+        requires limit { self.old.at.index < MAX_BYTES }
+        requires held { self.old.kept ≤ self.old.start.index }
+        ensures kept { self.new.kept ≡ self.old.kept }
         ensures step { OnOk result (self.new.at.index ≡ self.old.at.index + 1) }
         ensures read { (n : ℕ) (text : List ℕ) → IsFacing n text byte self.old → self.old.mode ≡ Mode.Between → byte_class byte ≡ class → IsNoParenthesis class → AfterByte result n text self.new }
     {
@@ -290,8 +371,11 @@ impl Scanner {
 
     /// Looks at a byte between two tokens.
     fn take_between(&mut self, byte: u8) -> Result<Option<Form>, LexStop>
-        requires { self.old.at.index < MAX_BYTES }
+        requires limit { self.old.at.index < MAX_BYTES }
+        requires held { self.old.kept ≤ self.old.start.index }
+        ensures kept { self.new.kept ≡ self.old.kept }
         ensures step { OnOk result (self.new.at.index ≡ self.old.at.index + 1) }
+        ensures held { IfOk result (λ found. IfSome found (λ form. IsHeld self.old.kept self.new.at.index self.new.at.index form)) }
         ensures read { (n : ℕ) (text : List ℕ) → IsFacing n text byte self.old → self.old.mode ≡ Mode.Between → AfterTake result n text self.new }
     {
         match class_of(byte) {
@@ -310,6 +394,7 @@ impl Scanner {
     /// Looks at a byte of a comment.
     fn take_in_comment(&mut self, byte: u8)
         requires { self.old.at.index < MAX_BYTES }
+        ensures kept { self.new.kept ≡ self.old.kept }
         ensures step { self.new.at.index ≡ self.old.at.index + 1 }
         ensures read { (n : ℕ) (text : List ℕ) → IsFacing n text byte self.old → self.old.mode ≡ Mode.Comment → IsReady n text self.new }
     {
@@ -321,7 +406,9 @@ impl Scanner {
 
     /// Looks at a byte of a quoted symbol.
     fn take_in_quoted(&mut self, byte: u8) -> Result<(), LexStop>
-        requires { self.old.at.index < MAX_BYTES }
+        requires limit { self.old.at.index < MAX_BYTES }
+        requires held { self.old.kept ≤ self.old.start.index }
+        ensures kept { self.new.kept ≡ self.old.kept }
         ensures step { OnOk result (self.new.at.index ≡ self.old.at.index + 1) }
         ensures read { (n : ℕ) (text : List ℕ) → IsFacing n text byte self.old → self.old.mode ≡ Mode.Quoted → AfterByte result n text self.new }
     {
@@ -338,11 +425,13 @@ impl Scanner {
 
     /// Looks at a byte of a string.
     fn take_in_string(&mut self, byte: u8) -> Result<(), LexStop>
-        requires { self.old.at.index < MAX_BYTES }
+        requires limit { self.old.at.index < MAX_BYTES }
+        requires held { self.old.kept ≤ self.old.start.index }
+        ensures kept { self.new.kept ≡ self.old.kept }
         ensures step { OnOk result (self.new.at.index ≡ self.old.at.index + 1) }
         ensures read { (n : ℕ) (text : List ℕ) → IsFacing n text byte self.old → self.old.mode ≡ Mode.Str → AfterByte result n text self.new }
     {
-        if byte == b'"' {
+        if is_quote(byte) {
             self.stay(Mode::StrMark, byte);
             return Ok(());
         }
@@ -356,6 +445,7 @@ impl Scanner {
     /// Looks at a byte inside a token or a comment, which doesn't end before it.
     fn take_inside(&mut self, byte: u8) -> Result<(), LexStop>
         requires { self.old.at.index < MAX_BYTES }
+        ensures kept { self.new.kept ≡ self.old.kept }
         ensures step { OnOk result (self.new.at.index ≡ self.old.at.index + 1) }
         ensures read { (n : ℕ) (text : List ℕ) → IsFacing n text byte self.old → is_ended_by self.old.mode byte ≡ false → (self.old.mode ≡ Mode.Between → ⊥) → AfterByte result n text self.new }
     {
@@ -377,14 +467,16 @@ impl Scanner {
         }
     }
 
-    /// Looks at the next byte of the text. Gives the form that it ends.
-    fn take(&mut self, text: &[u8]) -> Result<Option<Form>, LexStop>
-        requires { self.old.at.index < length text.now }
+    /// Looks at the next byte of the text, which the window has. Gives the form that it ends.
+    fn take(&mut self, window: &[u8]) -> Result<Option<Form>, LexStop>
+        requires { self.old.at.index < self.old.kept + length window.now }
+        ensures kept { self.new.kept ≡ self.old.kept }
         ensures step { OnOk result (self.new.at.index ≡ self.old.at.index + 1) }
-        ensures read { (n : ℕ) → IsReady n text.now self.old → AfterTake result n text.now self.new }
+        ensures held { IfOk result (λ found. IfSome found (λ form. IsHeld self.old.kept self.new.at.index self.new.at.index form)) }
+        ensures read { (n : ℕ) (text : List ℕ) → window.now ≡ drop self.old.kept text → IsReady n text self.old → AfterTake result n text self.new }
     {
-        let byte = text[self.at.index as usize];
-        self.end_before(text, byte)?;
+        let byte = window[(self.at.index - self.kept) as usize];
+        self.end_before(window, byte)?;
         if self.at.index == MAX_BYTES {
             return Err(fault_at(self.at, 17));
         }
@@ -397,13 +489,16 @@ impl Scanner {
         }
     }
 
-    /// Looks at the bytes of the text that weren't looked at, up to the end of a form, and gives it.
-    pub(crate) fn scan(&mut self, text: &[u8]) -> Result<Option<Form>, LexStop>
-        requires { self.old.at.index ≤ length text.now }
-        ensures { (n : ℕ) → IsReady n text.now self.old → AfterScan result n text.now self.new }
+    /// Looks at the bytes of the text that weren't looked at, up to the end of a form, and gives it. The window has the text
+    /// behind the bytes that were let go.
+    pub(crate) fn scan(&mut self, window: &[u8]) -> Result<Option<Form>, LexStop>
+        requires { self.old.at.index ≤ self.old.kept + length window.now }
+        ensures kept { self.new.kept ≡ self.old.kept }
+        ensures held { IfOk result (λ found. IfSome found (λ form. IsHeld self.old.kept self.new.at.index self.new.at.index form)) }
+        ensures read { (n : ℕ) (text : List ℕ) → window.now ≡ drop self.old.kept text → IsReady n text self.old → AfterScan result n text self.new }
     {
-        while (self.at.index as usize) < text.len() {
-            match self.take(text) {
+        while ((self.at.index - self.kept) as usize) < window.len() {
+            match self.take(window) {
                 Ok(None) => {}
                 Ok(Some(form)) => return Ok(Some(form)),
                 Err(stop) => return Err(stop),
@@ -413,17 +508,27 @@ impl Scanner {
     }
 
     /// The fault of a text that ends here.
-    pub(crate) fn fault_at_end(&self, text: &[u8]) -> Option<LexFault>
-        requires { self.now.at.index ≤ length text.now }
-        ensures { (n : ℕ) → IsReady n text.now self.now → self.now.at.index ≡ length text.now → result ≡ end_fault_of text.now }
+    pub(crate) fn fault_at_end(&self, window: &[u8]) -> Option<LexFault>
+        requires { self.now.at.index ≤ self.now.kept + length window.now }
+        ensures { (n : ℕ) (text : List ℕ) → window.now ≡ drop self.now.kept text → IsReady n text self.now → self.now.at.index ≡ length text → result ≡ end_fault_of text }
     {
         if self.depth == 0 {
             return None;
         }
-        match self.kind_so_far(text) {
+        match self.kind_so_far(window) {
             Some(_) => Some(lex_fault(self.first, 2)),
             None => Some(lex_fault(self.start, 1)),
         }
+    }
+}
+
+/// Where the first of these tokens begins, or another place where there is none.
+pub(crate) fn first_start_of(tokens: &[Token], otherwise: u64) -> u64
+    ensures { result ≡ first_start tokens.now otherwise }
+{
+    match tokens {
+        [] => otherwise,
+        [first, ..] => first.start,
     }
 }
 

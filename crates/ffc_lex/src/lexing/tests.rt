@@ -69,7 +69,7 @@ fn gives_forms(rt: HostRuntime) -> Result<(), Fail> {
 }
 
 /// Texts that are at fault, and where.
-const FAULTS: [(&[u8], u64, u64, u8); 32] = [
+const FAULTS: [(&[u8], u64, u64, u8); 40] = [
     (b")", 1, 1, 3),
     (b"(set-logic QF_FF)(push 007)", 1, 24, 1),
     (b"(set-logic QF_FF)(assert (and true", 1, 18, 2),
@@ -102,6 +102,14 @@ const FAULTS: [(&[u8], u64, u64, u8); 32] = [
     (b"(a |b", 1, 1, 2),
     (b"(a \"b\"", 1, 1, 2),
     (b"(a ;c", 1, 1, 2),
+    (b"(a ;c\n", 1, 1, 2),
+    (b"(", 1, 1, 2),
+    (b"(a ", 1, 1, 2),
+    (b"(a \"b", 1, 1, 2),
+    (b"(a 1", 1, 1, 2),
+    (b"(a 1.", 1, 4, 1),
+    (b"(a #", 1, 4, 1),
+    (b"(a #f1m2", 1, 1, 2),
 ];
 
 #[test]
@@ -169,6 +177,63 @@ fn pieces_give_the_same_forms(rt: HostRuntime) -> Result<(), Fail> {
         check_tokens(&rt, tokens.as_slice());
     }
     Ok(())
+}
+
+/// Whether the next form's second token is written so.
+fn is_next_name(lexer: &mut Lexer, wanted: &[u8]) -> Result<bool, LexStop>
+    requires { lexer.old.finished ≡ false }
+    ensures { lexer.new.finished ≡ false }
+{
+    let Some(form) = lexer.next_form()? else {
+        return Ok(false);
+    };
+    match form.tokens() {
+        [_, name, ..] => Ok(lexer.bytes_of(name) == wanted),
+        _ => Ok(false),
+    }
+}
+
+#[test]
+fn gives_tokens_as_written(rt: HostRuntime) -> Result<(), Fail> {
+    let mut lexer = Lexer::new(rt.alloc());
+    lexer.feed(b"(first |a b|) (|sec")?;
+    assert!(rt; is_next_name(&mut lexer, b"first")?);
+    assert!(rt; !is_next_name(&mut lexer, b"first")?);
+    lexer.feed(b"ond| c)(third)")?;
+    assert!(rt; is_next_name(&mut lexer, b"|second|")?);
+    assert!(rt; is_next_name(&mut lexer, b"third")?);
+    Ok(())
+}
+
+/// How many bytes of a text are held that comes in so many equal pieces.
+fn bytes_held(alloc: Global, piece: &[u8], count: u64) -> Result<usize, LexStop> {
+    let mut lexer = Lexer::new(alloc);
+    'pieces: for _ in 0..count {
+        let mut tokens = Vec::new(alloc);
+        take_piece(&mut lexer, piece, &mut tokens)?;
+    }
+    Ok(lexer.window.len().saturating_add(lexer.form.bytes.len()))
+}
+
+/// A text of 200,000 bytes, of which at most a form, a piece and the bytes that need not be let go yet are held.
+#[test]
+fn lets_go_of_bytes(rt: HostRuntime) -> Result<(), Fail> {
+    for piece in [" ; c\n", "; c d", "(a b)", "(|a|)", "     "] {
+        assert!(rt; bytes_held(rt.alloc(), piece.as_bytes(), 40_000)? <= 4096 + 2 * 5);
+    }
+    Ok(())
+}
+
+#[test]
+fn takes_high_bytes_where_they_may_stand(rt: HostRuntime) {
+    for byte in 128..=255 {
+        for text in [[b'"', byte, b'"'], [b'|', byte, b'|'], [b';', byte, b'\n']] {
+            let form = [b'(', b'a', b' ', text[0], text[1], text[2], b')'];
+            check_fault(&rt, rt.alloc(), &form, None);
+        }
+        check_fault(&rt, rt.alloc(), &[b'(', b'a', byte, b')'], Some((1, 3, 1)));
+        check_fault(&rt, rt.alloc(), &[byte], Some((1, 1, 1)));
+    }
 }
 
 #[test]

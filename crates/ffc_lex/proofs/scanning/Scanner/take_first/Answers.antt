@@ -7,12 +7,12 @@ use Rattle.ffc_lex.proofs.scanning.Scanner.take_first.Goals as goal
 pub returns-in-White-clause-read : goal.returns-in-White-clause-read
 returns-in-White-clause-read c n text facing mode e p =
     subst (λ s. IsReady n text s) (sym (c.settle.ensures ∙ ap (λ s. settled s) c.advance.ensures))
-    (white_skips n text c.args.byte c.args.self.now (record { facing = facing; limit = c.requires; mode = mode }) (e ∙ c.in-White.is))
+    (white_skips n text c.args.byte c.args.self.now (record { facing = facing; limit = c.requires.limit; mode = mode }) (e ∙ c.in-White.is))
 
 pub returns-in-Semicolon-clause-read : goal.returns-in-Semicolon-clause-read
 returns-in-Semicolon-clause-read c n text facing mode e p =
     subst (λ s. IsReady n text s) (sym c.stay.ensures)
-    (comment_begins n text c.args.byte c.args.self.now (record { facing = facing; limit = c.requires; mode = mode }) (e ∙ c.in-Semicolon.is))
+    (comment_begins n text c.args.byte c.args.self.now (record { facing = facing; limit = c.requires.limit; mode = mode }) (e ∙ c.in-Semicolon.is))
 
 pub returns-in-Bar-clause-read : goal.returns-in-Bar-clause-read
 returns-in-Bar-clause-read c n text facing mode e p = c.begin.ensures.read n text facing mode (begins_quoted c.args.byte (e ∙ c.in-Bar.is))
@@ -32,5 +32,5 @@ returns-in-Word-clause-read c n text facing mode e p = c.begin-in-Word.ensures.r
 pub returns-in_default-clause-read : goal.returns-in_default-clause-read
 returns-in_default-clause-read c n text facing mode e p =
     stop_at c.fault_at.result 1 c.self.inside.at c.args.self.now.at n text c.args.self.now c.fault_at.ensures (ap (λ v. v.at) c.self.view_is)
-    (other_fault n text c.args.byte c.args.self.now (record { facing = facing; limit = c.requires; mode = mode })
+    (other_fault n text c.args.byte c.args.self.now (record { facing = facing; limit = c.requires.limit; mode = mode })
     (e ∙ other_class c.args.class p c.in_default.not-White c.in_default.not-Semicolon c.in_default.not-Bar c.in_default.not-Quote c.in_default.not-Colon c.in_default.not-Hash c.in_default.not-Word))

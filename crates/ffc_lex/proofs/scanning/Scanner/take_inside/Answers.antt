@@ -1,5 +1,6 @@
-use Rattle.std.proofs.Common.{sym, ap, ◌∙◌, subst, inl, inr}
-use Rattle.ffc_lex.specs.Scan.{IsReady}
+use Rattle.std.proofs.Common.{◌≡◌, ◌≤◌, arith, sym, ap, ◌∙◌, subst, inl, inr}
+use Rattle.ffc_lex.specs.Scan.{IsReady, reach}
+use Rattle.ffc_lex.proofs.HeldLemmas.{kept_le_reach}
 use Rattle.ffc_lex.proofs.StepLemmas.{string_pairs, word_stays, keyword_stays, field_stays}
 use Rattle.ffc_lex.proofs.scanning.Scanner.take_inside.Goals as goal
 
@@ -24,3 +25,21 @@ returns-in-Word-clause-read c n text facing e inside =
         ]
       ]
     ])
+
+pub take_in_quoted-requires-clause-held : goal.take_in_quoted-requires-clause-held
+take_in_quoted-requires-clause-held c =
+    let low : c.self.inside.kept ≤ reach c.self.inside.mode c.self.inside.at c.self.inside.start = kept_le_reach c.self.inside.kept c.self.inside.at c.self.inside.start c.self.inside.mode c.self.inside.depth c.self.inside.tokens.items c.self.invariant in
+    let here : reach c.self.inside.mode c.self.inside.at c.self.inside.start ≡ c.self.inside.start.index = ap (λ m. reach m c.self.inside.at c.self.inside.start) c.in-Quoted.is in
+    omega (arith, low, here, ap (λ v. v.kept) c.self.view_is, ap (λ v. v.start.index) c.self.view_is)
+
+pub take_in_string-requires-clause-held : goal.take_in_string-requires-clause-held
+take_in_string-requires-clause-held c =
+    let low : c.self.inside.kept ≤ reach c.self.inside.mode c.self.inside.at c.self.inside.start = kept_le_reach c.self.inside.kept c.self.inside.at c.self.inside.start c.self.inside.mode c.self.inside.depth c.self.inside.tokens.items c.self.invariant in
+    let here : reach c.self.inside.mode c.self.inside.at c.self.inside.start ≡ c.self.inside.start.index = ap (λ m. reach m c.self.inside.at c.self.inside.start) c.in-Str.is in
+    omega (arith, low, here, ap (λ v. v.kept) c.self.view_is, ap (λ v. v.start.index) c.self.view_is)
+
+pub stay-requires-clause-held : goal.stay-requires-clause-held
+stay-requires-clause-held c =
+    let low : c.self.inside.kept ≤ reach c.self.inside.mode c.self.inside.at c.self.inside.start = kept_le_reach c.self.inside.kept c.self.inside.at c.self.inside.start c.self.inside.mode c.self.inside.depth c.self.inside.tokens.items c.self.invariant in
+    let here : reach c.self.inside.mode c.self.inside.at c.self.inside.start ≡ c.self.inside.start.index = ap (λ m. reach m c.self.inside.at c.self.inside.start) c.in-StrMark.is in
+    omega (arith, low, here, ap (λ v. v.kept) c.self.view_is, ap (λ v. v.start.index) c.self.view_is)
