@@ -5,13 +5,14 @@ use Rattle.std.specs.List.{flat_map}
 use Rattle.std.proofs.lemmas.List.{take_all, take-append-le, take-append-drop, length-take-le}
 use Rattle.std.proofs.lemmas.Bool.{cases_lt, lt-leb}
 use Rattle.ffc_base.specs.Outside.{Becomes, Appends, AppendsPrefix}
-use Rattle.ffc_solve.specs.Source.{End, Done, Fault, Script}
+use Rattle.ffc_cert.specs.Spelling.{header, entry_text, text_of}
+use Rattle.ffc_smt.specs.Scopes.{State, first_state}
+use Rattle.ffc_smt.specs.Scripts.{End, Done, AtFault}
 use Rattle.ffc_solve.specs.Text.{skipped}
-use Rattle.ffc_solve.specs.Reading.{counted, commands_of, place_behind, end_at, reads}
-use Rattle.ffc_solve.specs.Tables.{Seen, nothing_seen, AreSeen, ended}
-use Rattle.ffc_solve.specs.Certificate.{first_line, entry_text, certificate_text}
+use Rattle.ffc_solve.specs.Reading.{counted, commands_of, place_behind, end_at, reads, Script}
+use Rattle.ffc_solve.specs.States.{states_checked}
 use Rattle.ffc_solve.specs.Answers.{answers, end_text, fault_text}
-use Rattle.ffc_solve.specs.Solving.{IsWhole, IsStopped}
+use Rattle.ffc_solve.specs.Solving.{AreEntries, IsWhole, IsStopped}
 use Rattle.ffc_solve.specs.Underway.{IsUnderway, IsAnswered, IsCut, AreAnswered}
 use Rattle.ffc_solve.specs.Status.{is_fault}
 use Rattle.ffc_solve.proofs.Underway.{Appends-nil, cut_here, answered_whole, cut_at_end}
@@ -30,7 +31,7 @@ end_done bytes unread e = rw e refl
 
 -- where something that counts is unread, or the text goes on
 end_fault : (bytes unread : List ℕ) (place : ℕ × ℕ) → (length unread == 0 && nat_le (length bytes) 65536) ≡ false → place ≡ place_behind (take (length (counted bytes) - length unread) (counted bytes))
-    → end_at bytes unread ≡ Fault place.0 place.1 18
+    → end_at bytes unread ≡ AtFault place.0 place.1 18
 end_fault bytes unread place e is = rw (e, is) refl
 
 module _ (bytes text : List ℕ) (e : text ≡ counted bytes) (c d o p : Option (List ℕ)) where
@@ -38,8 +39,8 @@ module _ (bytes text : List ℕ) (e : text ≡ counted bytes) (c d o p : Option 
   cut_in_commands h = subst (λ t. IsCut ((commands_in t).0) (reads bytes).end c d o p) e (h (reads bytes).end)
 
   module _ (h : AreAnswered ((commands_in text).0) c d o p) where
-    under : (now : Seen) × IsUnderway (reads bytes).commands (reads bytes).end now [] c d o p
-    under = subst (λ t. (now : Seen) × IsUnderway ((commands_in t).0) (reads bytes).end now [] c d o p) e (h (reads bytes).end)
+    under : (now : State) × IsUnderway (reads bytes).commands (reads bytes).end now [] c d o p
+    under = subst (λ t. (now : State) × IsUnderway ((commands_in t).0) (reads bytes).end now [] c d o p) e (h (reads bytes).end)
 
     pub cut_behind_commands : IsCut (reads bytes).commands (reads bytes).end c d o p
     cut_behind_commands = cut_here (reads bytes).commands (reads bytes).end under.0 c d o p [] under.1
@@ -59,7 +60,7 @@ module _ (bytes text : List ℕ) (e : text ≡ counted bytes) (c d o p : Option 
         no_fault = ap is_fault (sym is_done)
 
       module _ (more : (length unread == 0 && nat_le (length bytes) 65536) ≡ false) (place : ℕ × ℕ) (is_place : place ≡ place_behind (take (length text - length unread) text)) where
-        is_a_fault : (reads bytes).end ≡ Fault place.0 place.1 18
+        is_a_fault : (reads bytes).end ≡ AtFault place.0 place.1 18
         is_a_fault = ap (end_at bytes) (sym unread_is) ∙ end_fault bytes unread place more (is_place ∙ ap (λ t. place_behind (take (length t - length unread) t)) e)
 
         pub has_fault : true ≡ is_fault (reads bytes).end
@@ -76,7 +77,7 @@ abbrev reads_by : List ℕ → Bool → Script
 reads_by text whole = record {
   commands = (commands_in text).0;
   end = if length (skipped ((commands_in text).1)) == 0 && whole then Done
-      else (let place = place_behind (take (length text - length (skipped ((commands_in text).1))) text) in Fault place.0 place.1 18);
+      else (let place = place_behind (take (length text - length (skipped ((commands_in text).1))) text) in AtFault place.0 place.1 18);
 }
 
 too_long : (bytes : List ℕ) → 65537 ≤ length bytes → nat_le (length bytes) 65536 ≡ false
@@ -102,54 +103,55 @@ nothing_appended : (text : List ℕ) (o : Option (List ℕ)) → AppendsPrefix t
 nothing_appended text None = tt
 nothing_appended text (Some held) = (0, omega arith, ap Some (sym (append-nil held)))
 
-module _ (bytes text : List ℕ) (e : text ≡ take 65537 bytes) (c d f o p : Option (List ℕ)) (created : Becomes first_line c d) where
+module _ (bytes text : List ℕ) (e : text ≡ take 65537 bytes) (c d f o p : Option (List ℕ)) (created : Becomes (header 2) c d) where
   same : reads text ≡ reads bytes
   same = ap reads e ∙ reads_taken bytes
 
   pub whole : IsAnswered (reads text).commands (reads text).end d f o p → IsWhole bytes c f o p
+  unfolding text_of
   whole h = record {
-    checks = h.checks;
-    seen = subst (λ s. AreSeen nothing_seen s.commands h.checks) same h.seen;
     entries = h.entries;
-    each = h.each;
-    all = h.count;
-    certificate = becomes_more first_line (flat_map entry_text h.entries) c d f created h.certificate;
+    each = subst (λ s. AreEntries (states_checked first_state s.commands) h.entries) same h.each;
+    all = h.count ∙ ap (λ s. length (states_checked first_state s.commands)) same;
+    certificate = becomes_more (header 2) (flat_map entry_text h.entries) c d f created h.certificate;
     answered = subst (λ s. Appends (answers s h.entries) o p) same h.answered;
   }
 
   pub stopped : IsCut (reads text).commands (reads text).end d f o p → IsStopped bytes c f o p
+  unfolding text_of
   stopped h = inr (record {
     done = h.done;
     later = h.later;
     split = ap (λ s. s.commands) (sym same) ∙ h.split;
-    checks = h.checks;
-    seen = h.seen;
     entries = h.entries;
     each = h.each;
-    text = certificate_text h.entries ++ take h.size (entry_text h.entry);
+    text = text_of 2 h.entries ++ take h.size (entry_text h.entry);
     part = inr (h.entry, h.size, h.short, refl);
-    certificate = rw (← append_assoc first_line (flat_map entry_text h.entries) (take h.size (entry_text h.entry))) (becomes_more first_line (flat_map entry_text h.entries ++ take h.size (entry_text h.entry)) c d f created h.certificate);
+    certificate = subst (λ t. Becomes t c f) (sym (append_assoc (header 2) (flat_map entry_text h.entries) (take h.size (entry_text h.entry)))) (becomes_more (header 2) (flat_map entry_text h.entries ++ take h.size (entry_text h.entry)) c d f created h.certificate);
     answered = subst (λ s. AppendsPrefix (answers s h.entries) o p) same h.answered;
   })
 
 -- nothing but a front of the first line was written
-pub stopped_early : (bytes : List ℕ) (n : ℕ) (c d o : Option (List ℕ)) → Becomes (take n first_line) c d → IsStopped bytes c d o o
+pub stopped_early : (bytes : List ℕ) (n : ℕ) (c d o : Option (List ℕ)) → Becomes (take n (header 2)) c d → IsStopped bytes c d o o
 stopped_early bytes n c d o created = inr (record {
   done = [];
   later = (reads bytes).commands;
   split = refl;
-  checks = [];
-  seen = ended;
   entries = [];
   each = tt;
-  text = take n first_line;
+  text = take n (header 2);
   part = inl (n, refl);
   certificate = created;
   answered = nothing_appended (answers (reads bytes) []) o;
 })
 
+-- nothing but the first line was written
+pub stopped_behind_header : (bytes : List ℕ) (c d o : Option (List ℕ)) → Becomes (header 2) c d → IsStopped bytes c d o o
+stopped_behind_header bytes c d o created =
+    stopped_early bytes (length (header 2)) c d o (subst (λ t. Becomes t c d) (sym (take_all (length (header 2)) (header 2) (omega arith))) created)
+
 -- the same of what creating it left
-pub stopped_creating : (bytes : List ℕ) (c d o : Option (List ℕ)) → (d ≡ c) ⊎ ((n : ℕ) × Becomes (take n first_line) c d) → IsStopped bytes c d o o
+pub stopped_creating : (bytes : List ℕ) (c d o : Option (List ℕ)) → (d ≡ c) ⊎ ((n : ℕ) × Becomes (take n (header 2)) c d) → IsStopped bytes c d o o
 stopped_creating bytes c d o h = ⊎_elim (λ same. inl (same, refl)) (λ part. stopped_early bytes part.0 c d o part.1) h
 
 -- what is said of the bytes that are left, where they are told
@@ -173,7 +175,7 @@ if_ok_told : {T E X : Type 0} (r : Result T E) (o : Option X) (A : T → Type 0)
 if_ok_told (Ok t) o A P Q f told h = if_some o P (Q t) (λ x p. f t x p h) told
 if_ok_told (Err e) o A P Q f told h = tt
 
-module _ {S : Type 0} (r : Result Bool S) (left : Option (List ℕ)) (text : List ℕ) (told : IfSome left (λ bytes. text ≡ take 65537 bytes)) (c d f o p : Option (List ℕ)) (created : Becomes first_line c d) where
+module _ {S : Type 0} (r : Result Bool S) (left : Option (List ℕ)) (text : List ℕ) (told : IfSome left (λ bytes. text ≡ take 65537 bytes)) (c d f o p : Option (List ℕ)) (created : Becomes (header 2) c d) where
   -- what answering the text that was read says of all bytes of the script
   pub whole_read : OnOk r (IsAnswered (reads text).commands (reads text).end d f o p) → OnOk r (IfSome left (λ bytes. IsWhole bytes c f o p))
   whole_read h = on_ok r left _ (λ bytes. text ≡ take 65537 bytes) (λ bytes. IsWhole bytes c f o p) (λ bytes e answered. whole bytes text e c d f o p created answered) told h

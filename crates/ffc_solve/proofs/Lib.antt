@@ -1,6 +1,5 @@
 pub mod Digits
 pub mod Pieces
-pub mod Meaning
 pub mod Underway
 pub mod Placing
 pub mod Booleans
@@ -11,5 +10,4 @@ pub mod Terms
 pub mod Commands
 pub mod Reached
 pub mod Ending
-pub mod Keeping
 pub mod Measured

@@ -1,25 +1,25 @@
 -- The checks of the small language are small, and valid: there is at most one constant, and it is of the field of order 3.
-use Rattle.std.proofs.Common.{◌≡◌, ℕ, zero, suc, ◌+◌, ◌*◌, ◌<◌, ◌≤◌, ◌⊎◌, inl, inr, ⊎_elim, Bool, true, false, List, [], ◌∷◌, length, get_or, fold, Some, slice_get, All, Contains, refl, sym, ap, ◌∙◌, subst, arith}
+use Rattle.std.proofs.Common.{◌≡◌, ℕ, zero, suc, ◌+◌, ◌*◌, ◌<◌, ◌≤◌, ◌⊎◌, inl, inr, ⊎_elim, Bool, true, false, List, [], ◌∷◌, length, get_or, fold, Option, Some, None, slice_get, All, Contains, refl, sym, ap, ◌∙◌, subst, arith}
 use Rattle.std.specs.List.Sorted.{IsStrictlyIncreasing}
 use Rattle.std.proofs.Math.Nat.{mul-le-mul, mul-le-mul_left}
 use Rattle.std.proofs.lemmas.List.{get_or_default}
 use Rattle.std.proofs.lemmas.List.Kept.{AllPairs-from_increasing}
 use Rattle.std.proofs.lemmas.List.Elements.{All-nil, All-cons, Contains-append_right, Contains-get_or}
-use Rattle.std.proofs.lemmas.Option.{slice_get-get_or}
+use Rattle.std.proofs.lemmas.Option.{slice_get_within, slice_get-get_or, get_or_from_slice_get}
 use Rattle.ffc_term.specs.declared.node.Node.{Node}
 use Rattle.ffc_term.specs.declared.node.Node.TheVariants.{BoolConst, FieldConst}
-use Rattle.ffc_term.specs.Nodes.{IsConstantAt, is_constant, node_at}
-use Rattle.ffc_term.specs.Tables.{IsBooleanAt}
+use Rattle.ffc_term.specs.Nodes.{IsNodeAt, IsConstantAt, is_constant, node_at}
+use Rattle.ffc_term.specs.Tables.{IsBooleanAt, IsTable}
 use Rattle.ffc_term.specs.Checks.{IsValidCheck}
 use Rattle.ffc_term.specs.Measuring.{value_count, span_of}
 use Rattle.ffc_term.proofs.CheckLemmas.{IsConstantAt-from_node_at}
 use Rattle.ffc_term.proofs.WalkLemmas.{IsNodeOf-within}
-use Rattle.ffc_solve.specs.Source.{Term}
-use Rattle.ffc_solve.specs.Script.{Declared, order_of}
-use Rattle.ffc_solve.specs.Tables.{Seen}
+use Rattle.ffc_smt.specs.Scopes.{Assertion}
 use Rattle.ffc_solve.specs.Enumeration.{number_of_constant, AreNumbered, IsSmall}
+use Rattle.ffc_solve.specs.Context.{constant_ids, constants_of, root_ids, HasConstant, HasRoot, IsKnown}
+use Rattle.ffc_solve.specs.declared.context.Constant.{Constant}
+use Rattle.ffc_solve.specs.declared.context.Known.{Known}
 use Rattle.ffc_solve.proofs.Placing.{node_at-is}
-use Rattle.ffc_solve.proofs.Sound.{AreRoots, IsSound}
 use Rattle.ffc_solve.proofs.Terms.{three_is_order}
 
 -- the numbers of an increasing list are no smaller than their places
@@ -87,55 +87,68 @@ only_one xs x short has =
     let is : get_or xs 0 x ≡ x = ap (λ k. get_or xs k x) (sym first) ∙ has.2 in
     (sym is ∙ get_or_default xs 0 x 0 inside, slice_get-get_or xs 0 x inside ∙ ap Some is)
 
-booleans : (declared : List Declared) (table : List Node) (terms : List Term) (roots : List ℕ) → AreRoots declared table terms roots → All (IsBooleanAt table) roots
-booleans declared table [] [] are = All-nil (IsBooleanAt table)
-booleans declared table [] (root ∷ roots) are = absurd are
-booleans declared table (t ∷ terms) [] are = absurd are
-booleans declared table (t ∷ terms) (root ∷ roots) are = All-cons (IsBooleanAt table) root roots are.0.boolean (booleans declared table terms roots are.1)
+few_constants : (c : Option Constant) → length (constant_ids c) ≤ 1
+few_constants None = omega arith
+few_constants (Some c) = omega arith
 
-module _ (seen : Seen) (sound : IsSound seen) where
-  each_boolean : All (IsBooleanAt seen.nodes.table) seen.nodes.roots
-  each_boolean = booleans seen.in_force.declared seen.nodes.table seen.in_force.asserted seen.nodes.roots sound.roots
+-- the known constant is the first one, of the field of order 3
+first_constant : (nodes : List Node) (c : Option Constant) (k id : ℕ) → HasConstant c nodes → slice_get (constant_ids c) k ≡ Some id → (k ≡ 0) × IsNodeAt nodes id (FieldConst 0 3)
+first_constant nodes None k id has is = let inside : k < length {A = ℕ} [] = slice_get_within [] k id is in absurd (omega arith)
+first_constant nodes (Some c) k id has is =
+    let inside : k < length (c.node ∷ []) = slice_get_within (c.node ∷ []) k id is in
+    let first : k ≡ 0 = omega arith in
+    let same : c.node ≡ id = sym (get_or_from_slice_get (c.node ∷ []) 0 c.node 0 refl) ∙ get_or_from_slice_get (c.node ∷ []) 0 id 0 (subst (λ i. slice_get (c.node ∷ []) i ≡ Some id) first is) in
+    (first, subst (λ i. IsNodeAt nodes i (FieldConst 0 3)) same has)
+
+module _ (k : Known) (asserted : List Assertion) (nodes : List Node) (table : IsTable nodes) (known : IsKnown k asserted nodes) where
+  each_constant : (c : Option Constant) → HasConstant c nodes → All (IsConstantAt nodes) (constant_ids c)
+  each_constant None has = All-nil (IsConstantAt nodes)
+  each_constant (Some c) has = All-cons (IsConstantAt nodes) c.node [] (FieldConst 0 3, has, refl) (All-nil (IsConstantAt nodes))
+
+  each_boolean : (terms : List Assertion) (root : Option ℕ) → HasRoot nodes terms root → All (IsBooleanAt nodes) (root_ids root)
+  each_boolean [] None has = All-nil (IsBooleanAt nodes)
+  each_boolean (a ∷ []) (Some root) has = All-cons (IsBooleanAt nodes) root [] has.boolean (All-nil (IsBooleanAt nodes))
+  each_boolean [] (Some root) has = absurd has
+  each_boolean (a ∷ []) None has = absurd has
+  each_boolean (a ∷ b ∷ rest) root has = absurd has
+
+  booleans : All (IsBooleanAt nodes) (root_ids k.asserted)
+  booleans = each_boolean asserted k.asserted known.root
 
   -- how many values the nodes of a check have
-  values_few : length seen.nodes.constants ≤ 1 → ((k : ℕ) → k < length seen.in_force.declared → order_of seen.in_force.declared k ≡ 3) → (id : ℕ)
-      → (value_count (node_at seen.nodes.table id) ≤ 1) ⊎ ((id ≡ get_or seen.nodes.constants 0 0) × (value_count (node_at seen.nodes.table id) ≤ 3))
-  values_few short three id =
+  values_few : (id : ℕ) → (value_count (node_at nodes id) ≤ 1) ⊎ ((id ≡ get_or (constants_of k) 0 0) × (value_count (node_at nodes id) ≤ 3))
+  values_few id =
       ⊎_elim (λ const.
-      let has = only_one seen.nodes.constants id short (sound.covered id (IsConstantAt-from_node_at seen.nodes.table id const)) in
-      let at = sound.constants 0 id has.1 in
-      let count : value_count (node_at seen.nodes.table id) ≡ 3 = ap value_count (node_at-is seen.nodes.table id _ at.1) ∙ three 0 at.0 in
+      let has = only_one (constants_of k) id (few_constants k.constant) (known.covered id (IsConstantAt-from_node_at nodes id const)) in
+      let at = first_constant nodes k.constant 0 id known.constant has.1 in
+      let count : value_count (node_at nodes id) ≡ 3 = ap value_count (node_at-is nodes id _ at.1) in
       inr (has.0, omega arith))
-      (λ none. inl (one_value (node_at seen.nodes.table id) none)) (is_constant_cases (node_at seen.nodes.table id))
+      (λ none. inl (one_value (node_at nodes id) none)) (is_constant_cases (node_at nodes id))
 
-  span_few : length seen.nodes.constants ≤ 1 → ((k : ℕ) → k < length seen.in_force.declared → order_of seen.in_force.declared k ≡ 3) → (among : List ℕ) → IsStrictlyIncreasing among → span_of seen.nodes.table among ≤ 3
-  span_few short three among up =
-      product_three (λ id. value_count (node_at seen.nodes.table id)) (get_or seen.nodes.constants 0 0) 1 among up (λ id has. values_few short three id)
+  span_few : (among : List ℕ) → IsStrictlyIncreasing among → span_of nodes among ≤ 3
+  span_few among up = product_three (λ id. value_count (node_at nodes id)) (get_or (constants_of k) 0 0) 1 among up (λ id has. values_few id)
 
-  pub is_small : length seen.nodes.constants ≤ 1 → ((k : ℕ) → k < length seen.in_force.declared → order_of seen.in_force.declared k ≡ 3) → length seen.nodes.table ≤ 65536
-      → IsSmall seen.nodes.table seen.nodes.roots
-  is_small short three room = record {
+  pub is_small : length nodes ≤ 65536 → IsSmall nodes (root_ids k.asserted)
+  is_small room = record {
     work = λ among are.
-        let few = span_few short three among are.increasing in
-        let roots_within : All (λ id. id < length seen.nodes.table) seen.nodes.roots = λ i d inside. (each_boolean i d inside).0 in
-        let long = no_longer among (length seen.nodes.table) are.increasing (λ x has. IsNodeOf-within seen.nodes.table seen.nodes.roots x sound.table roots_within ((are.each x).0 has)) in
+        let few = span_few among are.increasing in
+        let roots_within : All (λ id. id < length nodes) (root_ids k.asserted) = λ i d inside. (booleans i d inside).0 in
+        let long = no_longer among (length nodes) are.increasing (λ x has. IsNodeOf-within nodes (root_ids k.asserted) x table roots_within ((are.each x).0 has)) in
         let short_list : length among ≤ 65536 = omega arith in
-        let most : span_of seen.nodes.table among * length among ≤ 3 * 65536 = mul-le-mul few short_list in
+        let most : span_of nodes among * length among ≤ 3 * 65536 = mul-le-mul few short_list in
         omega arith;
-    span = λ constants are. let few = span_few short three constants are.increasing in omega arith;
+    span = λ constants are. let few = span_few constants are.increasing in omega arith;
   }
 
-  pub is_valid : length seen.nodes.constants ≤ 1 → IsValidCheck seen.nodes.table seen.nodes.constants seen.nodes.roots 3
-  is_valid short = record {
-    table = sound.table;
+  pub is_valid : IsValidCheck nodes (constants_of k) (root_ids k.asserted) 3
+  is_valid = record {
+    table = table;
     order = three_is_order;
-    increasing = λ k inside. absurd (omega arith);
-    constants = λ i d inside. (get_constant i d inside);
-    boolean = each_boolean;
-    covered = λ id of is. sound.covered id is;
-  } where
-    get_constant : (i d : ℕ) → i < length seen.nodes.constants → IsConstantAt seen.nodes.table (get_or seen.nodes.constants i d)
-    get_constant i d inside = let at = sound.constants i (get_or seen.nodes.constants i d) (slice_get-get_or seen.nodes.constants i d inside) in (_, at.1, refl)
+    increasing = λ i inside. let few = few_constants k.constant in absurd (omega arith);
+    constants = each_constant k.constant known.constant;
+    boolean = booleans;
+    covered = λ id of is. known.covered id is;
+  }
 
-  pub is_numbered : AreNumbered seen.nodes.table seen.nodes.constants
-  is_numbered k id at = ap number_of_constant (node_at-is seen.nodes.table id _ (sound.constants k id at).1)
+  pub is_numbered : AreNumbered nodes (constants_of k)
+  is_numbered i id is = let at = first_constant nodes k.constant i id known.constant is in ap number_of_constant (node_at-is nodes id _ at.1) ∙ sym at.0

@@ -4,15 +4,22 @@ use Rattle.std.specs.List.{flat_map}
 use Rattle.std.proofs.lemmas.Bool.{cases_lt}
 use Rattle.std.proofs.lemmas.List.{take-append-drop, take_all, take-append-le}
 use Rattle.ffc_base.specs.Outside.{Appends, AppendsPrefix}
-use Rattle.ffc_solve.specs.Source.{Command, SetLogic, DeclareConst, Assert, CheckSat, End}
-use Rattle.ffc_solve.specs.Tables.{Seen, nothing_seen, Sees, AreSeen, ended, checked, went_on, is_check}
-use Rattle.ffc_solve.specs.Certificate.{entry_text}
+use Rattle.ffc_cert.specs.Spelling.{entry_text}
+use Rattle.ffc_cert.specs.declared.entries.Entry.{Entry}
+use Rattle.ffc_cert.specs.declared.entries.Entry.TheVariants.{UnsatCases}
+use Rattle.ffc_smt.specs.Terms.{Command, CheckSat}
+use Rattle.ffc_smt.specs.Scopes.{State, first_state}
+use Rattle.ffc_smt.specs.Scripts.{End}
+use Rattle.ffc_solve.specs.States.{after, is_check, states_checked}
 use Rattle.ffc_solve.specs.Answers.{answers_to, verdict, end_text}
 use Rattle.ffc_solve.specs.Judge.{IsEntry, IsTrueOf}
 use Rattle.ffc_solve.specs.Solving.{AreEntries}
 use Rattle.ffc_solve.specs.Underway.{IsUnderway, IsAnswered, IsCut}
-use Rattle.ffc_solve.specs.declared.entry.Entry.{Entry}
-use Rattle.ffc_solve.specs.declared.entry.Entry.TheVariants.{UnsatCases}
+
+-- an entry has a text
+some_entry : 0 < length (entry_text UnsatCases)
+unfolding entry_text
+some_entry = omega arith
 
 pub Appends-nil : (x : Option (List ℕ)) → Appends [] x x
 Appends-nil None = tt
@@ -42,12 +49,11 @@ front_is_prefix text (Some held) z front behind e h =
     (length front, rw e (omega (arith, length-append front behind)), h ∙ ap (λ t. Some (held ++ t)) (sym (rw e (take-append-le (length front) front behind (omega arith) ∙ take_all (length front) front (omega arith)))))
 
 -- nothing is answered yet
-pub underway_begins : (all : List Command) (end : End) (c o : Option (List ℕ)) → IsUnderway all end nothing_seen all c c o o
+pub underway_begins : (all : List Command) (end : End) (c o : Option (List ℕ)) → IsUnderway all end first_state all c c o o
 underway_begins all end c o = record {
   done = [];
   split = refl;
-  checks = [];
-  seen = λ more later h. h;
+  checked = λ more. refl;
   entries = [];
   each = tt;
   count = refl;
@@ -58,29 +64,35 @@ underway_begins all end c o = record {
 }
 
 answers_to_quiet : (command : Command) (rest : List Command) (end : End) (later : List Entry) → is_check command ≡ false → answers_to (command ∷ rest) end later ≡ answers_to rest end later
-answers_to_quiet SetLogic rest end later quiet = refl
-answers_to_quiet (DeclareConst name s) rest end later quiet = refl
-answers_to_quiet (Assert t) rest end later quiet = refl
 answers_to_quiet CheckSat rest end later quiet = cc
+answers_to_quiet _ rest end later quiet = refl
+
+checked_quiet : (s : State) (command : Command) (rest : List Command) → is_check command ≡ false → states_checked s (command ∷ rest) ≡ states_checked (after s command) rest
+checked_quiet s CheckSat rest quiet = cc
+checked_quiet s _ rest quiet = refl
 
 -- a command that is no check
-pub underway_quiet : (all : List Command) (end : End) (now new : Seen) (command : Command) (rest : List Command) (c d o p : Option (List ℕ))
-    → is_check command ≡ false → Sees now command new → IsUnderway all end now (command ∷ rest) c d o p → IsUnderway all end new rest c d o p
-underway_quiet all end now new command rest c d o p quiet sees h = record {
-  done = h.done ++ command ∷ [];
-  split = h.split ∙ sym (append_assoc h.done (command ∷ []) rest);
-  checks = h.checks;
-  seen = λ more later there. rw append_assoc (h.seen (command ∷ more) later (went_on command new quiet sees there));
-  entries = h.entries;
-  each = h.each;
-  count = h.count;
-  certificate = h.certificate;
-  text = h.text;
-  answered = h.answered;
-  answers = λ later. h.answers later ∙ ap (λ t. h.text ++ t) (answers_to_quiet command rest end later quiet);
-}
+pub underway_quiet : (all : List Command) (end : End) (now : State) (command : Command) (rest : List Command) (c d o p : Option (List ℕ))
+    → is_check command ≡ false → IsUnderway all end now (command ∷ rest) c d o p → IsUnderway all end (after now command) rest c d o p
+underway_quiet all end now command rest c d o p quiet h =
+    let same : states_checked first_state (h.done ++ command ∷ []) ≡ states_checked first_state h.done =
+    h.checked (command ∷ []) ∙ ap (λ ss. states_checked first_state h.done ++ ss) (checked_quiet now command [] quiet) ∙ append-nil (states_checked first_state h.done) in
+    record {
+      done = h.done ++ command ∷ [];
+      split = h.split ∙ sym (append_assoc h.done (command ∷ []) rest);
+      checked = λ more.
+          ap (states_checked first_state) (append_assoc h.done (command ∷ []) more) ∙ h.checked (command ∷ more)
+          ∙ ap (λ ss. states_checked first_state h.done ++ ss) (checked_quiet now command more quiet) ∙ ap (λ ss. ss ++ states_checked (after now command) more) (sym same);
+      entries = h.entries;
+      each = subst (λ ss. AreEntries ss h.entries) (sym same) h.each;
+      count = h.count ∙ ap length (sym same);
+      certificate = h.certificate;
+      text = h.text;
+      answered = h.answered;
+      answers = λ later. h.answers later ∙ ap (λ t. h.text ++ t) (answers_to_quiet command rest end later quiet);
+    }
 
-AreEntries-push : (checks : List Seen) (entries : List Entry) (check : Seen) (entry : Entry) → length entries ≡ length checks → AreEntries checks entries → IsEntry check entry → IsTrueOf check entry
+AreEntries-push : (checks : List State) (entries : List Entry) (check : State) (entry : Entry) → length entries ≡ length checks → AreEntries checks entries → IsEntry check entry → IsTrueOf check entry
     → AreEntries (checks ++ check ∷ []) (entries ++ entry ∷ [])
 AreEntries-push [] [] check entry e each rule is = (rule, is, tt)
 AreEntries-push [] (x ∷ entries) check entry e each rule is = absurd (omega arith)
@@ -97,9 +109,12 @@ parted a b behind n =
     ap (λ t. a ++ (t ++ behind)) (sym (take-append-drop n b)) ∙ ap (λ t. a ++ t) (append_assoc (take n b) (drop n b) behind)
     ∙ sym (append_assoc a (take n b) (drop n b ++ behind))
 
-module _ (all : List Command) (end : End) (now : Seen) (rest : List Command) (c d o p : Option (List ℕ)) (entry : Entry) (rule : IsEntry now entry) (is : IsTrueOf now entry) (h : IsUnderway all end now (CheckSat ∷ rest) c d o p) where
-  seen_now : (more : List Command) (later : List Seen) → AreSeen now more later → AreSeen nothing_seen ((h.done ++ CheckSat ∷ []) ++ more) ((h.checks ++ now ∷ []) ++ later)
-  seen_now more later there = rw (append_assoc, append_assoc) (h.seen (CheckSat ∷ more) (now ∷ later) (checked there))
+module _ (all : List Command) (end : End) (now : State) (rest : List Command) (c d o p : Option (List ℕ)) (entry : Entry) (rule : IsEntry now entry) (is : IsTrueOf now entry) (h : IsUnderway all end now (CheckSat ∷ rest) c d o p) where
+  checked_now : states_checked first_state (h.done ++ CheckSat ∷ []) ≡ states_checked first_state h.done ++ now ∷ []
+  checked_now = h.checked (CheckSat ∷ [])
+
+  each_now : AreEntries (states_checked first_state (h.done ++ CheckSat ∷ [])) (h.entries ++ entry ∷ [])
+  each_now = subst (λ ss. AreEntries ss (h.entries ++ entry ∷ [])) (sym checked_now) (AreEntries-push (states_checked first_state h.done) h.entries now entry h.count h.each rule is)
 
   answers_now : (later : List Entry) → answers_to all end ((h.entries ++ entry ∷ []) ++ later) ≡ h.text ++ (verdict entry ++ answers_to rest end later)
   answers_now later = ap (answers_to all end) (append_assoc h.entries (entry ∷ []) later) ∙ h.answers (entry ∷ later)
@@ -109,11 +124,12 @@ module _ (all : List Command) (end : End) (now : Seen) (rest : List Command) (c 
   underway_checked e q entered told = record {
     done = h.done ++ CheckSat ∷ [];
     split = h.split ∙ sym (append_assoc h.done (CheckSat ∷ []) rest);
-    checks = h.checks ++ now ∷ [];
-    seen = seen_now;
+    checked = λ more.
+        ap (states_checked first_state) (append_assoc h.done (CheckSat ∷ []) more) ∙ h.checked (CheckSat ∷ more)
+        ∙ sym (append_assoc (states_checked first_state h.done) (now ∷ []) (states_checked now more)) ∙ ap (λ ss. ss ++ states_checked now more) (sym checked_now);
     entries = h.entries ++ entry ∷ [];
-    each = AreEntries-push h.checks h.entries now entry h.count h.each rule is;
-    count = omega (arith, length-append h.entries (entry ∷ []), length-append h.checks (now ∷ []), h.count);
+    each = each_now;
+    count = omega (arith, ap length checked_now, length-append h.entries (entry ∷ []), length-append (states_checked first_state h.done) (now ∷ []), h.count);
     certificate = rw flat_map-push (Appends-more (flat_map entry_text h.entries) (entry_text entry) c d e h.certificate entered);
     text = h.text ++ verdict entry;
     answered = Appends-more h.text (verdict entry) o p q h.answered told;
@@ -126,8 +142,6 @@ module _ (all : List Command) (end : End) (now : Seen) (rest : List Command) (c 
     done = h.done;
     later = CheckSat ∷ rest;
     split = h.split;
-    checks = h.checks;
-    seen = rw (← append-nil h.done, ← append-nil h.checks) (h.seen [] [] ended);
     entries = h.entries;
     each = h.each;
     entry = entry;
@@ -143,45 +157,39 @@ module _ (all : List Command) (end : End) (now : Seen) (rest : List Command) (c 
     done = h.done ++ CheckSat ∷ [];
     later = rest;
     split = h.split ∙ sym (append_assoc h.done (CheckSat ∷ []) rest);
-    checks = h.checks ++ now ∷ [];
-    seen = rw (← append-nil (h.done ++ CheckSat ∷ []), ← append-nil (h.checks ++ now ∷ [])) (seen_now [] [] ended);
     entries = h.entries ++ entry ∷ [];
-    each = AreEntries-push h.checks h.entries now entry h.count h.each rule is;
+    each = each_now;
     entry = UnsatCases;
     size = 0;
-    short = omega arith;
+    short = some_entry;
     certificate = rw (append-nil, flat_map-push) (Appends-more (flat_map entry_text h.entries) (entry_text entry) c d e h.certificate entered);
     answered = front_is_prefix (answers_to all end (h.entries ++ entry ∷ [])) o q (h.text ++ take n (verdict entry)) (drop n (verdict entry) ++ answers_to rest end [])
         (ap (answers_to all end) (sym (append-nil (h.entries ++ entry ∷ []))) ∙ answers_now [] ∙ parted h.text (verdict entry) (answers_to rest end []) n)
         (Appends-more h.text (take n (verdict entry)) o p q h.answered told);
   }
 
-module _ (all : List Command) (end : End) (now : Seen) (c d o p : Option (List ℕ)) where
+module _ (all : List Command) (end : End) (now : State) (c d o p : Option (List ℕ)) where
   -- the run stopped between two commands
   pub cut_here : (rest : List Command) → IsUnderway all end now rest c d o p → IsCut all end c d o p
   cut_here rest h = record {
     done = h.done;
     later = rest;
     split = h.split;
-    checks = h.checks;
-    seen = rw (← append-nil h.done, ← append-nil h.checks) (h.seen [] [] ended);
     entries = h.entries;
     each = h.each;
     entry = UnsatCases;
     size = 0;
-    short = omega arith;
+    short = some_entry;
     certificate = rw append-nil h.certificate;
     answered = front_is_prefix (answers_to all end h.entries) o p h.text (answers_to rest end []) (ap (answers_to all end) (sym (append-nil h.entries)) ∙ h.answers []) h.answered;
   }
 
   -- the end is answered too
   pub answered_whole : (q : Option (List ℕ)) → Appends (end_text end) p q → IsUnderway all end now [] c d o p → IsAnswered all end c d o q
-  answered_whole q told h = record {
-    checks = h.checks;
-    seen = rw (h.split, ← append-nil h.checks) (h.seen [] [] ended);
+  answered_whole q told h = let all_done : all ≡ h.done = h.split ∙ append-nil h.done in record {
     entries = h.entries;
-    each = h.each;
-    count = h.count;
+    each = rw all_done h.each;
+    count = rw all_done h.count;
     certificate = h.certificate;
     answered = rw (ap (answers_to all end) (sym (append-nil h.entries)) ∙ h.answers []) (Appends-more h.text (end_text end) o p q h.answered told);
   }
@@ -194,20 +202,18 @@ module _ (all : List Command) (end : End) (now : Seen) (c d o p : Option (List �
         done = h.done;
         later = [];
         split = h.split;
-        checks = h.checks;
-        seen = rw (← append-nil h.done, ← append-nil h.checks) (h.seen [] [] ended);
         entries = h.entries;
         each = h.each;
         entry = UnsatCases;
         size = 0;
-        short = omega arith;
+        short = some_entry;
         certificate = rw append-nil h.certificate;
         answered = front_is_prefix (answers_to all end h.entries) o q (h.text ++ take front.size (end_text end)) (drop front.size (end_text end) ++ [])
             (ap (answers_to all end) (sym (append-nil h.entries)) ∙ h.answers [] ∙ ap (λ t. h.text ++ t) (sym (append-nil (end_text end))) ∙ parted h.text (end_text end) [] front.size)
             (Appends-more h.text (take front.size (end_text end)) o p q h.answered front.appended);
       }
 
-module _ (all : List Command) (end : End) (now : Seen) (rest : List Command) (c d o p : Option (List ℕ)) (entry : Entry) (rule : IsEntry now entry) (is : IsTrueOf now entry) (h : IsUnderway all end now (CheckSat ∷ rest) c d o p) where
+module _ (all : List Command) (end : End) (now : State) (rest : List Command) (c d o p : Option (List ℕ)) (entry : Entry) (rule : IsEntry now entry) (is : IsTrueOf now entry) (h : IsUnderway all end now (CheckSat ∷ rest) c d o p) where
   -- writing the entry stopped
   pub cut_in_entry : (e : Option (List ℕ)) → AppendsPrefix (entry_text entry) d e → IsCut all end c e o p
   cut_in_entry e written =

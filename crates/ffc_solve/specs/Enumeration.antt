@@ -1,6 +1,9 @@
 -- The assignments of a check's constants, by number: the constants have the digits of the number, the least digit first, each
 -- below its constant's number of values.
 use Rattle.std.specs.Prelude.{◌≡◌, ℕ, ◌*◌, ◌<◌, ◌≤◌, ◌/◌, ◌%◌, ◌==◌, true, false, if◌then◌else◌, List, [], ◌∷◌, length, All, Contains, Some, slice_get}
+use Rattle.ffc_cert.specs.declared.entries.Entry.{Entry}
+use Rattle.ffc_cert.specs.declared.entries.Entry.TheVariants.{Sat, UnsatCases, UnsatSteps, Unknown}
+use Rattle.ffc_cert.specs.declared.entries.Cause.TheVariants.{Memory}
 use Rattle.ffc_term.specs.declared.node.Node.{Node}
 use Rattle.ffc_term.specs.declared.node.Node.TheVariants.{BoolConst, FieldConst}
 use Rattle.ffc_term.specs.declared.value.Value.{Value}
@@ -8,8 +11,6 @@ use Rattle.ffc_term.specs.declared.value.Value.TheVariants as value
 use Rattle.ffc_term.specs.Nodes.{node_at}
 use Rattle.ffc_term.specs.Values.{value_in, value_at}
 use Rattle.ffc_term.specs.Measuring.{value_count, span_of}
-use Rattle.ffc_solve.specs.declared.entry.Entry.{Entry}
-use Rattle.ffc_solve.specs.declared.entry.Entry.TheVariants.{Sat, UnsatCases, Unknown}
 use Rattle.ffc_term.specs.Checks.{AreNodesOf, AreConstantsOf}
 
 -- a constant's number among all constants
@@ -91,4 +92,5 @@ pairs_of (id ∷ declared) (v ∷ assignment) = (id, number_of_value v) ∷ pair
 abbrev pub IsDecided : List Node → List ℕ → List ℕ → Entry → Type 0
 IsDecided nodes declared roots (Sat pairs) = (assignment : List Value) × IsModel nodes declared roots assignment × (pairs ≡ pairs_of declared assignment)
 IsDecided nodes declared roots UnsatCases = ((among : List ℕ) × AreNodesOf nodes roots among) × HasNoModel nodes declared roots
-IsDecided nodes declared roots (Unknown cause) = Unit {0}
+IsDecided nodes declared roots (UnsatSteps lines) = ⊥
+IsDecided nodes declared roots (Unknown cause) = cause ≡ Memory

@@ -1,11 +1,7 @@
-pub mod Source
 pub mod Text
 pub mod Reading
-pub mod Script
-pub mod Tables
-pub mod Certificate
+pub mod States
 pub mod Enumeration
-pub mod Typing
 pub mod Context
 pub mod Judge
 pub mod Answers

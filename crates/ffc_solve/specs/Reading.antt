@@ -8,9 +8,18 @@ use Rattle.std.specs.Prelude.{ℕ, zero, suc, ◌+◌, ◌-◌, ◌*◌, ◌==�
 use Rattle.std.specs.List.{list_all, list_any, starts_with}
 use Rattle.std.specs.Option.{option_map_or}
 use Rattle.std.specs.Str.{bytes_eq}
+use Rattle.ffc_term.specs.declared.node.Sort.{Sort}
+use Rattle.ffc_term.specs.declared.node.Sort.TheVariants.{Field}
+use Rattle.ffc_term.specs.Nodes.{order_of_sort}
+use Rattle.ffc_smt.specs.Terms.{Mul, Equal, Term, Number, Constant, Applied, NoTerm, AndTerm, Command, SetLogic, Declare, Assert, CheckSat}
+use Rattle.ffc_smt.specs.Scripts.{End, Done, AtFault}
 use Rattle.ffc_solve.specs.declared.text.TheConstants.{TAKEN_WORDS}
-use Rattle.ffc_solve.specs.Source.{Sort, Field, Term, Name, Constant, Product, Equal, Command, SetLogic, DeclareConst, Assert, CheckSat, End, Done, Fault, Script}
 use Rattle.ffc_solve.specs.Text.{◌>>=◌, skipped, opened, closed, next_word, worded}
+
+-- the commands of a text, and how it ends
+pub record Script : Type 0 where
+  pub commands : List Command
+  pub end : End
 
 -- what the text before tells: whether the logic is set, the declared name, whether there was an assertion
 pub record Known : Type 0 where
@@ -23,9 +32,9 @@ nothing_known = record { logic = false; name = None; asserted = false }
 
 abbrev pub learned : Known → Command → Known
 learned k SetLogic = record k { logic = true }
-learned k (DeclareConst name sort) = record k { name = Some name }
-learned k (Assert t) = record k { asserted = true }
-learned k CheckSat = k
+learned k (Declare name sort) = record k { name = Some name }
+learned k (Assert label t) = record k { asserted = true }
+learned k _ = k
 
 abbrev pub is_digit : ℕ → Bool
 is_digit b = nat_le 48 b && nat_le b 57
@@ -79,12 +88,12 @@ sort_at text = do
   e ← closed d
   Some (Field 3, e)
 
--- the declared name
+-- the declared name, which stands for the first constant
 unfoldable pub name_at : Known → List ℕ → Option (Term × List ℕ)
 name_at k text = do
   name ← k.name
   rest ← worded name text
-  Some (Name name, rest)
+  Some (Constant 0 (Field 3), rest)
 
 -- behind `(as`
 unfoldable pub constant_at : List ℕ → Option (Term × List ℕ)
@@ -92,7 +101,7 @@ constant_at text = do
   n ← literal_at ((next_word text).0)
   s ← sort_at ((next_word text).1)
   rest ← closed s.1
-  Some (Constant n.0 n.1 s.0, rest)
+  Some (Number n.0 n.1 (order_of_sort s.0), rest)
 
 -- behind `(as`, where it may open this many parentheses
 unfoldable pub literal_term_at : ℕ → List ℕ → Option (Term × List ℕ)
@@ -108,7 +117,7 @@ term_at (suc room) k text =
     if bytes_eq ((next_word inner).0) (codes "as") then literal_term_at room ((next_word inner).1)
     else (worded (codes "ff.mul") inner >>= λ factors.
     term_at room k factors >>= λ a.
-    term_at room k a.1 >>= λ b. closed b.1 >>= λ rest. Some (Product a.0 b.0, rest)))
+    term_at room k a.1 >>= λ b. closed b.1 >>= λ rest. Some (Applied Mul (AndTerm a.0 (AndTerm b.0 NoTerm)), rest)))
     (opened text)
     (name_at k text)
 
@@ -123,7 +132,7 @@ unfoldable pub declaration_at : Known → List ℕ → Option (Command × List �
 declaration_at k text = do
   s ← sort_at ((next_word text).1)
   rest ← closed s.1
-  if k.logic && is_none k.name && is_name ((next_word text).0) then Some (DeclareConst ((next_word text).0) s.0, rest) else None
+  if k.logic && is_none k.name && is_name ((next_word text).0) then Some (Declare ((next_word text).0) s.0, rest) else None
 
 unfoldable pub assertion_at : Known → List ℕ → Option (Command × List ℕ)
 assertion_at k text = do
@@ -133,7 +142,7 @@ assertion_at k text = do
   t ← term_at 254 k s.1
   c ← closed t.1
   rest ← closed c
-  if k.logic && not k.asserted then Some (Assert (Equal s.0 t.0), rest) else None
+  if k.logic && not k.asserted then Some (Assert None (Applied Equal (AndTerm s.0 (AndTerm t.0 NoTerm))), rest) else None
 
 unfoldable pub check_at : Known → List ℕ → Option (Command × List ℕ)
 check_at k text = do
@@ -174,7 +183,7 @@ place_behind front = fold (λ place b. if b == 10 then (place.0 + 1, 1) else (pl
 abbrev pub end_at : List ℕ → List ℕ → End
 end_at bytes unread =
     if length unread == 0 && nat_le (length bytes) 65536 then Done
-    else (let place = place_behind (take (length (counted bytes) - length unread) (counted bytes)) in Fault place.0 place.1 18)
+    else (let place = place_behind (take (length (counted bytes) - length unread) (counted bytes)) in AtFault place.0 place.1 18)
 
 -- what a text reads as
 abbrev pub reads : List ℕ → Script

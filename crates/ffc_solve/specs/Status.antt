@@ -2,8 +2,8 @@
 use Rattle.std.specs.Prelude.{◌≡◌, ℕ, Bool, true, false, List, Option}
 use Rattle.ffc_solve.specs.declared.solve.SolveStatus.{SolveStatus}
 use Rattle.ffc_solve.specs.declared.solve.SolveStatus.TheVariants.{Done, Refused, Usage, ReadFault, WriteFault, CertFault, Memory}
-use Rattle.ffc_solve.specs.Source as source
-use Rattle.ffc_solve.specs.Source.{End}
+use Rattle.ffc_smt.specs.Scripts as scripts
+use Rattle.ffc_smt.specs.Scripts.{End}
 use Rattle.ffc_solve.specs.Reading.{reads}
 use Rattle.ffc_solve.specs.Solving.{IsWhole, IsStopped}
 
@@ -19,8 +19,8 @@ code_of Memory = 6
 
 -- the text has a fault
 abbrev pub is_fault : End → Bool
-is_fault source.Done = false
-is_fault (source.Fault at_line column code) = true
+is_fault scripts.Done = false
+is_fault (scripts.AtFault at_line column code) = true
 
 -- What a status says of the certificate and the answers, before and after the run, where these are the script's bytes.
 abbrev pub IsLeft : SolveStatus → List ℕ → Option (List ℕ) → Option (List ℕ) → Option (List ℕ) → Option (List ℕ) → Type 0

@@ -2,22 +2,23 @@
 use Rattle.std.specs.Prelude.{◌≡◌, ℕ, ◌<◌, ◌⊎◌, List, [], ◌++◌, length, take, Option}
 use Rattle.std.specs.List.{flat_map}
 use Rattle.ffc_base.specs.Outside.{Appends, AppendsPrefix}
-use Rattle.ffc_solve.specs.Source.{Command, End}
-use Rattle.ffc_solve.specs.Tables.{Seen, nothing_seen, AreSeen}
-use Rattle.ffc_solve.specs.Certificate.{entry_text}
+use Rattle.ffc_cert.specs.Spelling.{entry_text}
+use Rattle.ffc_cert.specs.declared.entries.Entry.{Entry}
+use Rattle.ffc_smt.specs.Terms.{Command}
+use Rattle.ffc_smt.specs.Scopes.{State, first_state}
+use Rattle.ffc_smt.specs.Scripts.{End}
+use Rattle.ffc_solve.specs.States.{states_checked}
 use Rattle.ffc_solve.specs.Answers.{verdict, answers_to}
 use Rattle.ffc_solve.specs.Solving.{AreEntries}
-use Rattle.ffc_solve.specs.declared.entry.Entry.{Entry}
 
 -- The first commands are answered, and the others are still to come.
-pub record IsUnderway (all : List Command) (end : End) (now : Seen) (rest : List Command) (cert_old cert_new out_old out_new : Option (List ℕ)) : Type 0 where
+pub record IsUnderway (all : List Command) (end : End) (now : State) (rest : List Command) (cert_old cert_new out_old out_new : Option (List ℕ)) : Type 0 where
   pub done : List Command
   pub split : all ≡ done ++ rest
-  pub checks : List Seen
-  pub seen : (more : List Command) (later : List Seen) → AreSeen now more later → AreSeen nothing_seen (done ++ more) (checks ++ later)
+  pub checked : (more : List Command) → states_checked first_state (done ++ more) ≡ states_checked first_state done ++ states_checked now more
   pub entries : List Entry
-  pub each : AreEntries checks entries
-  pub count : length entries ≡ length checks
+  pub each : AreEntries (states_checked first_state done) entries
+  pub count : length entries ≡ length (states_checked first_state done)
   pub certificate : Appends (flat_map entry_text entries) cert_old cert_new
   pub text : List ℕ
   pub answered : Appends text out_old out_new
@@ -25,11 +26,9 @@ pub record IsUnderway (all : List Command) (end : End) (now : Seen) (rest : List
 
 -- All commands and the end are answered.
 pub record IsAnswered (all : List Command) (end : End) (cert_old cert_new out_old out_new : Option (List ℕ)) : Type 0 where
-  pub checks : List Seen
-  pub seen : AreSeen nothing_seen all checks
   pub entries : List Entry
-  pub each : AreEntries checks entries
-  pub count : length entries ≡ length checks
+  pub each : AreEntries (states_checked first_state all) entries
+  pub count : length entries ≡ length (states_checked first_state all)
   pub certificate : Appends (flat_map entry_text entries) cert_old cert_new
   pub answered : Appends (answers_to all end entries) out_old out_new
 
@@ -38,10 +37,8 @@ pub record IsCut (all : List Command) (end : End) (cert_old cert_new out_old out
   pub done : List Command
   pub later : List Command
   pub split : all ≡ done ++ later
-  pub checks : List Seen
-  pub seen : AreSeen nothing_seen done checks
   pub entries : List Entry
-  pub each : AreEntries checks entries
+  pub each : AreEntries (states_checked first_state done) entries
   pub entry : Entry
   pub size : ℕ
   pub short : size < length (entry_text entry)
@@ -56,4 +53,4 @@ IsHalfTold entry cert_old cert_new out_old out_new =
 
 -- The commands that a text begins with are answered, whatever its end is.
 abbrev pub AreAnswered : List Command → Option (List ℕ) → Option (List ℕ) → Option (List ℕ) → Option (List ℕ) → Type 0
-AreAnswered commands cert_old cert_new out_old out_new = (end : End) → (now : Seen) × IsUnderway commands end now [] cert_old cert_new out_old out_new
+AreAnswered commands cert_old cert_new out_old out_new = (end : End) → (now : State) × IsUnderway commands end now [] cert_old cert_new out_old out_new

@@ -2,7 +2,7 @@
 ghost use Rattle.std.specs.Prelude.{◌≡◌, IfOk, string_bytes};
 ghost use Rattle.ffc_solve.specs.Answers.{verdict, fault_text};
 
-use crate::entry::Entry;
+use ffc_cert::Entry;
 use std::alloc::{AllocError, Global};
 
 /// The answer to a check.
@@ -11,7 +11,7 @@ pub fn verdict_of(entry: &Entry) -> &'static str
 {
     match entry {
         Entry::Sat(_) => "sat\n",
-        Entry::UnsatCases => "unsat\n",
+        Entry::UnsatCases | Entry::UnsatSteps(_) => "unsat\n",
         Entry::Unknown(_) => "unknown\n",
     }
 }

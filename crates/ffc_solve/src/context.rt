@@ -3,8 +3,8 @@ ghost use Rattle.std.specs.Prelude.{◌≡◌, ℕ, ◌+◌, ◌<◌, ◌≤◌,
 ghost use Rattle.ffc_term.specs.declared.node.Node.{Node as ANode};
 ghost use Rattle.ffc_term.specs.declared.node.Node.TheVariants as node_is;
 ghost use Rattle.ffc_term.specs.Tables.{Fits, IsFieldAt, IsFieldIte, IsNumbered, IsInterned, IsTable, constant_count, most_nodes};
+ghost use Rattle.ffc_smt.specs.Meaning.{residue_of_number};
 ghost use Rattle.ffc_solve.specs.Reading.{term_at, name_at, literal_term_at, logic_at, declaration_at, assertion_at, check_at, command_at};
-ghost use Rattle.ffc_solve.specs.Script.{residue_of};
 ghost use Rattle.ffc_solve.specs.Context.{known_of, HasConstant, FindsTerm, FindsStep};
 
 use crate::text::{after_byte, after_word, is_name, literal, sort, split_word};
@@ -49,9 +49,12 @@ fn put(table: &mut NodeTable, node: Node) -> Result<NodeId, AllocError>
     requires plain { ¬ (IsFieldIte node) }
     requires numbered { Contains table.old node ⊎ IsNumbered table.old node }
     requires room { length table.old < most_nodes }
-    ensures { IfOk result (IsInterned table.old table.new node) }
+    ensures asked { IfOk result (IsInterned table.old table.new node) }
+    ensures formed { OnOk result (IsTable table.new) }
 {
-    match table.intern(node) {
+    let found = table.intern(node);
+    let _nodes = table.len();
+    match found {
         Ok(id) => Ok(id),
         Err(TermStop::Memory) => Err(AllocError),
         Err(TermStop::Nodes) => unreachable!(),
@@ -60,7 +63,7 @@ fn put(table: &mut NodeTable, node: Node) -> Result<NodeId, AllocError>
 
 /// The residue of a number.
 fn residue(negative: bool, size: u64) -> u64
-    ensures value { result ≡ residue_of 3 negative size }
+    ensures value { result ≡ residue_of_number negative size 3 }
     ensures below { result < 3 }
 {
     let residue = F3::of(u128::from(size));
@@ -79,8 +82,9 @@ fn name<'t>(
     table: &mut NodeTable,
 ) -> Result<Option<(NodeId, &'t [u8])>, AllocError>
     requires { HasConstant known.constant table.old }
-    ensures { IfOk result (FindsTerm known.entry table.old table.new text.now (name_at (known_of known.entry) text.now)) }
+    ensures { IfOk result (FindsTerm table.old table.new text.now (name_at (known_of known.entry) text.now)) }
 {
+    let _nodes = table.len();
     let Some(constant) = known.constant else {
         return Ok(None);
     };
@@ -99,7 +103,7 @@ fn constant_term<'t>(
     table: &mut NodeTable,
 ) -> Result<Option<(NodeId, &'t [u8])>, AllocError>
     requires { length table.old + length text.now ≤ most_nodes }
-    ensures { IfOk result (FindsTerm known.entry table.old table.new text.now (literal_term_at room text.now)) }
+    ensures { IfOk result (FindsTerm table.old table.new text.now (literal_term_at room text.now)) }
 {
     if room == 0 {
         return Ok(None);
@@ -127,9 +131,7 @@ fn product(alloc: Global, table: &mut NodeTable, a: NodeId, b: NodeId) -> Result
     ensures formed { OnOk result (IsTable table.new) }
 {
     let factors = NodeList::new(vec![in alloc; a, b]?);
-    let id = put(table, Node::Mul(factors))?;
-    let _nodes = table.len();
-    Ok(id)
+    put(table, Node::Mul(factors))
 }
 
 /// A term inside which `room` parentheses may still be opened: its nodes are made.
@@ -145,7 +147,7 @@ fn term<'t>(
 ) -> Result<Option<(NodeId, &'t [u8])>, AllocError>
     requires constant { HasConstant known.constant table.old }
     requires room { length table.old + length text.now ≤ most_nodes }
-    ensures { IfOk result (FindsTerm known.entry table.old table.new text.now (term_at room (known_of known.entry) text.now)) }
+    ensures { IfOk result (FindsTerm table.old table.new text.now (term_at room (known_of known.entry) text.now)) }
 {
     if room == 0 {
         let found = name(known, text, table)?;

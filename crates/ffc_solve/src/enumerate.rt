@@ -10,7 +10,7 @@ ghost use Rattle.ffc_term.specs.Checks.{IsClosed, IsValidCheck, AreNodesOf, AreC
 ghost use Rattle.ffc_term.specs.Measuring.{value_count, span_of};
 ghost use Rattle.ffc_solve.specs.Enumeration.{number_of_constant, value_of_digit, zero_for, HasDigits, HaveValues, AreTrue, IsRefuted, AreNumbered, IsSmall, IsModel, HasNoModel, IsDecided, number_of_value, pairs_of};
 
-use crate::entry::{Entry, Values};
+use ffc_cert::{Entry, Sequence};
 use ffc_term::{Assignment, Check, Node, NodeId, NodeTable, Value};
 use std::alloc::{AllocError, Global};
 
@@ -32,13 +32,17 @@ pub fn decide(alloc: Global, check: &Check) -> Result<Entry, AllocError>
 }
 
 /// The values of the declared constants, as a certificate lists them.
-fn listed(alloc: Global, declared: &[NodeId], values: &[Value]) -> Result<Values, AllocError>
+fn listed(
+    alloc: Global,
+    declared: &[NodeId],
+    values: &[Value],
+) -> Result<Sequence<(u32, u64)>, AllocError>
     requires { length values.now ≡ length declared.now }
     ensures { IfOk result (λ pairs. pairs ≡ pairs_of declared.now values.now) }
 {
-    let mut pairs = Values::new(alloc);
+    let mut pairs = Sequence::new(alloc);
     for (i, id) in declared.iter().enumerate() {
-        pairs.push(*id, number_of(values[i]))?;
+        pairs.push((*id, number_of(values[i])))?;
     }
     Ok(pairs)
 }

@@ -3,7 +3,6 @@
 
 mod answer;
 mod context;
-mod entry;
 mod enumerate;
 mod script;
 mod solve;

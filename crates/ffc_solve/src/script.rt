@@ -1,38 +1,42 @@
 //! Answers the commands of a script one by one, and then its end.
 ghost use Rattle.std.specs.Prelude.{◌≡◌, ℕ, ◌≤◌, ◌==◌, ◌&&◌, nat_le, length, OnOk, OnErr, IfOk, IfErr, IsErrOf};
 ghost use Rattle.ffc_base.specs.Outside.{Rose, Appends, AppendsPrefix};
+ghost use Rattle.ffc_cert.specs.Spelling.{entry_text};
+ghost use Rattle.ffc_cert.specs.WellFormed.{FitsVersion};
 ghost use Rattle.ffc_term.specs.Checks.{IsValidCheck};
-ghost use Rattle.ffc_solve.specs.Source.{End};
+ghost use Rattle.ffc_smt.specs.Scripts.{End};
 ghost use Rattle.ffc_solve.specs.Reading.{commands_at, nothing_known, reads, place_behind};
 ghost use Rattle.ffc_solve.specs.Enumeration.{AreNumbered, IsSmall, IsDecided};
-ghost use Rattle.ffc_solve.specs.Context.{constants_of, root_nodes};
-ghost use Rattle.ffc_solve.specs.Certificate.{entry_text};
+ghost use Rattle.ffc_solve.specs.Context.{constants_of, root_ids};
 ghost use Rattle.ffc_solve.specs.Answers.{verdict};
 ghost use Rattle.ffc_solve.specs.Underway.{IsAnswered, IsCut, IsHalfTold, AreAnswered};
 ghost use Rattle.ffc_solve.specs.Status.{is_fault};
 
 use crate::answer::{text_of_fault, verdict_of};
 use crate::context::{Known, ORDER, take_command};
-use crate::entry::{Cause, Entry, text_of_entry};
 use crate::enumerate::decide;
 use crate::stop::{Stop, write_answer, write_certificate};
 use crate::text::skip;
 use ffc_base::Sink;
+use ffc_cert::{Cause, Entry, write_entry};
 use ffc_term::{Check, NodeId, NodeTable};
 use std::alloc::{AllocError, Global};
 
 /// How many bytes of a script count.
 const MOST_COUNTED: usize = 65_536;
 
+/// The version of the certificate's text.
+const VERSION: u8 = 2;
+
 /// The code of a fault of the text.
 const FAULT: u8 = 18;
 
 /// The entry of a check of what is known. The one answer that is neither `sat` nor `unsat` is that memory was wanting.
 fn entry_of(alloc: Global, known: Known, table: &NodeTable) -> Entry
-    requires valid { IsValidCheck table.now (constants_of known) (root_nodes known.asserted) 3 }
+    requires valid { IsValidCheck table.now (constants_of known) (root_ids known.asserted) 3 }
     requires numbered { AreNumbered table.now (constants_of known) }
-    requires small { IsSmall table.now (root_nodes known.asserted) }
-    ensures { IsDecided table.now (constants_of known.entry) (root_nodes known.entry.asserted) result }
+    requires small { IsSmall table.now (root_ids known.asserted) }
+    ensures { IsDecided table.now (constants_of known.entry) (root_ids known.entry.asserted) result }
 {
     match decided(alloc, known, table) {
         Ok(entry) => entry,
@@ -41,10 +45,10 @@ fn entry_of(alloc: Global, known: Known, table: &NodeTable) -> Entry
 }
 
 fn decided(alloc: Global, known: Known, table: &NodeTable) -> Result<Entry, AllocError>
-    requires valid { IsValidCheck table.now (constants_of known) (root_nodes known.asserted) 3 }
+    requires valid { IsValidCheck table.now (constants_of known) (root_ids known.asserted) 3 }
     requires numbered { AreNumbered table.now (constants_of known) }
-    requires small { IsSmall table.now (root_nodes known.asserted) }
-    ensures { IfOk result (IsDecided table.now (constants_of known.entry) (root_nodes known.entry.asserted)) }
+    requires small { IsSmall table.now (root_ids known.asserted) }
+    ensures { IfOk result (IsDecided table.now (constants_of known.entry) (root_ids known.entry.asserted)) }
 {
     let declared = listed(alloc, constant_of(known))?;
     let in_force = listed(alloc, known.asserted)?;
@@ -59,14 +63,14 @@ fn decided(alloc: Global, known: Known, table: &NodeTable) -> Result<Entry, Allo
 
 /// The node of the declared constant.
 fn constant_of(known: Known) -> Option<NodeId>
-    ensures { root_nodes result ≡ constants_of known.entry }
+    ensures { root_ids result ≡ constants_of known.entry }
 {
     let constant = known.constant?;
     Some(constant.node)
 }
 
 fn listed(alloc: Global, id: Option<NodeId>) -> Result<Vec<NodeId>, AllocError>
-    ensures { IfOk result (λ ids. ids.items ≡ root_nodes id) }
+    ensures { IfOk result (λ ids. ids.items ≡ root_ids id) }
 {
     let mut ids = Vec::new(alloc);
     if let Some(id) = id {
@@ -78,21 +82,23 @@ fn listed(alloc: Global, id: Option<NodeId>) -> Result<Vec<NodeId>, AllocError>
 /// Writes the entry of a check, and then its verdict.
 fn tell<O: Sink, C: Sink>(
     alloc: Global,
-    entry: &Entry,
+    entry: Entry,
     out: &mut O,
     cert: &mut C,
 ) -> Result<(), Stop>
-    ensures ok { OnOk result (Appends (entry_text entry.now) (C.holds cert.old) (C.holds cert.new) × Appends (verdict entry.now) (O.holds out.old) (O.holds out.new)) }
-    ensures err { OnErr result (IsHalfTold entry.now (C.holds cert.old) (C.holds cert.new) (O.holds out.old) (O.holds out.new)) }
+    requires { FitsVersion 2 entry }
+    ensures ok { OnOk result (Appends (entry_text entry) (C.holds cert.old) (C.holds cert.new) × Appends (verdict entry) (O.holds out.old) (O.holds out.new)) }
+    ensures err { OnErr result (IsHalfTold entry (C.holds cert.old) (C.holds cert.new) (O.holds out.old) (O.holds out.new)) }
     ensures later_out { O.faults out.old ≤ O.faults out.new }
     ensures later_cert { C.faults cert.old ≤ C.faults cert.new }
     ensures cause_out { IsErrOf result Stop.WriteFault → Rose (O.faults out.old) (O.faults out.new) }
     ensures cause_cert { IsErrOf result Stop.CertFault → Rose (C.faults cert.old) (C.faults cert.new) }
     ensures only { ¬ (IsErrOf result Stop.ReadFault) }
 {
-    let text = text_of_entry(alloc, entry)?;
-    write_certificate(cert, text.as_bytes())?;
-    write_answer(out, verdict_of(entry).as_bytes())
+    let mut text = Vec::new(alloc);
+    write_entry(alloc, VERSION, &entry, &mut text)?;
+    write_certificate(cert, text.as_slice())?;
+    write_answer(out, verdict_of(&entry).as_bytes())
 }
 
 /// Answers the commands that a text begins with, and says what follows them.
@@ -128,7 +134,7 @@ fn answer_commands<'t, O: Sink, C: Sink>(
         let _nodes = table.len();
         if step.is_check {
             let entry = entry_of(alloc, known, &table);
-            tell(alloc, &entry, out, cert)?;
+            tell(alloc, entry, out, cert)?;
         }
         known = step.known;
         rest = step.rest;

@@ -1,7 +1,7 @@
 //! Why a run stopped, and the calls of the outside with that answer.
 ghost use Rattle.std.specs.Prelude.{◌≡◌, ℕ, ◌<◌, ◌≤◌, ◌-◌, ◌⊎◌, take, length, OnOk, OnErr, IfOk, IfErr, IfSome, IsErrOf, vec_len};
 ghost use Rattle.ffc_base.specs.Outside.{Rose, Becomes, Appends, AppendsPrefix};
-ghost use Rattle.ffc_solve.specs.Certificate.{first_line};
+ghost use Rattle.ffc_cert.specs.Spelling.{header};
 
 use ffc_base::{NamedSink, Sink, Source, WriteStop};
 use std::alloc::{AllocError, Global};
@@ -67,8 +67,8 @@ pub fn write_certificate<C: Sink>(cert: &mut C, text: &[u8]) -> Result<(), Stop>
 
 /// Creates the certificate of this name, and writes its first line.
 pub fn create_certificate<C: NamedSink>(cert: &mut C, name: &str) -> Result<(), Stop>
-    ensures ok { OnOk result (Becomes first_line (C.holds cert.old) (C.holds cert.new)) }
-    ensures err { OnErr result ((C.holds cert.new ≡ C.holds cert.old) ⊎ ((n : ℕ) × Becomes (take n first_line) (C.holds cert.old) (C.holds cert.new))) }
+    ensures ok { OnOk result (Becomes (header 2) (C.holds cert.old) (C.holds cert.new)) }
+    ensures err { OnErr result ((C.holds cert.new ≡ C.holds cert.old) ⊎ ((n : ℕ) × Becomes (take n (header 2)) (C.holds cert.old) (C.holds cert.new))) }
     ensures later { C.faults cert.old ≤ C.faults cert.new }
     ensures cause { IsErrOf result Stop.CertFault → Rose (C.faults cert.old) (C.faults cert.new) }
     ensures only { IfErr result (λ stop. (stop ≡ Stop.CertFault) ⊎ (stop ≡ Stop.Memory)) }

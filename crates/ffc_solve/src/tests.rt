@@ -6,6 +6,7 @@
 use crate::{SolveStatus, solve_main};
 use ffc_base::{MemSink, MemSource, Source, SureSink, SureSource};
 use std::alloc::{AllocError, Global};
+use std::process::Abort;
 use std::test::Fail;
 
 const WORDS: [&str; 3] = ["ffsolve", "--cert", "c"];
@@ -64,6 +65,21 @@ fn assembled(alloc: Global, pieces: &[(&str, usize)]) -> Result<String, AllocErr
     Ok(text)
 }
 
+/// Each script ends so, with these answers and these entries.
+fn check_scripts(
+    rt: &impl Abort,
+    alloc: Global,
+    status: SolveStatus,
+    table: &[(&str, &str, &str)],
+) -> Result<(), Fail> {
+    for (script, answers, entries) in table {
+        let ended = run_script(alloc, script)?;
+        let wanted = answered(alloc, status, answers, entries)?;
+        assert_eq!(rt; ended, wanted, "at {script:?}");
+    }
+    Ok(())
+}
+
 #[test]
 fn scripts_are_answered(rt: HostRuntime) -> Result<(), Fail> {
     let table = [
@@ -114,16 +130,11 @@ fn scripts_are_answered(rt: HostRuntime) -> Result<(), Fail> {
             "unsat e\n",
         ),
     ];
-    for (script, answers, entries) in table {
-        let ended = run_script(rt.alloc(), script)?;
-        let wanted = answered(rt.alloc(), SolveStatus::Done, answers, entries)?;
-        assert_eq!(rt; ended, wanted, "at {script:?}");
-    }
-    Ok(())
+    check_scripts(&rt, rt.alloc(), SolveStatus::Done, table.as_slice())
 }
 
 #[test]
-fn faulty_scripts_are_refused(rt: HostRuntime) -> Result<(), Fail> {
+fn faulty_texts_are_refused(rt: HostRuntime) -> Result<(), Fail> {
     let table = [
         // The logic comes first, once, and is the one that is known.
         ("(check-sat)", "(error \"1:1 18\")\n", ""),
@@ -151,6 +162,13 @@ fn faulty_scripts_are_refused(rt: HostRuntime) -> Result<(), Fail> {
             "sat\n(error \"2:3 18\")\n",
             "sat 0\n",
         ),
+    ];
+    check_scripts(&rt, rt.alloc(), SolveStatus::Refused, table.as_slice())
+}
+
+#[test]
+fn faulty_declarations_and_terms_are_refused(rt: HostRuntime) -> Result<(), Fail> {
+    let table = [
         // The order is 3, one constant is declared, and a name that is used is declared.
         (
             "(set-logic QF_FF)\n\n(declare-const x (_ FiniteField 5))",
@@ -189,12 +207,7 @@ fn faulty_scripts_are_refused(rt: HostRuntime) -> Result<(), Fail> {
             "sat 1\n= 0 1\n",
         ),
     ];
-    for (script, answers, entries) in table {
-        let ended = run_script(rt.alloc(), script)?;
-        let wanted = answered(rt.alloc(), SolveStatus::Refused, answers, entries)?;
-        assert_eq!(rt; ended, wanted, "at {script:?}");
-    }
-    Ok(())
+    check_scripts(&rt, rt.alloc(), SolveStatus::Refused, table.as_slice())
 }
 
 #[test]
@@ -285,13 +298,25 @@ fn names_are_told_from_other_words(rt: HostRuntime) -> Result<(), Fail> {
     Ok(())
 }
 
+/// Each text, assembled from its pieces, ends so.
+fn check_pieces(
+    rt: &impl Abort,
+    alloc: Global,
+    table: &[([(&str, usize); 5], SolveStatus, &str, &str)],
+) -> Result<(), Fail> {
+    for (pieces, status, answers, entries) in table {
+        let script = assembled(alloc, pieces.as_slice())?;
+        let ended = run_script(alloc, script.as_str())?;
+        let wanted = answered(alloc, *status, answers, entries)?;
+        assert_eq!(rt; ended, wanted, "at {pieces:?}");
+    }
+    Ok(())
+}
+
 #[test]
-fn limits_are_met_and_not_passed(rt: HostRuntime) -> Result<(), Fail> {
+fn only_so_many_bytes_count(rt: HostRuntime) -> Result<(), Fail> {
     let logic = "(set-logic QF_FF)";
     let check = "(check-sat)";
-    let front = "(set-logic QF_FF)(declare-const x (_ FiniteField 3))\n(assert (= ";
-    let behind = " (as ff2 (_ FiniteField 3))))(check-sat)";
-    let one_times = "(ff.mul (as ff1 (_ FiniteField 3)) ";
     let table = [
         // 17 + 65,508 + 11 bytes are 65,536: all count, in either order.
         (
@@ -326,6 +351,16 @@ fn limits_are_met_and_not_passed(rt: HostRuntime) -> Result<(), Fail> {
             "(error \"65537:1 18\")\n",
             "",
         ),
+    ];
+    check_pieces(&rt, rt.alloc(), table.as_slice())
+}
+
+#[test]
+fn only_so_many_parentheses_open(rt: HostRuntime) -> Result<(), Fail> {
+    let front = "(set-logic QF_FF)(declare-const x (_ FiniteField 3))\n(assert (= ";
+    let behind = " (as ff2 (_ FiniteField 3))))(check-sat)";
+    let one_times = "(ff.mul (as ff1 (_ FiniteField 3)) ";
+    let table = [
         // 254 products inside an equality that is asserted: 256 are open. The 255th power of x is x.
         (
             [
@@ -377,13 +412,7 @@ fn limits_are_met_and_not_passed(rt: HostRuntime) -> Result<(), Fail> {
             "",
         ),
     ];
-    for (pieces, status, answers, entries) in table {
-        let script = assembled(rt.alloc(), pieces.as_slice())?;
-        let ended = run_script(rt.alloc(), script.as_str())?;
-        let wanted = answered(rt.alloc(), status, answers, entries)?;
-        assert_eq!(rt; ended, wanted, "at {pieces:?}");
-    }
-    Ok(())
+    check_pieces(&rt, rt.alloc(), table.as_slice())
 }
 
 #[test]
@@ -413,109 +442,126 @@ fn other_words_change_nothing(rt: HostRuntime) -> Result<(), Fail> {
     Ok(())
 }
 
+/// How a run over objects of which some calls fail ended, with the number of its status.
+#[derive(Debug, Drop, PartialEq)]
+struct Failed {
+    code: u8,
+    ended: Ended,
+}
+
+/// The numbers of the calls that fail, with how many bytes these still take: of the script, of the output, of the
+/// certificate.
+type Failing = (u64, (u64, usize), (u64, usize));
+
+/// A call that doesn't come.
+const NEVER: u64 = 99;
+
+fn run_failing(alloc: Global, failing: Failing) -> Result<Failed, Fail> {
+    let (read, write, entry) = failing;
+    let script = b"(set-logic QF_FF)(check-sat)!".to_vec(alloc)?;
+    let mut script = MemSource::new(script, 5, [read].to_vec(alloc)?);
+    let mut out = MemSink::new(b"old".to_vec(alloc)?, [write].to_vec(alloc)?);
+    let mut cert = MemSink::new(b"old".to_vec(alloc)?, [entry].to_vec(alloc)?);
+    let status = solve_main(alloc, WORDS.as_slice(), &mut script, &mut out, &mut cert);
+    Ok(Failed {
+        code: status.code(),
+        ended: Ended {
+            status,
+            out: String::from_str(alloc, str::from_utf8(out.bytes())?)?,
+            cert: String::from_str(alloc, str::from_utf8(cert.bytes())?)?,
+        },
+    })
+}
+
+/// Each run ends with this status and its number, and the output and the certificate hold this.
+fn check_failing(
+    rt: &impl Abort,
+    alloc: Global,
+    table: &[(Failing, SolveStatus, u8, &str, &str)],
+) -> Result<(), Fail> {
+    for (failing, status, code, out, cert) in table {
+        let ended = run_failing(alloc, *failing)?;
+        let wanted = Failed {
+            code: *code,
+            ended: Ended {
+                status: *status,
+                out: String::from_str(alloc, out)?,
+                cert: String::from_str(alloc, cert)?,
+            },
+        };
+        assert_eq!(rt; ended, wanted, "at {failing:?}");
+    }
+    Ok(())
+}
+
 #[test]
-fn failing_calls_have_their_status(rt: HostRuntime) -> Result<(), Fail> {
-    let never = 99;
-    // The numbers of the calls that fail, of the script's, the output's and the certificate's, with how many bytes these
-    // two still take; then the status and its number, and what the output and the certificate hold.
+fn failing_reads_and_answers_have_their_status(rt: HostRuntime) -> Result<(), Fail> {
+    let begun = "ffcert 2\n";
+    let one = "ffcert 2\nsat 0\n";
     let table = [
         (
-            never,
-            (never, 0),
-            (never, 0),
+            (NEVER, (NEVER, 0), (NEVER, 0)),
             SolveStatus::Refused,
             1,
             "oldsat\n(error \"1:29 18\")\n",
-            "ffcert 2\nsat 0\n",
+            one,
         ),
         (
-            1,
-            (never, 0),
-            (never, 0),
+            (1, (NEVER, 0), (NEVER, 0)),
             SolveStatus::ReadFault,
             3,
             "old",
-            "ffcert 2\n",
+            begun,
         ),
         (
-            2,
-            (never, 0),
-            (never, 0),
+            (2, (NEVER, 0), (NEVER, 0)),
             SolveStatus::ReadFault,
             3,
             "old",
-            "ffcert 2\n",
+            begun,
         ),
         (
-            never,
-            (1, 2),
-            (never, 0),
+            (NEVER, (1, 2), (NEVER, 0)),
             SolveStatus::WriteFault,
             4,
             "oldsa",
-            "ffcert 2\nsat 0\n",
+            one,
         ),
         (
-            never,
-            (2, 1),
-            (never, 0),
+            (NEVER, (2, 1), (NEVER, 0)),
             SolveStatus::WriteFault,
             4,
             "oldsat\n(",
-            "ffcert 2\nsat 0\n",
+            one,
         ),
+    ];
+    check_failing(&rt, rt.alloc(), table.as_slice())
+}
+
+#[test]
+fn a_failing_certificate_has_its_status(rt: HostRuntime) -> Result<(), Fail> {
+    let table = [
         (
-            never,
-            (never, 0),
-            (1, 0),
+            (NEVER, (NEVER, 0), (1, 0)),
             SolveStatus::CertFault,
             5,
             "old",
             "old",
         ),
         (
-            never,
-            (never, 0),
-            (2, 4),
+            (NEVER, (NEVER, 0), (2, 4)),
             SolveStatus::CertFault,
             5,
             "old",
             "ffce",
         ),
         (
-            never,
-            (never, 0),
-            (3, 3),
+            (NEVER, (NEVER, 0), (3, 3)),
             SolveStatus::CertFault,
             5,
             "old",
             "ffcert 2\nsat",
         ),
     ];
-    for (read, write, entry, status, code, out_text, cert_text) in table {
-        let script = b"(set-logic QF_FF)(check-sat)!".to_vec(rt.alloc())?;
-        let mut script = MemSource::new(script, 5, [read].to_vec(rt.alloc())?);
-        let mut out = MemSink::new(b"old".to_vec(rt.alloc())?, [write].to_vec(rt.alloc())?);
-        let mut cert = MemSink::new(b"old".to_vec(rt.alloc())?, [entry].to_vec(rt.alloc())?);
-        let answer = solve_main(
-            rt.alloc(),
-            WORDS.as_slice(),
-            &mut script,
-            &mut out,
-            &mut cert,
-        );
-        assert_eq!(rt; answer, status, "at {read} {write:?} {entry:?}");
-        assert_eq!(rt; answer.code(), code);
-        assert_eq!(rt;
-            out.bytes(),
-            out_text.as_bytes(),
-            "at {read} {write:?} {entry:?}"
-        );
-        assert_eq!(rt;
-            cert.bytes(),
-            cert_text.as_bytes(),
-            "at {read} {write:?} {entry:?}"
-        );
-    }
-    Ok(())
+    check_failing(&rt, rt.alloc(), table.as_slice())
 }

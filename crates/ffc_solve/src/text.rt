@@ -4,9 +4,9 @@ ghost use Rattle.std.specs.Prelude.{◌≡◌, ◌<◌, ◌≤◌, length, IsTru
 ghost use Rattle.std.specs.List.{prefix_len, list_all, list_any};
 ghost use Rattle.std.specs.Option.{option_copied};
 ghost use Rattle.std.specs.Str.{bytes_eq};
+ghost use Rattle.ffc_term.specs.declared.node.Sort.TheVariants.{Field};
 ghost use Rattle.ffc_solve.specs.Text.{skipped, is_space, is_word, behind_byte, next_word, worded};
 ghost use Rattle.ffc_solve.specs.Reading.{is_digit, is_letter, is_name_byte, is_name, is_taken, number_of, behind, digits_at, signed_at, literal_at, sort_at};
-ghost use Rattle.ffc_solve.specs.Source.{Field};
 
 /// The words that no constant may have for a name.
 const TAKEN_WORDS: [&str; 25] = [

@@ -1,5 +1,5 @@
 use Rattle.std.proofs.Common.{◌≡◌, ◌<◌, length, true, Some, None, arith, rules}
-use Rattle.ffc_solve.specs.Source.{Field}
+use Rattle.ffc_term.specs.declared.node.Sort.TheVariants.{Field}
 use Rattle.ffc_solve.specs.Reading.{sort_at, is_name}
 use Rattle.ffc_solve.specs.Text.{closed, next_word}
 use Rattle.ffc_solve.proofs.Terms.{three_is_order}
@@ -19,4 +19,4 @@ returns c =
     let name_is : c.split_word.result.0.now ≡ (next_word c.args.text.now).0 = search rules in
     let shorter : length c.in-Some-after_byte.rest.now < length c.args.text.now = search (rules, arith) in
     declaration_found c.args.known c.args.table.now c.put.new.table c.args.text.now c.in-Some.text.now c.split_word.result.0 c.in_ok-node.node c.in-Some-after_byte.rest
-    logic unnamed is_sort is_closed is_a_name name_is c.in_ok-node.ensures shorter
+    logic unnamed is_sort is_closed is_a_name name_is c.in_ok-node.ensures.asked c.in_ok-node.ensures.formed.well_formed shorter

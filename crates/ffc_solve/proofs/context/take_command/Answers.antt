@@ -1,6 +1,6 @@
 use Rattle.std.proofs.Common.{◌≡◌, ℕ, List, Option, true, false, Some, codes, sym, ap, subst, ◌∙◌, arith, rules}
 use Rattle.std.specs.Str.{bytes_eq}
-use Rattle.ffc_solve.specs.Source.{Command}
+use Rattle.ffc_smt.specs.Terms.{Command}
 use Rattle.ffc_solve.specs.Text.{opened, next_word}
 use Rattle.ffc_solve.specs.Reading.{logic_at, check_at, command_at}
 use Rattle.ffc_solve.specs.Context.{known_of, FindsStep}

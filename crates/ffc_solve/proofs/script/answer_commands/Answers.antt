@@ -7,7 +7,7 @@ use Rattle.ffc_solve.proofs.Commands.{none_took}
 use Rattle.ffc_solve.proofs.Pieces.{on_err}
 use Rattle.ffc_solve.proofs.Reached.{reached_begins, has_constant, is_unnamed, reached_cut, reached_end, next_shorter, next_quiet, next_checked, next_half, next_valid, next_numbered, next_small}
 use Rattle.ffc_solve.proofs.script.answer_commands.Goals as goal
-use Rattle.ffc_solve.proofs.script.answer_commands.Goals.{then-step+in_ok-tell+in-Sat-1, then-step+in_ok-tell+in-UnsatCases-1, else-step}
+use Rattle.ffc_solve.proofs.script.answer_commands.Goals.{then-step+in_ok-tell, else-step}
 
 pub returns-in_err-table-clause-err : goal.returns-in_err-table-clause-err
 returns-in_err-table-clause-err g c =
@@ -68,15 +68,7 @@ returns-in_err-tell-clause-err g c =
 pub loop-table-preserved : goal.loop-table-preserved
 loop-table-preserved g c =
     elim c.if-step.branch [
-      | then-step+in_ok-tell+in-Sat-1 w ↦ record {
-        reached = rw (w.out-is, w.cert-is)
-            (next_checked c.args.text.now c.loop-table.known c.loop-table.table c.take_command.new.table c.loop-table.rest.now c.in_ok-step.field-0 c.in-Some.step _ _ _ _ c.loop-table.invariant.reached c.in-Some.is c.in_ok-step.ensures c.len-nodes.ensures.valid w.if-step.true
-            w.entry_of-entry.result w.entry_of-entry.ensures (g.C.Sink.holds w.tell.new.cert) (g.O.Sink.holds w.tell.new.out) w.in_ok-tell.ensures.ok.0 w.in_ok-tell.ensures.ok.1);
-        within = omega (arith, c.loop-table.invariant.within, next_shorter c.args.text.now c.loop-table.known c.loop-table.table c.take_command.new.table c.loop-table.rest.now c.in_ok-step.field-0 c.in-Some.step _ _ _ _ c.loop-table.invariant.reached c.in-Some.is c.in_ok-step.ensures c.len-nodes.ensures.valid);
-        later_out = rw w.out-is (omega (arith, c.loop-table.invariant.later_out, w.tell.ensures.later_out));
-        later_cert = rw w.cert-is (omega (arith, c.loop-table.invariant.later_cert, w.tell.ensures.later_cert));
-      }
-      | then-step+in_ok-tell+in-UnsatCases-1 w ↦ record {
+      | then-step+in_ok-tell w ↦ record {
         reached = rw (w.out-is, w.cert-is)
             (next_checked c.args.text.now c.loop-table.known c.loop-table.table c.take_command.new.table c.loop-table.rest.now c.in_ok-step.field-0 c.in-Some.step _ _ _ _ c.loop-table.invariant.reached c.in-Some.is c.in_ok-step.ensures c.len-nodes.ensures.valid w.if-step.true
             w.entry_of-entry.result w.entry_of-entry.ensures (g.C.Sink.holds w.tell.new.cert) (g.O.Sink.holds w.tell.new.out) w.in_ok-tell.ensures.ok.0 w.in_ok-tell.ensures.ok.1);

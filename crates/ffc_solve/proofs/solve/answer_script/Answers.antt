@@ -1,7 +1,7 @@
 use Rattle.std.proofs.Common.{◌≡◌, take}
 use Rattle.std.specs.Option.{IfSome}
 use Rattle.ffc_solve.proofs.Pieces.{on_err}
-use Rattle.ffc_solve.proofs.Ending.{whole_read, stopped_read, refused_read, stopped_early, stopped_creating, if_any}
+use Rattle.ffc_solve.proofs.Ending.{whole_read, stopped_read, refused_read, stopped_behind_header, stopped_creating, if_any}
 use Rattle.ffc_solve.proofs.solve.answer_script.Goals as goal
 
 pub returns-in_err-create_certificate-clause-err : goal.returns-in_err-create_certificate-clause-err
@@ -10,7 +10,7 @@ returns-in_err-create_certificate-clause-err g c =
 
 pub returns-in_err-bytes-clause-err : goal.returns-in_err-bytes-clause-err
 returns-in_err-bytes-clause-err g c =
-    on_err c.from_residual-in_err-bytes.result _ (if_any (g.S.Source.left c.args.script.now) _ (λ bytes. stopped_early bytes 9 (g.C.Sink.holds c.args.cert.now) (g.C.Sink.holds c.create_certificate.new.cert) (g.O.Sink.holds c.args.out.now) c.in_ok-create_certificate.ensures.ok))
+    on_err c.from_residual-in_err-bytes.result _ (if_any (g.S.Source.left c.args.script.now) _ (λ bytes. stopped_behind_header bytes (g.C.Sink.holds c.args.cert.now) (g.C.Sink.holds c.create_certificate.new.cert) (g.O.Sink.holds c.args.out.now) c.in_ok-create_certificate.ensures.ok))
 
 pub returns-clause-ok : goal.returns-clause-ok
 returns-clause-ok g c =
