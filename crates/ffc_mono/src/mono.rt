@@ -170,7 +170,10 @@ impl PartialEq for Mono {
 
     ghost laws = { partial_equiv_from_equiv same_monomial_equivalence };
 
-    fn eq(&self, other: &Mono) -> bool {
+    fn eq(&self, other: &Mono) -> bool
+        ensures value { result ≡ same_monomial self.now other.now }
+        ensures list { IsTrue result ↔ (self.now ≡ other.now) }
+    {
         self.pairs() == other.pairs()
     }
 }

@@ -4,7 +4,9 @@ use std::cmp::Ordering;
 use std::process::Abort;
 use std::test::Fail;
 
-/// The monomials of degree at most 3 in x > y > z, from the greatest to the least in lexicographic order.
+/// The monomials of degree at most 3 in x > y > z, from the greatest to the least in lexicographic order, written out by
+/// hand from its definition (Cox, Little and O'Shea, chapter 2, section 2, definition 3): by falling powers of x, then
+/// of y, then of z.
 const LEX: [[u32; 3]; 20] = [
     [3, 0, 0],
     [2, 1, 0],
@@ -28,7 +30,8 @@ const LEX: [[u32; 3]; 20] = [
     [0, 0, 0],
 ];
 
-/// The same in graded reverse lexicographic order.
+/// The same in graded reverse lexicographic order, from definition 6 there: by falling degree, then by rising powers of
+/// z, then of y.
 const GRADED_REVERSE_LEX: [[u32; 3]; 20] = [
     [3, 0, 0],
     [2, 1, 0],

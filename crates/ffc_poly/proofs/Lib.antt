@@ -1,5 +1,6 @@
 pub mod Clauses
 pub mod Coefficients
+pub mod EqualityLemmas
 pub mod Lists
 pub mod Merging
 pub mod MergingSteps

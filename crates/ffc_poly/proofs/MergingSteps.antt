@@ -1,6 +1,6 @@
 -- The steps of the merge over lists of terms with elements of a field.
-use Rattle.std.proofs.Common.{◌≡◌, ◌≢◌, ◌⊎◌, ℕ, List, [], ◌∷◌, ◌++◌, length, refl, sym, ap, ap₂, ◌∙◌, arith, eq-eqb, ne_eqb, append-nil, append_assoc, inl, inr}
-use Rattle.std.proofs.lemmas.Bool.{cond-true, cond-false}
+use Rattle.std.proofs.Common.{◌≡◌, ◌≢◌, ◌⊎◌, ℕ, ◌<◌, true, false, List, [], ◌∷◌, ◌++◌, length, get_or, drop, refl, sym, ap, ap₂, ◌∙◌, arith, eq-eqb, ne_eqb, append-nil, append_assoc, inl, inr}
+use Rattle.std.proofs.lemmas.Bool.{cond-true, cond-false, false≢true}
 use Rattle.std.specs.declared.cmp.Ordering.{Ordering}
 use Rattle.std.specs.declared.cmp.Ordering.TheVariants.{Less, Equal, Greater}
 use Rattle.ffc_field.specs.Modular.{add_mod, mul_mod}
@@ -8,6 +8,7 @@ use Rattle.ffc_field.proofs.ModularLaws.{mul_mod-one_first}
 use Rattle.ffc_ring.specs.Monomial.{Monomial}
 use Rattle.ffc_ring.specs.Polynomial.{Terms}
 use Rattle.ffc_poly.specs.Ordered.{residues, multiplied, IsOrdered, kept}
+use Rattle.ffc_poly.proofs.Lists.{residues-append}
 use Rattle.ffc_poly.proofs.Merging.{merged, merged-less, merged-equal, merged-greater, merged-end}
 
 module _ {F : Type 0} (value : F → ℕ) (p : ℕ) (cmp : Monomial → Monomial → Ordering) (c : ℕ) (left right left_rest right_rest : List (F × Monomial)) (s t : F × Monomial) (left_is : left ≡ s ∷ left_rest) (right_is : right ≡ t ∷ right_rest) where
@@ -59,3 +60,34 @@ module _ {F : Type 0} (value : F → ℕ) (p : ℕ) (cmp : Monomial → Monomial
   pub finished : (out first second all : Terms) → first ≡ out ++ multiplied p one (residues value left) → second ≡ first ++ multiplied p c (residues value right) → (length right ≡ 0) ⊎ (length left ≡ 0) → out ++ merged p cmp c (residues value left) (residues value right) ≡ all → second ≡ all
   finished out first second all e f h i =
       f ∙ ap (λ k. k ++ multiplied p c (residues value right)) e ∙ simp append_assoc (ap (λ k. out ++ k) (ended h) ∙ i)
+
+-- ---- the merge that moves its terms
+
+-- the first element of a list is the one that is taken off
+pub same_first : {A : Type 0} (xs rest : List A) (x first : A) → x ≡ get_or xs 0 x → xs ≡ first ∷ rest → x ≡ first
+same_first xs rest x first e is = e ∙ ap (λ k. get_or k 0 x) is
+
+pub begins : {A : Type 0} (xs : List A) (x : A) → 0 < length xs → x ≡ get_or xs 0 x → xs ≡ x ∷ drop 1 xs
+begins [] x h e = absurd (omega arith)
+begins (y ∷ ys) x h e = ap (λ k. k ∷ ys) (sym e)
+
+pub nothing_left : {A : Type 0} (xs : List A) → (0 < length xs → false ≡ true) → length xs ≡ 0
+nothing_left [] h = refl
+nothing_left (x ∷ xs) h = absurd (false≢true (h (omega arith)))
+
+module _ {F : Type 0} (value : F → ℕ) (p : ℕ) (cmp : Monomial → Monomial → Ordering) (limit : ℕ) (left right : List (F × Monomial)) (right_ordered : IsOrdered p cmp limit (residues value right)) where
+  ended_moved : (length right ≡ 0) ⊎ (length left ≡ 0) → residues value (left ++ right) ≡ merged p cmp 1 (residues value left) (residues value right)
+  ended_moved (inl h) =
+      let e : right ≡ [] = none_left right h in
+      ap (λ k. residues value (left ++ k)) e ∙ ap (residues value) (append-nil left)
+      ∙ sym (ap (λ k. merged p cmp 1 (residues value left) (residues value k)) e ∙ merged-end p cmp 1 (residues value left))
+  ended_moved (inr h) =
+      let e : left ≡ [] = none_left left h in
+      ap (λ k. residues value (k ++ right)) e ∙ sym (multiplied-one p cmp limit (residues value right) right_ordered)
+      ∙ sym (ap (λ k. merged p cmp 1 (residues value k) (residues value right)) e)
+
+  -- what is left of both stands behind what was merged
+  pub finished_moved : (out first second : List (F × Monomial)) (all : Terms) → first ≡ out ++ left → second ≡ first ++ right → (length right ≡ 0) ⊎ (length left ≡ 0) → residues value out ++ merged p cmp 1 (residues value left) (residues value right) ≡ all → residues value second ≡ all
+  finished_moved out first second all e f h i =
+      ap (residues value) (f ∙ ap (λ k. k ++ right) e ∙ append_assoc out left right) ∙ residues-append value out (left ++ right)
+      ∙ ap (λ k. residues value out ++ k) (ended_moved h) ∙ i

@@ -10,7 +10,7 @@ use Rattle.ffc_ring.proofs.MonomialLemmas.{mono_mul_comm, IsMonomial-mono_mul, d
 use Rattle.ffc_ring.proofs.PolynomialLemmas.{weighted, weighted-term_product, SamePolynomial-from_weighted, sum_alike, same_sums}
 use Rattle.ffc_mono.specs.MonomialOrder.{IsMonomialOrder}
 use Rattle.ffc_poly.specs.Ordered.{IsAbove, IsOrdered, RowFits, times, kept}
-use Rattle.ffc_poly.proofs.Merging.{product_nonzero}
+use Rattle.ffc_poly.proofs.Merging.{product_nonzero, merged, SamePolynomial-merged}
 
 pub weighted-times : (p c : ℕ) (m : Monomial) (g : Monomial → ℕ) (ts : Terms) → weighted g (times p c m ts) % p ≡ weighted g (term_product c m ts) % p
 weighted-times p c m g [] = refl
@@ -45,11 +45,15 @@ pub SamePolynomial-scaled_one : (p : ℕ) (ts : Terms) → SamePolynomial p (sca
 SamePolynomial-scaled_one p ts =
     SamePolynomial-from_weighted p (scaled 1 ts) ts (λ g. ap (λ k. k % p) (weighted-term_product g 1 [] ts ∙ one-mul (weighted g ts)))
 
--- two halves and 1 times the second make the whole
-pub SamePolynomial-halves : (p one : ℕ) (r x y front back all : Terms) → one ≡ 1 → SamePolynomial p r (x ++ scaled one y) → SamePolynomial p x front → SamePolynomial p y back → front ++ back ≡ all → SamePolynomial p r all
-SamePolynomial-halves p one r x y front back all e h f b whole m =
-    h m ∙ same_sums p x front (scaled one y) back f (λ n. ap (λ k. written (scaled k y) n % p) e ∙ SamePolynomial-scaled_one p y n ∙ b n) m
-    ∙ ap (λ k. written k m % p) whole
+-- a merge of both is the sum
+pub SamePolynomial-merged_one : (p : ℕ) (cmp : Monomial → Monomial → Ordering) → IsMonomialOrder cmp → (a b : Terms) → SamePolynomial p (merged p cmp 1 a b) (a ++ b)
+SamePolynomial-merged_one p cmp laws a b m =
+    SamePolynomial-merged p cmp laws 1 a b m ∙ same_sums p a a (scaled 1 b) b (λ n. refl) (SamePolynomial-scaled_one p b) m
+
+-- two halves make the whole
+pub SamePolynomial-halves : (p : ℕ) (r x y front back all : Terms) → SamePolynomial p r (x ++ y) → SamePolynomial p x front → SamePolynomial p y back → front ++ back ≡ all → SamePolynomial p r all
+SamePolynomial-halves p r x y front back all h f b whole m =
+    h m ∙ same_sums p x front y back f b m ∙ ap (λ k. written k m % p) whole
 
 nothing : (b : Bool) (k : ℕ) → k ≡ 0 → cond b k 0 + 0 ≡ 0
 nothing true k e = omega arith

@@ -17,6 +17,7 @@ pub const TERM_LIMIT: usize = 131_072;
 
 /// A polynomial: its terms in strictly decreasing order, with coefficients other than 0. A clause sees the list of
 /// pairs of residue and monomial.
+#[derive(Debug)]
 pub struct Poly<F: Field, O: MonoOrder> {
     terms: Vec<(F, Mono)>,
     order: PhantomData<O>,
@@ -37,6 +38,43 @@ impl<F: Field, O: MonoOrder> Model for Poly<F, O> {
     ghost view = { λ a. residues F.value a.terms.items };
 
     ghost invariant = { λ a. IsOrdered F.ORDER O.cmp 1024 (residues F.value a.terms.items) × (length a.terms.items ≤ 131072) };
+}
+
+impl<F: Field, O: MonoOrder> Clone for Poly<F, O> {
+    ghost use Rattle.std.specs.Prelude.{◌≡◌};
+
+    ghost is_clone = { λ a b. b ≡ a };
+
+    fn clone(&self) -> Result<Self, AllocError> {
+        let terms = terms::cloned(*self.terms.allocator(), self.terms.as_slice())?;
+        Ok(Poly {
+            terms,
+            order: PhantomData,
+        })
+    }
+}
+
+impl<F: Field, O: MonoOrder> PartialEq for Poly<F, O> {
+    ghost use Rattle.std.specs.Cmp.{partial_equiv_from_equiv};
+    ghost use Rattle.ffc_poly.specs.Equality.{same_terms, same_terms_equivalence};
+
+    ghost eq = { same_terms };
+
+    ghost laws = { partial_equiv_from_equiv same_terms_equivalence };
+
+    fn eq(&self, other: &Self) -> bool
+        ensures value { result ≡ same_terms self.now other.now }
+        ensures list { IsTrue result ↔ (self.now ≡ other.now) }
+        ensures polynomial { IsTrue result ↔ SamePolynomial F.ORDER self.now other.now }
+    {
+        self.terms() == other.terms()
+    }
+}
+
+impl<F: Field, O: MonoOrder> Eq for Poly<F, O> {
+    ghost use Rattle.ffc_poly.specs.Equality.{same_terms_equivalence};
+
+    ghost laws = { same_terms_equivalence };
 }
 
 impl<F: Field, O: MonoOrder> Poly<F, O> {
@@ -66,7 +104,8 @@ impl<F: Field, O: MonoOrder> Poly<F, O> {
         })
     }
 
-    /// The sum of any terms. With n terms it takes at most n comparisons for each halving of n.
+    /// The sum of any terms. With n terms it takes at most n comparisons for each halving of n, and clones each
+    /// monomial once.
     pub fn from_terms(alloc: Global, terms: &[(F, Mono)]) -> Result<Self, PolyStop>
         ensures sum { IfOk result (λ r. SamePolynomial F.ORDER r (residues F.value terms.now)) }
         ensures fits { OnOk result (PassesTerms F.ORDER TERM_LIMIT (residues F.value terms.now) → ⊥) }
@@ -130,7 +169,8 @@ impl<F: Field, O: MonoOrder> Poly<F, O> {
 
     /// The product. Whether a product of two terms has too high a degree is seen before. Then the rows, which are the
     /// longer polynomial times each term of the shorter, are merged by halves: with n terms in the shorter and m in the
-    /// longer it takes at most n*m comparisons for each halving of n, and holds at most n*m terms.
+    /// longer it takes at most n*m comparisons for each halving of n, and holds at most 2*n*m terms. It makes n*m
+    /// monomials, and clones none.
     pub fn mul(&self, other: &Self) -> Result<Self, PolyStop>
         ensures product { IfOk result (λ r. SamePolynomial F.ORDER r (product self.now other.now)) }
         ensures value { IfOk result (λ r. (point : ℕ → ℕ) → poly_value F.ORDER point r
@@ -146,9 +186,8 @@ impl<F: Field, O: MonoOrder> Poly<F, O> {
         if other.is_zero() {
             return Ok(Self::zero(alloc));
         }
-        if terms::greatest_degree(self.terms()) + terms::greatest_degree(other.terms())
-            > DEGREE_LIMIT
-        {
+        let degree = terms::greatest_degree(self.terms()) + terms::greatest_degree(other.terms());
+        if degree > DEGREE_LIMIT {
             return Err(PolyStop::DegreeOver);
         }
         Self::within(terms::product::<F, O>(alloc, self.terms(), other.terms())?)

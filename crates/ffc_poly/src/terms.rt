@@ -1,5 +1,5 @@
 //! Polynomials as slices of terms in strictly decreasing order.
-ghost use Rattle.std.specs.Prelude.{◌≡◌, ◌≢◌, ℕ, ◌+◌, ◌%◌, ◌<◌, ◌≤◌, ◌⊎◌, [], ◌++◌, length, IfOk, OnOk};
+ghost use Rattle.std.specs.Prelude.{◌≡◌, ◌≢◌, ℕ, ◌+◌, ◌%◌, ◌<◌, ◌≤◌, ◌⊎◌, [], ◌∷◌, ◌++◌, length, IfOk, OnOk};
 ghost use Rattle.ffc_ring.specs.Monomial.{IsMonomial, degree, mono_mul, mono_value};
 ghost use Rattle.ffc_ring.specs.Polynomial.{Terms, SamePolynomial, term_product, product, scaled, poly_value};
 ghost use Rattle.ffc_poly.specs.Ordered.{residues, IsOrdered, AreWithin, HasDegree, RowFits, ProductFits, point_of, multiplied, times, kept};
@@ -8,6 +8,7 @@ use ffc_field::Field;
 use ffc_mono::{DEGREE_LIMIT, Mono, MonoOrder, MonoStop};
 use std::alloc::{AllocError, Global};
 use std::cmp::Ordering;
+use std::collections::VecDeque;
 
 /// Appends c times each of the terms, for a constant c other than 0.
 pub fn append_scaled<F: Field>(
@@ -22,6 +23,17 @@ pub fn append_scaled<F: Field>(
         out.push((c.mul(term.0), term.1.clone()?))?;
     }
     Ok(())
+}
+
+/// The terms cloned.
+pub fn cloned<F: Field>(alloc: Global, terms: &[(F, Mono)]) -> Result<Vec<(F, Mono)>, AllocError>
+    ensures { IfOk result (λ v. v.items ≡ terms.now) }
+{
+    let mut out = Vec::new(alloc);
+    for term in terms {
+        out.push((term.0, term.1.clone()?))?;
+    }
+    Ok(out)
 }
 
 /// a + c*b for a constant c other than 0, in one merge: each comparison takes a term off one of both, or off both.
@@ -69,6 +81,51 @@ pub fn combined<F: Field, O: MonoOrder>(
     Ok(out)
 }
 
+/// Takes the first term off.
+fn take_first<F: Field>(terms: &mut VecDeque<(F, Mono)>) -> (F, Mono)
+    requires { 0 < length terms.old.items }
+    ensures { terms.old.items ≡ result ∷ terms.new.items }
+{
+    match terms.pop_front() {
+        Some(first) => first,
+        None => unreachable!(),
+    }
+}
+
+/// a + b in one merge: each comparison takes a term off one of both, or off both. It moves the monomials, and clones
+/// none.
+fn merged<F: Field, O: MonoOrder>(
+    alloc: Global,
+    a: Vec<(F, Mono)>,
+    b: Vec<(F, Mono)>,
+) -> Result<Vec<(F, Mono)>, AllocError>
+    requires a_is { IsOrdered F.ORDER O.cmp DEGREE_LIMIT (residues F.value a.items) }
+    requires b_is { IsOrdered F.ORDER O.cmp DEGREE_LIMIT (residues F.value b.items) }
+    ensures ordered { IfOk result (λ v. IsOrdered F.ORDER O.cmp DEGREE_LIMIT (residues F.value v.items)) }
+    ensures same { IfOk result (λ v. SamePolynomial F.ORDER (residues F.value v.items) (residues F.value a.items ++ residues F.value b.items)) }
+{
+    let mut out = Vec::new(alloc);
+    let mut left = VecDeque::from(a);
+    let mut right = VecDeque::from(b);
+    while let (Some(s), Some(t)) = (left.front(), right.front()) {
+        match O::compare(&s.1, &t.1) {
+            Ordering::Less => out.push(take_first(&mut right))?,
+            Ordering::Equal => {
+                let sum = s.0.add(t.0);
+                take_first(&mut right);
+                let (_, monomial) = take_first(&mut left);
+                if sum.residue() != 0 {
+                    out.push((sum, monomial))?;
+                }
+            }
+            Ordering::Greater => out.push(take_first(&mut left))?,
+        }
+    }
+    out.append(&mut Vec::from(left))?;
+    out.append(&mut Vec::from(right))?;
+    Ok(out)
+}
+
 /// A product whose degree is within the limit.
 fn product_within(m: &Mono, n: &Mono) -> Result<Mono, AllocError>
     requires { degree m.now + degree n.now ≤ DEGREE_LIMIT }
@@ -99,7 +156,8 @@ pub fn times_term<F: Field>(
 }
 
 /// The product a*b: the rows, which are b times each term of a, are merged by halves. With n terms in a and m in b
-/// it takes at most n*m comparisons for each halving of n, and holds at most n*m terms.
+/// it takes at most n*m comparisons for each halving of n, and holds at most 2*n*m terms. It makes n*m monomials,
+/// and clones none.
 pub fn product_of<F: Field, O: MonoOrder>(
     alloc: Global,
     a: &[(F, Mono)],
@@ -118,7 +176,7 @@ pub fn product_of<F: Field, O: MonoOrder>(
             let (front, back) = a.split_at(a.len() / 2);
             let front = product_of::<F, O>(alloc, front, b)?;
             let back = product_of::<F, O>(alloc, back, b)?;
-            combined::<F, O>(alloc, front.as_slice(), F::of(1), back.as_slice())
+            merged::<F, O>(alloc, front, back)
         }
     }
 }
@@ -142,7 +200,8 @@ pub fn product<F: Field, O: MonoOrder>(
     }
 }
 
-/// The sum of any terms, merged by halves. With n terms it takes at most n comparisons for each halving of n.
+/// The sum of any terms, merged by halves. With n terms it takes at most n comparisons for each halving of n. It
+/// clones each monomial once.
 pub fn sum_of<F: Field, O: MonoOrder>(
     alloc: Global,
     terms: &[(F, Mono)],
@@ -157,7 +216,7 @@ pub fn sum_of<F: Field, O: MonoOrder>(
             let (front, back) = terms.split_at(terms.len() / 2);
             let front = sum_of::<F, O>(alloc, front)?;
             let back = sum_of::<F, O>(alloc, back)?;
-            combined::<F, O>(alloc, front.as_slice(), F::of(1), back.as_slice())
+            merged::<F, O>(alloc, front, back)
         }
     }
 }

@@ -115,6 +115,15 @@ fn sum_of_polynomials(rt: HostRuntime) -> Result<(), Fail> {
 }
 
 #[test]
+fn equal_polynomials(rt: HostRuntime) -> Result<(), Fail> {
+    let a = sum::<F5, Lex>(rt.alloc(), &[(3, 1, 2), (1, 1, 0), (4, 0, 1)])?;
+    let b = sum::<F5, Lex>(rt.alloc(), &[(1, 1, 0), (4, 0, 1), (3, 1, 2)])?;
+    assert_eq!(rt; a.clone()?, b);
+    assert!(rt; a != b.scale(F5::of(2))?);
+    Ok(())
+}
+
+#[test]
 fn multiple_by_constant(rt: HostRuntime) -> Result<(), Fail> {
     let a = sum::<F5, Lex>(rt.alloc(), &[(4, 0, 2), (1, 1, 0)])?;
     assert!(rt; is_sum(rt.alloc(), &a.scale(F5::of(2))?, &[(3, 0, 2), (2, 1, 0)])?);

@@ -8,3 +8,4 @@ pub mod ValueLemmas
 pub mod IteLemmas
 pub mod MeasureLemmas
 pub mod LawLemmas
+pub mod MarkLemmas

@@ -1,9 +1,9 @@
 -- Marks, and the nodes of a check that they find.
-use Rattle.std.proofs.Common.{◌≡◌, ℕ, ◌+◌, ◌<◌, ◌≤◌, ◌⊎◌, inl, inr, ⊎_elim, Bool, true, false, List, [], ◌∷◌, ◌++◌, length, take, set, get_or, replicate, All, Contains, refl, sym, ap, ◌∙◌, subst, arith, length-append, length-take, length-set, get_or-set_same, get_or-set_other}
+use Rattle.std.proofs.Common.{◌≡◌, ℕ, ◌+◌, ◌<◌, ◌≤◌, ◌⊎◌, inl, inr, ⊎_elim, zero, suc, Bool, true, false, List, [], ◌∷◌, ◌++◌, length, take, set, get_or, replicate, All, Contains, refl, sym, ap, ◌∙◌, subst, arith, add-one, length-take, length-set, get_or-set_same, get_or-set_other}
 use Rattle.std.specs.List.Sorted.{IsStrictlyIncreasing}
 use Rattle.std.proofs.lemmas.Bool.{false≢true, cases_eq, cases_lt}
-use Rattle.std.proofs.lemmas.List.{take_more, get_or_append_left, get_or_push, get_or_past, get_or-replicate, length-replicate}
-use Rattle.std.proofs.lemmas.List.Elements.{Contains-push, Contains-push_cases, Contains-append_left, Contains-get_or, All-contains, All-cons, All-nil, All-weaker}
+use Rattle.std.proofs.lemmas.List.{take_more, get_or_past, get_or-replicate, length-replicate}
+use Rattle.std.proofs.lemmas.List.Elements.{Contains-push, Contains-push_cases, Contains-append_left, Contains-append_right, Contains-append_cases, Contains-get_or, All-contains, All-cons, All-nil, All-weaker}
 use Rattle.std.proofs.lemmas.Option.{slice_get_within}
 use Rattle.ffc_term.specs.declared.node.Node.{Node}
 use Rattle.ffc_term.specs.declared.node.Node.TheVariants.{True, False, BoolConst, FieldConst, Num, Not, And, Or, Iff, Xor, IteBool, IteField, Eq, Add, Mul, Neg, Bitsum}
@@ -12,7 +12,7 @@ use Rattle.ffc_term.specs.Tables.{Fits, IsBooleanAt, IsFieldAt, AreBoolean, AreO
 use Rattle.ffc_term.specs.Checks.{IsNodeOf, AreNodesOf, IsClosed}
 use Rattle.ffc_term.specs.Checks.IsNodeOf.{listed, child, first, second}
 use Rattle.ffc_term.proofs.NodeLemmas.{IsNodeAt-unique}
-use Rattle.ffc_term.specs.Marking.{IsMarked, IsEqualityOf, IsBroughtBy, Marks, IsMarking, AreMarkedBelow}
+use Rattle.ffc_term.specs.Marking.{IsMarked, IsNoneMarked, IsEqualityOf, IsBroughtBy, Marks, IsMarking, AreMarkedFrom}
 
 nothing_in : (k : ℕ) → ¬ (Contains [] k)
 nothing_in k has = let inside : has.0 < length {A = ℕ} [] = has.1 in absurd (omega arith)
@@ -173,16 +173,16 @@ IsMarking-start ns ids old marks clear told =
       closed = λ id n k from is at brings. let inside : id < length ns = slice_get_within ns id n at in absurd (omega arith);
     }
 
--- a number with no mark brings nothing
-pub IsMarking-skip : (ns : List Node) (ids : List ℕ) (marks : List Bool) (i j : ℕ) → j ≡ i + 1 → IsMarking ns ids marks j → get_or marks i false ≡ false → IsMarking ns ids marks i
-IsMarking-skip ns ids marks i j next told off = record {
+-- numbers with no mark bring nothing
+pub IsMarking-lower : (ns : List Node) (ids : List ℕ) (marks : List Bool) (from to : ℕ) → IsMarking ns ids marks to → IsNoneMarked marks from to → IsMarking ns ids marks from
+IsMarking-lower ns ids marks from to told none = record {
   long = told.long;
   listed = told.listed;
   sound = told.sound;
-  closed = λ id n k from is at brings.
-      elim (cases_eq id i) as (λ _. IsMarked marks k) [
-        | inl same ↦ absurd (false≢true (sym off ∙ subst (IsMarked marks) same is))
-        | inr other ↦ told.closed id n k (omega arith) is at brings
+  closed = λ id n k above is at brings.
+      elim (cases_lt id to) as (λ _. IsMarked marks k) [
+        | inl below ↦ absurd (none id above below is)
+        | inr past ↦ told.closed id n k past is at brings
       ];
 }
 
@@ -241,57 +241,56 @@ IsMarked-from_IsNodeOf ns ids marks k table told (second {t} c a b of at eq) =
     let behind = table.equalities t c a b at in
     told.closed t (IteField c a b) k (omega arith) (IsMarked-from_IsNodeOf ns ids marks t table told of) at (inr (inr (table.well_formed.single k (second_equality t a b) (Eq t b) eq behind.1)))
 
--- a greater number behind the others
-pub IsStrictlyIncreasing-push : (xs : List ℕ) (x : ℕ) → IsStrictlyIncreasing xs → ((k : ℕ) → Contains xs k → k < x) → IsStrictlyIncreasing (xs ++ x ∷ [])
-IsStrictlyIncreasing-push xs x old below k inside =
-    let bound : k + 1 < length xs + 1 = omega (arith, length-append xs (x ∷ [])) in
-    let left : get_or (xs ++ x ∷ []) k 0 ≡ get_or xs k 0 = get_or_append_left xs (x ∷ []) 0 k (omega arith) in
-    elim (cases_lt (k + 1) (length xs)) as (λ _. get_or (xs ++ x ∷ []) k 0 < get_or (xs ++ x ∷ []) (k + 1) 0) [
-      | inl within ↦
-          let right : get_or (xs ++ x ∷ []) (k + 1) 0 ≡ get_or xs (k + 1) 0 = get_or_append_left xs (x ∷ []) 0 (k + 1) within in
-          let old_one : get_or xs k 0 < get_or xs (k + 1) 0 = old k within in
-          omega arith
-      | inr last ↦
-          let right : get_or (xs ++ x ∷ []) (k + 1) 0 ≡ x = get_or_push xs x 0 (k + 1) (omega arith) in
-          let one : get_or xs k 0 < x = below (get_or xs k 0) (Contains-get_or xs k 0 (omega arith)) in
-          omega arith
-    ]
+-- a lower number before the others
+IsStrictlyIncreasing-cons : (x : ℕ) (xs : List ℕ) → ((k : ℕ) → Contains xs k → x < k) → IsStrictlyIncreasing xs → IsStrictlyIncreasing (x ∷ xs)
+IsStrictlyIncreasing-cons x xs above old zero inside = above (get_or xs 0 0) (Contains-get_or xs 0 0 (omega arith))
+IsStrictlyIncreasing-cons x xs above old (suc k) inside =
+    subst (λ j. get_or xs k 0 < get_or (x ∷ xs) j 0) (sym (add-one (suc k))) (subst (λ j. get_or xs k 0 < get_or xs j 0) (add-one k) (old k (omega arith)))
 
-pub AreMarkedBelow-none : (marks : List Bool) → AreMarkedBelow marks 0 []
-AreMarkedBelow-none marks = record {
+Contains-cons_cases : (x : ℕ) (xs : List ℕ) (k : ℕ) → Contains (x ∷ xs) k → (x ≡ k) ⊎ Contains xs k
+Contains-cons_cases x xs k has =
+    ⊎_elim
+    (λ first. ⊎_elim (λ none. absurd (nothing_in k none)) (λ e. inl e) (Contains-push_cases [] x k first))
+    (λ behind. inr behind) (Contains-append_cases (x ∷ []) xs k has)
+
+pub AreMarkedFrom-none : (marks : List Bool) (bound : ℕ) → length marks ≡ bound → AreMarkedFrom marks bound []
+AreMarkedFrom-none marks bound long = record {
   increasing = λ k inside. absurd (omega arith);
-  below = λ k has. absurd (nothing_in k has);
-  each = λ k below is. absurd (omega arith);
+  above = λ k has. absurd (nothing_in k has);
+  each = λ k past is. let inside = IsMarked-within marks k is in absurd (omega arith);
 }
 
-pub AreMarkedBelow-skip : (marks : List Bool) (i : ℕ) (found : List ℕ) → AreMarkedBelow marks i found → get_or marks i false ≡ false → AreMarkedBelow marks (i + 1) found
-AreMarkedBelow-skip marks i found told off = record {
+pub AreMarkedFrom-lower : (marks : List Bool) (from to : ℕ) (found : List ℕ) → AreMarkedFrom marks to found → IsNoneMarked marks from to → from ≤ to → AreMarkedFrom marks from found
+AreMarkedFrom-lower marks from to found told none order = record {
   increasing = told.increasing;
-  below = λ k has. let was = told.below k has in (omega arith, was.1);
-  each = λ k below is.
-      elim (cases_eq k i) as (λ _. Contains found k) [
-        | inl same ↦ absurd (false≢true (sym off ∙ subst (IsMarked marks) same is))
-        | inr other ↦ told.each k (omega arith) is
+  above = λ k has. let was = told.above k has in (omega arith, was.1);
+  each = λ k past is.
+      elim (cases_lt k to) as (λ _. Contains found k) [
+        | inl below ↦ absurd (none k past below is)
+        | inr higher ↦ told.each k higher is
       ];
 }
 
-pub AreMarkedBelow-more : (marks : List Bool) (i : ℕ) (found : List ℕ) → AreMarkedBelow marks i found → IsMarked marks i → AreMarkedBelow marks (i + 1) (found ++ i ∷ [])
-AreMarkedBelow-more marks i found told on = record {
-  increasing = IsStrictlyIncreasing-push found i told.increasing (λ k has. (told.below k has).0);
-  below = λ k has. ⊎_elim (λ old. let was = told.below k old in (omega arith, was.1)) (λ e. subst (λ j. (j < i + 1) × IsMarked marks j) e (omega arith, on)) (Contains-push_cases found i k has);
-  each = λ k below is.
-      elim (cases_eq k i) as (λ _. Contains (found ++ i ∷ []) k) [
-        | inl same ↦ subst (Contains (found ++ i ∷ [])) (sym same) (Contains-push found i)
-        | inr other ↦ Contains-append_left found (i ∷ []) k (told.each k (omega arith) is)
+pub AreMarkedFrom-more : (marks : List Bool) (i : ℕ) (found : List ℕ) → AreMarkedFrom marks (i + 1) found → IsMarked marks i → AreMarkedFrom marks i (i ∷ found)
+AreMarkedFrom-more marks i found told on = record {
+  increasing = IsStrictlyIncreasing-cons i found (λ k has. let was = told.above k has in omega arith) told.increasing;
+  above = λ k has.
+      ⊎_elim
+      (λ e. subst (λ j. (i ≤ j) × IsMarked marks j) e (omega arith, on))
+      (λ behind. let was = told.above k behind in (omega arith, was.1)) (Contains-cons_cases i found k has);
+  each = λ k past is.
+      elim (cases_eq k i) as (λ _. Contains (i ∷ found) k) [
+        | inl same ↦ subst (Contains (i ∷ found)) (sym same) (Contains-append_left (i ∷ []) found i (Contains-push [] i))
+        | inr other ↦ Contains-append_right (i ∷ []) found k (told.each k (omega arith) is)
       ];
 }
 
-pub AreNodesOf-from_marks : (ns : List Node) (ids : List ℕ) (marks : List Bool) (found : List ℕ) → IsTable ns → IsMarking ns ids marks 0 → AreMarkedBelow marks (length marks) found → AreNodesOf ns ids found
+pub AreNodesOf-from_marks : (ns : List Node) (ids : List ℕ) (marks : List Bool) (found : List ℕ) → IsTable ns → IsMarking ns ids marks 0 → AreMarkedFrom marks 0 found → AreNodesOf ns ids found
 AreNodesOf-from_marks ns ids marks found table told all = record {
   increasing = all.increasing;
   each = λ k. (
-    (λ has. told.sound k (all.below k has).1),
-    (λ of. let is = IsMarked-from_IsNodeOf ns ids marks k table told of in all.each k (IsMarked-within marks k is) is),
+    (λ has. told.sound k (all.above k has).1),
+    (λ of. let is = IsMarked-from_IsNodeOf ns ids marks k table told of in all.each k (omega arith) is),
   );
 }
 

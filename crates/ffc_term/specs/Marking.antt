@@ -1,5 +1,7 @@
 -- How the nodes of a check are found: by marks, one for each node.
-use Rattle.std.specs.Prelude.{◌≡◌, ℕ, ◌+◌, ◌<◌, ◌≤◌, ◌⊎◌, Bool, true, false, List, length, Contains, slice_index_or}
+use Rattle.std.specs.Prelude.{◌≡◌, ℕ, ◌+◌, ◌/◌, ◌%◌, ◌<◌, ◌≤◌, ◌⊎◌, ◌==◌, Bool, true, false, List, length, map, Contains, slice_index, slice_index_or}
+use Rattle.std.specs.Int.{bit_at}
+use Rattle.std.specs.List.{range_with_len}
 use Rattle.std.specs.List.Sorted.{IsStrictlyIncreasing}
 use Rattle.ffc_term.specs.declared.node.Node.{Node}
 use Rattle.ffc_term.specs.declared.node.Node.TheVariants.{IteField}
@@ -9,6 +11,18 @@ use Rattle.ffc_term.specs.Checks.{IsNodeOf}
 
 abbrev pub IsMarked : List Bool → ℕ → Type 0
 IsMarked marks id = slice_index_or marks id false ≡ true
+
+-- no number from the first up to the second is marked
+abbrev pub IsNoneMarked : List Bool → ℕ → ℕ → Type 0
+IsNoneMarked marks from to = (k : ℕ) → from ≤ k → k < to → ¬ (IsMarked marks k)
+
+-- the mark of a number is one bit; 64 stand in a word
+abbrev pub mark_in : List ℕ → ℕ → Bool
+mark_in words id = bit_at (slice_index words (id / 64)) (id % 64) == 1
+
+-- the marks of the numbers below a bound
+abbrev pub marks_in : List ℕ → ℕ → List Bool
+marks_in words bound = map (mark_in words) (range_with_len 0 bound)
 
 -- k numbers an equality of the node n, numbered id, with one of its branches
 abbrev pub IsEqualityOf : Node → ℕ → ℕ → Type 0
@@ -34,8 +48,8 @@ pub record IsMarking (nodes : List Node) (ids : List ℕ) (marks : List Bool) (f
   pub sound : (k : ℕ) → IsMarked marks k → IsNodeOf nodes ids k
   pub closed : (id : ℕ) (n : Node) (k : ℕ) → from ≤ id → IsMarked marks id → IsNodeAt nodes id n → IsBroughtBy n id k → IsMarked marks k
 
--- the marked numbers below `to`, in increasing order
-pub record AreMarkedBelow (marks : List Bool) (to : ℕ) (found : List ℕ) : Type 0 where
+-- the marked numbers from `from` on, in increasing order
+pub record AreMarkedFrom (marks : List Bool) (from : ℕ) (found : List ℕ) : Type 0 where
   pub increasing : IsStrictlyIncreasing found
-  pub below : (k : ℕ) → Contains found k → (k < to) × IsMarked marks k
-  pub each : (k : ℕ) → k < to → IsMarked marks k → Contains found k
+  pub above : (k : ℕ) → Contains found k → (from ≤ k) × IsMarked marks k
+  pub each : (k : ℕ) → from ≤ k → IsMarked marks k → Contains found k

@@ -6,6 +6,7 @@ mod eval;
 mod kept;
 pub mod laws;
 mod list;
+mod mark_set;
 mod measure;
 mod modular;
 mod node;

@@ -323,3 +323,41 @@ fn dropped_nodes_are_made_again(rt: HostRuntime) -> Result<(), Fail> {
     assert_eq!(rt; (table.degree(4), table.length(4)), (3, 2));
     Ok(())
 }
+
+// The last of so many negations, each of the one before it, and the first of a constant.
+fn negations(rt: &impl Abort, table: &mut NodeTable, count: u32) -> Result<NodeId, TermStop> {
+    let mut last = declare(rt, table, Sort::Bool)?;
+    for _ in 0..count {
+        last = make(rt, table, Node::Not(last))?;
+    }
+    Ok(last)
+}
+
+#[test]
+fn a_full_table_finds_old_nodes(rt: HostRuntime) -> Result<(), Fail> {
+    let mut table = NodeTable::new(rt.alloc())?;
+    let last = negations(&rt, &mut table, 1_048_575)?;
+    assert_eq!(rt; (last, table.len()), (1_048_575, 1_048_576));
+    assert_eq!(rt;
+        make(&rt, &mut table, Node::Not(last)),
+        Err(TermStop::Nodes)
+    );
+    assert_eq!(rt; make(&rt, &mut table, Node::Not(0)), Ok(1));
+    assert_eq!(rt; table.len(), 1_048_576);
+    Ok(())
+}
+
+#[test]
+fn a_million_negations(rt: HostRuntime) -> Result<(), Fail> {
+    let mut table = NodeTable::new(rt.alloc())?;
+    let last = negations(&rt, &mut table, 1_000_000)?;
+    let row = measured(&rt, &table, last)?;
+    let measures = Measures {
+        span: 2,
+        work: 2_000_002,
+    };
+    assert_eq!(rt; row, (1_000_001, 1, measures));
+    let values = Assignment::new(vec![in rt.alloc(); Value::Bool(true)]?);
+    assert_eq!(rt; evaluate(&rt, &table, last, &values)?, Value::Bool(true));
+    Ok(())
+}

@@ -3,9 +3,10 @@ ghost use Rattle.std.specs.Prelude.{◌≡◌, ℕ, ◌+◌, ◌<◌, ◌≤◌,
 ghost use Rattle.ffc_term.specs.Nodes.{IsNodeAt, children, is_constant, node_at};
 ghost use Rattle.ffc_term.specs.Tables.{Fits, IsTable};
 ghost use Rattle.ffc_term.specs.Checks.{AreNodesOf, AreConstantsOf, IsClosed};
-ghost use Rattle.ffc_term.specs.Marking.{Marks, IsMarking, AreMarkedBelow, IsEqualityOf, IsBroughtBy};
+ghost use Rattle.ffc_term.specs.Marking.{Marks, IsMarking, AreMarkedFrom, IsEqualityOf, IsBroughtBy};
 ghost use Rattle.ffc_term.specs.Measuring.{AreMeasuresOf, span_of};
 
+use crate::mark_set::MarkSet;
 use crate::measure::Measures;
 use crate::node::{Node, NodeId};
 use crate::table::{NodeTable, second_equality};
@@ -15,17 +16,17 @@ use std::alloc::{AllocError, Global};
 const LARGEST: u128 = 1 << 64;
 
 // Marks these nodes.
-fn mark_all(marks: &mut [bool], ids: &[NodeId])
+fn mark_all(marks: &mut MarkSet, ids: &[NodeId])
     requires { All (λ id. id < length marks.old) ids.now }
     ensures { Marks (Contains ids.now) marks.old marks.new }
 {
     for id in ids {
-        marks[*id as usize] = true;
+        marks.set(*id);
     }
 }
 
 // Marks the children of a node.
-fn mark_children(marks: &mut [bool], node: &Node)
+fn mark_children(marks: &mut MarkSet, node: &Node)
     requires { All (λ id. id < length marks.old) (children node.now) }
     ensures { Marks (Contains (children node.now)) marks.old marks.new }
 {
@@ -43,20 +44,20 @@ fn mark_children(marks: &mut [bool], node: &Node)
 }
 
 // Marks the equalities of an `ite` of field sort with its branches.
-fn mark_equalities(marks: &mut [bool], id: NodeId, node: &Node)
+fn mark_equalities(marks: &mut MarkSet, id: NodeId, node: &Node)
     requires within { (k : ℕ) → IsEqualityOf node.now id k → k < length marks.old }
     requires few { id + 2 < 2 ^ 32 }
     ensures { Marks (IsEqualityOf node.now id) marks.old marks.new }
 {
     if let Node::IteField(_, a, b) = node {
         let second = second_equality(id, *a, *b);
-        marks[id as usize + 1] = true;
-        marks[second as usize] = true;
+        marks.set(id + 1);
+        marks.set(second);
     }
 }
 
 // Marks what a node brings.
-fn visit(marks: &mut [bool], id: NodeId, node: &Node)
+fn visit(marks: &mut MarkSet, id: NodeId, node: &Node)
     requires within { (k : ℕ) → IsBroughtBy node.now id k → k < length marks.old }
     requires few { id + 2 < 2 ^ 32 }
     ensures { Marks (IsBroughtBy node.now id) marks.old marks.new }
@@ -66,49 +67,34 @@ fn visit(marks: &mut [bool], id: NodeId, node: &Node)
 }
 
 // Marks the nodes of the check over these ones. Children have lower numbers, and an equality behind an `ite` brings only the
-// `ite` and one of its children, so it is enough to look at each number once, from the highest on.
-fn mark_nodes(table: &NodeTable, ids: &[NodeId], marks: &mut [bool])
+// `ite` and one of its children, so it is enough to look at each marked number once, from the highest on.
+fn mark_nodes(table: &NodeTable, ids: &[NodeId], marks: &mut MarkSet)
     requires within { All (λ id. id < length table.now) ids.now }
     requires clear { marks.old ≡ replicate (length table.now) false }
     ensures marking { IsMarking table.now ids.now marks.new 0 }
     ensures valid { IsTable table.now }
 {
     mark_all(marks, ids);
-    for id in (0..table.len()).rev() {
-        if marks[id as usize] {
-            visit(marks, id, table.node(id));
-        }
+    let mut end = table.len();
+    while let Some(id) = marks.last_below(end) {
+        visit(marks, id, table.node(id));
+        end = id;
     }
 }
 
-// The marked numbers in increasing order.
-fn marked(alloc: Global, marks: &[bool]) -> Result<Vec<NodeId>, AllocError>
-    requires { length marks.now < 2 ^ 32 }
-    ensures { IfOk result (λ v. AreMarkedBelow marks.now (length marks.now) v.items) }
+// The marked numbers below `bound`, in increasing order.
+fn marked(alloc: Global, marks: &MarkSet, bound: u32) -> Result<Vec<NodeId>, AllocError>
+    requires { length marks.now ≡ bound }
+    ensures { IfOk result (λ v. AreMarkedFrom marks.now 0 v.items) }
 {
     let mut found = Vec::new(alloc);
-    for (id, mark) in marks.iter().enumerate() {
-        if *mark {
-            found.push(id as NodeId)?;
-        }
+    let mut end = bound;
+    while let Some(id) = marks.last_below(end) {
+        found.push(id)?;
+        end = id;
     }
+    found.reverse();
     Ok(found)
-}
-
-// The nodes of the check over these ones in increasing order. At the start there are no marks.
-fn find_nodes(
-    table: &NodeTable,
-    ids: &[NodeId],
-    marks: &mut [bool],
-) -> Result<Vec<NodeId>, AllocError>
-    requires within { All (λ id. id < length table.now) ids.now }
-    requires clear { marks.old ≡ replicate (length table.now) false }
-    requires few { length marks.old < 2 ^ 32 }
-    ensures nodes { IfOk result (λ v. AreNodesOf table.now ids.now v.items) }
-    ensures closed { IfOk result (λ v. IsClosed table.now v.items) }
-{
-    mark_nodes(table, ids, marks);
-    marked(table.alloc, marks)
 }
 
 // The constants among these nodes, in the same order.
@@ -138,14 +124,16 @@ fn span_among(table: &NodeTable, nodes: &[NodeId]) -> u128
 }
 
 impl NodeTable {
-    /// The nodes of the check over these ones, in increasing order.
+    /// The nodes of the check over these ones, in increasing order. It costs the nodes that it gives and their children,
+    /// and two passes over one bit a node of the table, 64 at a time.
     pub fn nodes_of(&self, ids: &[NodeId]) -> Result<Vec<NodeId>, AllocError>
         requires { All (λ id. id < length self.now) ids.now }
         ensures nodes { IfOk result (λ v. AreNodesOf self.now ids.now v.items) }
         ensures closed { IfOk result (λ v. IsClosed self.now v.items) }
     {
-        let mut marks = vec![in self.alloc; false; self.len() as usize]?;
-        find_nodes(self, ids, &mut marks)
+        let mut marks = MarkSet::none(self.alloc, self.len())?;
+        mark_nodes(self, ids, &mut marks);
+        marked(self.alloc, &marks, self.len())
     }
 
     /// The constants among the nodes of the check over these ones, in increasing order.

@@ -1,6 +1,6 @@
-use Rattle.std.proofs.Common.{◌≡◌, [], ◌∷◌, ◌++◌, append-nil, rules, ◌%◌, sym, ap, ◌∙◌, subst, arith, mod-eq_of_lt}
+use Rattle.std.proofs.Common.{◌≡◌, [], ◌∷◌, ◌++◌, append-nil, rules, ◌%◌, sym, ap, ◌∙◌, subst, arith}
 use Rattle.std.proofs.lemmas.Result.{IfOk-weaker}
-use Rattle.ffc_ring.specs.Polynomial.{SamePolynomial, scaled, written, product, term_product}
+use Rattle.ffc_ring.specs.Polynomial.{SamePolynomial, written, product, term_product}
 use Rattle.ffc_ring.proofs.PolynomialLemmas.{product-append}
 use Rattle.ffc_mono.specs.declared.mono.TheConstants.{DEGREE_LIMIT}
 use Rattle.ffc_poly.specs.Ordered.{residues, IsOrdered, ProductFits, times}
@@ -32,10 +32,6 @@ product_of-requires-in_default g t c κs within =
       omega (arith, c.decreases, c.split_at.ensures.back_len, c.split_at.ensures.front_len, c.in_default.len_at_least),
       (search rules, (search rules, ((IsOrdered-append p cmp DEGREE_LIMIT front back (subst (IsOrdered p cmp DEGREE_LIMIT) (sym whole) c.requires.a_is)).1, (c.requires.b_is, (ProductFits-append DEGREE_LIMIT front back (residues value c.args.b.now) (subst (λ k. ProductFits DEGREE_LIMIT k (residues value c.args.b.now)) (sym whole) c.requires.fits)).1)))),
     )
-
-pub combined-requires-clause-c_is : goal.combined-requires-clause-c_is
-combined-requires-clause-c_is g t c e =
-    let one : g.F.Field.value c.of.result ≡ 1 = c.of.ensures ∙ mod-eq_of_lt (omega (arith, g.met.F.Field.prime.least)) in omega (arith, one, e)
 
 pub returns-in-len1-clause-ordered : goal.returns-in-len1-clause-ordered
 returns-in-len1-clause-ordered g t c =
@@ -69,16 +65,14 @@ pub returns-in_ok-back-in_default-clause-same : goal.returns-in_ok-back-in_defau
 returns-in_ok-back-in_default-clause-same g t c =
     let value = g.F.Field.value in
     let p = g.F.Field.ORDER in
-    let one : value c.of.result ≡ 1 = c.of.ensures ∙ mod-eq_of_lt (omega (arith, g.met.F.Field.prime.least)) in
     let b = residues value c.args.b.now in
+    let all = product (residues value c.args.a.now) b in
     let front = residues value c.split_at.result.0.now in
     let back = residues value c.split_at.result.1.now in
-    let x = residues value c.as_slice.result.now in
-    let y = residues value c.as_slice-in_default.result.now in
+    let x = residues value c.in_ok-front-in_default.front.items in
+    let y = residues value c.in_ok-back-in_default.back.items in
     let whole = halved value c.args.a.now c.split_at.result.0.now c.split_at.result.1.now _ c.split_at.ensures.front c.split_at.ensures.back in
-    IfOk-weaker c.combined.result (λ v. SamePolynomial p (residues value v.items) (x ++ scaled (value c.of.result) y)) (λ v. SamePolynomial p (residues value v.items) (product (residues value c.args.a.now) b))
-    (λ v h. SamePolynomial-halves p (value c.of.result) (residues value v.items) x y (product front b) (product back b) (product (residues value c.args.a.now) b) one h
-    (λ m. ap (λ k. written (residues value k) m % p) c.as_slice.ensures.value ∙ c.in_ok-front-in_default.ensures.same m)
-    (λ m. ap (λ k. written (residues value k) m % p) c.as_slice-in_default.ensures.value ∙ c.in_ok-back-in_default.ensures.same m)
-    (sym (product-append front back b) ∙ ap (λ k. product k b) whole))
-    c.combined.ensures.same
+    IfOk-weaker c.merged.result (λ v. SamePolynomial p (residues value v.items) (x ++ y)) (λ v. SamePolynomial p (residues value v.items) all)
+    (λ v h. SamePolynomial-halves p (residues value v.items) x y (product front b) (product back b) all h
+    c.in_ok-front-in_default.ensures.same c.in_ok-back-in_default.ensures.same (sym (product-append front back b) ∙ ap (λ k. product k b) whole))
+    c.merged.ensures.same

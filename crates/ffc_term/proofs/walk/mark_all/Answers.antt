@@ -6,4 +6,4 @@ pub loop-id-preserved : goal.loop-id-preserved
 loop-id-preserved c =
     let i = c.loop-id.id-index in
     let ids = c.args.ids.now in
-    Marks-more ids c.args.marks.now c.loop-id.marks i c.loop-id-test.true c.loop-id.invariant (subst (λ n. get_or ids i 0 < n) (sym c.loop-id.invariant.long) (c.requires i 0 c.loop-id-test.true))
+    rw c.set.ensures (Marks-more ids c.args.marks.now c.loop-id.marks i c.loop-id-test.true c.loop-id.invariant (subst (λ n. get_or ids i 0 < n) (sym c.loop-id.invariant.long) (c.requires i 0 c.loop-id-test.true)))

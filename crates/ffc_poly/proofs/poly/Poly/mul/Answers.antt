@@ -37,8 +37,8 @@ returns-then-is_zero-2-clause-fits g c =
     let b = c.args.other.now in
     PassesTerms-short p cmp g.met.O.MonoOrder.laws DEGREE_LIMIT TERM_LIMIT [] (product a b) (product_nothing p a b (c.if-is_zero-2.ensures.0 refl)) (omega arith)
 
-pub returns-then-greatest_degree-gt-DEGREE_LIMIT-clause-degree_over : goal.returns-then-greatest_degree-gt-DEGREE_LIMIT-clause-degree_over
-returns-then-greatest_degree-gt-DEGREE_LIMIT-clause-degree_over g c =
+pub returns-then-degree-gt-DEGREE_LIMIT-clause-degree_over : goal.returns-then-degree-gt-DEGREE_LIMIT-clause-degree_over
+returns-then-degree-gt-DEGREE_LIMIT-clause-degree_over g c =
     let value = g.F.Field.value in
     let p = g.F.Field.ORDER in
     let cmp = g.O.MonoOrder.cmp in
@@ -52,7 +52,7 @@ returns-then-greatest_degree-gt-DEGREE_LIMIT-clause-degree_over g c =
       | inl none ↦ absurd (false≢true (c.if-is_zero-2.ensures.1 (sym c.terms-2.ensures.value ∙ ap (residues value) none)))
       | inr found ↦ subst (HasDegree c.greatest_degree-2.result) c.terms-2.ensures.value found
     ] in (
-      λ _. PassesDegree-reached p cmp g.met.O.MonoOrder.laws DEGREE_LIMIT DEGREE_LIMIT c.greatest_degree.result c.greatest_degree-2.result a b c.terms.ensures.ordered c.terms-2.ensures.ordered left right (omega (arith, c.if-greatest_degree-gt-DEGREE_LIMIT.true)),
+      λ _. PassesDegree-reached p cmp g.met.O.MonoOrder.laws DEGREE_LIMIT DEGREE_LIMIT c.greatest_degree.result c.greatest_degree-2.result a b c.terms.ensures.ordered c.terms-2.ensures.ordered left right (omega (arith, c.if-degree-gt-DEGREE_LIMIT.true)),
       λ _. refl,
     )
 
@@ -64,7 +64,7 @@ product-requires-clause-fits g c =
     let a = c.args.self.now in
     let b = c.args.other.now in
     subst₂ (ProductFits DEGREE_LIMIT) (sym c.terms-3.ensures.value) (sym c.terms-4.ensures.value)
-    (ProductFits-within DEGREE_LIMIT c.greatest_degree.result c.greatest_degree-2.result a b (subst (AreWithin c.greatest_degree.result) c.terms.ensures.value c.greatest_degree.ensures.within) (subst (AreWithin c.greatest_degree-2.result) c.terms-2.ensures.value c.greatest_degree-2.ensures.within) (omega (arith, c.if-greatest_degree-gt-DEGREE_LIMIT.false)))
+    (ProductFits-within DEGREE_LIMIT c.greatest_degree.result c.greatest_degree-2.result a b (subst (AreWithin c.greatest_degree.result) c.terms.ensures.value c.greatest_degree.ensures.within) (subst (AreWithin c.greatest_degree-2.result) c.terms-2.ensures.value c.greatest_degree-2.ensures.within) (omega (arith, c.if-degree-gt-DEGREE_LIMIT.false)))
 
 pub returns-in_err-product-clause-degree_over : goal.returns-in_err-product-clause-degree_over
 returns-in_err-product-clause-degree_over g c =
@@ -74,7 +74,7 @@ returns-in_err-product-clause-degree_over g c =
     let a = c.args.self.now in
     let b = c.args.other.now in
     let within : PassesDegree p DEGREE_LIMIT a b → ⊥ =
-    PassesDegree-within p DEGREE_LIMIT c.greatest_degree.result c.greatest_degree-2.result a b (subst (AreWithin c.greatest_degree.result) c.terms.ensures.value c.greatest_degree.ensures.within) (subst (AreWithin c.greatest_degree-2.result) c.terms-2.ensures.value c.greatest_degree-2.ensures.within) (omega (arith, c.if-greatest_degree-gt-DEGREE_LIMIT.false)) in
+    PassesDegree-within p DEGREE_LIMIT c.greatest_degree.result c.greatest_degree-2.result a b (subst (AreWithin c.greatest_degree.result) c.terms.ensures.value c.greatest_degree.ensures.within) (subst (AreWithin c.greatest_degree-2.result) c.terms-2.ensures.value c.greatest_degree-2.ensures.within) (omega (arith, c.if-degree-gt-DEGREE_LIMIT.false)) in
     (λ e. absurd (no_degree_memory c.from_residual.result c.from_residual.ensures.1 e), λ d. absurd (within d))
 
 pub returns-clause-value : goal.returns-clause-value
@@ -97,5 +97,5 @@ returns-clause-degree_over g c =
     let a = c.args.self.now in
     let b = c.args.other.now in
     let within : PassesDegree p DEGREE_LIMIT a b → ⊥ =
-    PassesDegree-within p DEGREE_LIMIT c.greatest_degree.result c.greatest_degree-2.result a b (subst (AreWithin c.greatest_degree.result) c.terms.ensures.value c.greatest_degree.ensures.within) (subst (AreWithin c.greatest_degree-2.result) c.terms-2.ensures.value c.greatest_degree-2.ensures.within) (omega (arith, c.if-greatest_degree-gt-DEGREE_LIMIT.false)) in
+    PassesDegree-within p DEGREE_LIMIT c.greatest_degree.result c.greatest_degree-2.result a b (subst (AreWithin c.greatest_degree.result) c.terms.ensures.value c.greatest_degree.ensures.within) (subst (AreWithin c.greatest_degree-2.result) c.terms-2.ensures.value c.greatest_degree-2.ensures.within) (omega (arith, c.if-degree-gt-DEGREE_LIMIT.false)) in
     (λ e. absurd (no_degree c.within.result (IsOverTerms p TERM_LIMIT (residues value c.in_ok-product.field-0.items)) c.within.ensures.over e), λ d. absurd (within d))

@@ -1,6 +1,6 @@
 use Rattle.std.proofs.lemmas.Result.{IfOk-weaker}
 use Rattle.ffc_term.proofs.WalkLemmas.{AreNodesOf-from_marks, IsClosed-from_AreNodesOf}
-use Rattle.ffc_term.proofs.walk.find_nodes.Goals as goal
+use Rattle.ffc_term.proofs.table.NodeTable.nodes_of.Goals as goal
 
 pub returns-clause-nodes : goal.returns-clause-nodes
 returns-clause-nodes c =
@@ -8,4 +8,4 @@ returns-clause-nodes c =
 
 pub returns-clause-closed : goal.returns-clause-closed
 returns-clause-closed c =
-    IfOk-weaker _ _ _ (λ v found. IsClosed-from_AreNodesOf _ c.args.ids.now _ c.mark_nodes.ensures.valid c.requires.within (AreNodesOf-from_marks _ _ _ _ c.mark_nodes.ensures.valid c.mark_nodes.ensures.marking found)) c.marked.ensures
+    IfOk-weaker _ _ _ (λ v found. IsClosed-from_AreNodesOf _ c.args.ids.now _ c.mark_nodes.ensures.valid c.requires (AreNodesOf-from_marks _ _ _ _ c.mark_nodes.ensures.valid c.mark_nodes.ensures.marking found)) c.marked.ensures
