@@ -354,7 +354,7 @@ fn operations_of_koalabear(rt: HostRuntime) {
 }
 
 #[test]
-fn operations_of_goldilocks(rt: HostRuntime) {
+fn sums_and_products_of_goldilocks(rt: HostRuntime) {
     check::<Goldilocks>(
         &rt,
         &Table {
@@ -397,6 +397,19 @@ fn operations_of_goldilocks(rt: HostRuntime) {
                     18446744056529682436,
                 ),
             ],
+            powers: &[],
+            inverses: &[],
+        },
+    );
+}
+
+#[test]
+fn powers_and_inverses_of_goldilocks(rt: HostRuntime) {
+    check::<Goldilocks>(
+        &rt,
+        &Table {
+            sums: &[],
+            products: &[],
             powers: &[
                 (0, 0, 1),
                 (0, 18446744073709551615, 0),
