@@ -9,8 +9,7 @@ use ffc_cert::{CertReader, CertStop};
 use std::alloc::Global;
 use std::{env, io};
 
-const ENTRY: &[u8] =
-    b"unsat 2\nf 5 1 -3\nc 1 0 1 1 1 3 2\nz\nr 1 +7 1 0\n";
+const ENTRY: &[u8] = b"unsat 2\nf 5 1 -3\nc 1 0 1 1 1 3 2\nz\nr 1 +7 1 0\n";
 
 /// Gives the entries that are whole, and counts them.
 fn drain(reader: &mut CertReader, count: u64) -> Result<u64, CertStop>
