@@ -226,6 +226,20 @@ impl Scanner {
         }
     }
 
+    /// The fault of a text that ends here.
+    pub(crate) fn fault_at_end(&self, window: &[u8]) -> Option<LexFault>
+        requires { self.now.at.index ≤ self.now.kept + length window.now }
+        ensures { (n : ℕ) (text : List ℕ) → window.now ≡ drop self.now.kept text → IsReady n text self.now → self.now.at.index ≡ length text → result ≡ end_fault_of text }
+    {
+        if self.depth == 0 {
+            return None;
+        }
+        match self.kind_so_far(window) {
+            Some(_) => Some(lex_fault(self.first, 2)),
+            None => Some(lex_fault(self.start, 1)),
+        }
+    }
+
     /// Ends what the next byte ends before itself.
     fn end_before(&mut self, window: &[u8], byte: u8) -> Result<(), LexStop>
         requires { self.old.at.index ≤ self.old.kept + length window.now }
@@ -505,20 +519,6 @@ impl Scanner {
             }
         }
         Ok(None)
-    }
-
-    /// The fault of a text that ends here.
-    pub(crate) fn fault_at_end(&self, window: &[u8]) -> Option<LexFault>
-        requires { self.now.at.index ≤ self.now.kept + length window.now }
-        ensures { (n : ℕ) (text : List ℕ) → window.now ≡ drop self.now.kept text → IsReady n text self.now → self.now.at.index ≡ length text → result ≡ end_fault_of text }
-    {
-        if self.depth == 0 {
-            return None;
-        }
-        match self.kind_so_far(window) {
-            Some(_) => Some(lex_fault(self.first, 2)),
-            None => Some(lex_fault(self.start, 1)),
-        }
     }
 }
 
