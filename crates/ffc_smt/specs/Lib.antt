@@ -8,6 +8,7 @@ pub mod Scopes
 pub mod TermReading
 pub mod CommandReading
 pub mod Scripts
+pub mod TableChecks
 pub mod Rows
 pub mod Law
 pub mod Again
