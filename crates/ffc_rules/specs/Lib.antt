@@ -1,0 +1,9 @@
+pub mod Clauses
+pub mod Schemes
+pub mod Hints
+pub mod Cones
+pub mod Assignments
+pub mod Entries
+pub mod Judging
+pub mod Causes
+pub mod Cores

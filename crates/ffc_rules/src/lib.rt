@@ -1,0 +1,5 @@
+//! When an entry of a certificate is right for a check, as definitions alone, and the laws of that.
+#![tactic(auto)]
+
+/// Nothing.
+pub fn nothing() {}
