@@ -7,3 +7,4 @@ pub mod Entries
 pub mod Judging
 pub mod Causes
 pub mod Cores
+pub mod Laws

@@ -1,5 +1,6 @@
 //! When an entry of a certificate is right for a check, as definitions alone, and the laws of that.
 #![tactic(auto)]
 
-/// Nothing.
-pub fn nothing() {}
+mod laws;
+
+pub use laws::{hints_are_sound, schemes_are_true};
