@@ -1,5 +1,0 @@
-//! A stub.
-#![tactic(auto)]
-
-/// Nothing.
-pub fn nothing() {}
