@@ -16,7 +16,9 @@ use Rattle.ffc_term.specs.declared.node.Sort.TheVariants as sort
 use Rattle.ffc_term.specs.Nodes.{node_at, sort_at, order_at}
 use Rattle.ffc_term.specs.Measuring.{value_count, degree_at, length_at}
 use Rattle.ffc_smt.specs.Numbers.{is_order}
-use Rattle.ffc_trees.specs.TreeLines.{Limits as TreeLimits, limits as tree_limits, Broken as BrokenInTree, first_lines, tree_read}
+use Rattle.ffc_trees.specs.TreeLines.{Limits as TreeLimits, limits as tree_limits}
+use Rattle.ffc_trees.specs.Trees.{Broken as BrokenInTree, tree_read}
+use Rattle.ffc_trees.specs.FirstLines.{first_lines}
 use Rattle.ffc_rules.specs.Clauses.{Literal, Clause, plus}
 use Rattle.ffc_rules.specs.Schemes.{scheme_clause}
 use Rattle.ffc_rules.specs.Hints.{follows}
@@ -110,7 +112,7 @@ pub record Given : Type 0 where
 -- the tree of a lemma, which begins at the line after it
 abbrev pub tree_given : Clause → ℕ → Result (List CertLine) BrokenInTree → Result Given Broken
 tree_given clause line (Ok rest) = Ok (record { clause = clause; rest = rest })
-tree_given clause line (Err broken) = Err (breaks broken.rule (line + 1 + broken.line))
+tree_given clause line (Err broken) = Err (breaks broken.rule (line + 1 + broken.offset))
 
 -- a lemma over the order p
 unfoldable pub lemma_given : Limits → NodeCheck → ℕ → List Literal → ℕ → List CertLine → Result Given Broken

@@ -1,0 +1,6 @@
+//! Polynomials of nodes, and case trees over polynomials, as definitions alone, and what they show.
+#![tactic(auto)]
+
+mod laws;
+
+pub use laws::normal_lists;
