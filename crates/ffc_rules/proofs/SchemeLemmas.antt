@@ -114,3 +114,71 @@ or_whole t v ids e =
       | inl on ↦ or_right (not (t v)) _ (some_true t ids ∙ sym e ∙ on)
       | inr off ↦ or_left (not (t v)) _ (ap not off)
     ]
+
+module _ (nodes : List Node) (assignment : List Value) (table : IsTable nodes) where
+  -- the truth of a node is that of its variant
+  truth_is : (v : ℕ) (n : Node) → IsNodeAt nodes v n → truth_at nodes assignment v ≡ truth (value_of_node (order_at nodes v) assignment (values nodes assignment) n)
+  truth_is v n at = ap truth (value_at-is nodes assignment v n table.well_formed at)
+
+  residue_is : (v : ℕ) (n : Node) → IsNodeAt nodes v n → residue_in (values nodes assignment) v ≡ residue (value_of_node (order_at nodes v) assignment (values nodes assignment) n)
+  residue_is v n at = ap residue (value_at-is nodes assignment v n table.well_formed at)
+
+  choice_table : (v c a b e f : ℕ) → IsNodeAt nodes v (IteField c a b) → IsNodeAt nodes e (Eq v a) → IsNodeAt nodes f (Eq v b)
+      → ((truth_at nodes assignment c ≡ true → truth_at nodes assignment e ≡ true) × (truth_at nodes assignment c ≡ false → truth_at nodes assignment f ≡ true))
+  choice_table v c a b e f at first second = (
+    (λ on. truth_is e (Eq v a) first ∙ eq-eqb _ _ (residue_is v (IteField c a b) at ∙ ap (λ t. cond t (residue_in (values nodes assignment) a) (residue_in (values nodes assignment) b)) on)),
+    (λ off. truth_is f (Eq v b) second ∙ eq-eqb _ _ (residue_is v (IteField c a b) at ∙ ap (λ t. cond t (residue_in (values nodes assignment) a) (residue_in (values nodes assignment) b)) off)),
+  )
+
+  schemes_true : (v : ℕ) (n : Node) → IsNodeAt nodes v n → AreTrue (truth_at nodes assignment) (schemes v n)
+  schemes_true v True at = ((or_left (truth_at nodes assignment v) false (truth_is v True at), tt), tt)
+  schemes_true v False at = ((or_left (not (truth_at nodes assignment v)) false (ap not (truth_is v False at)), tt), tt)
+  schemes_true v (Not a) at = subst (λ w. NotTable w (truth_at nodes assignment a)) (sym (truth_is v (Not a) at)) (not_table (truth_at nodes assignment a))
+  schemes_true v (And ids) at =
+      let e : truth_at nodes assignment v ≡ list_all (truth_at nodes assignment) ids = truth_is v (And ids) at in
+      (and_each (truth_at nodes assignment) v ids (λ on. sym e ∙ on), ((and_whole (truth_at nodes assignment) v ids e, tt), tt))
+  schemes_true v (Or ids) at =
+      let e : truth_at nodes assignment v ≡ list_any (truth_at nodes assignment) ids = truth_is v (Or ids) at in
+      (or_each (truth_at nodes assignment) v ids (λ off. sym e ∙ off), ((or_whole (truth_at nodes assignment) v ids e, tt), tt))
+  schemes_true v (Iff a b) at =
+      subst (λ w. IffTable w (truth_at nodes assignment a) (truth_at nodes assignment b)) (sym (truth_is v (Iff a b) at)) (iff_table (truth_at nodes assignment a) (truth_at nodes assignment b))
+  schemes_true v (Xor a b) at =
+      subst (λ w. XorTable w (truth_at nodes assignment a) (truth_at nodes assignment b)) (sym (truth_is v (Xor a b) at)) (xor_table (truth_at nodes assignment a) (truth_at nodes assignment b))
+  schemes_true v (IteBool c a b) at =
+      subst (λ w. IteTable w (truth_at nodes assignment c) (truth_at nodes assignment a) (truth_at nodes assignment b)) (sym (truth_is v (IteBool c a b) at))
+      (ite_table (truth_at nodes assignment c) (truth_at nodes assignment a) (truth_at nodes assignment b))
+  schemes_true v (IteField c a b) at =
+      let after = table.equalities v c a b at in
+      let both = choice_table v c a b (v + 1) (second_equality v a b) at after.0 after.1 in
+      elim (cases_Bool (truth_at nodes assignment c)) as (λ _. AreTrue (truth_at nodes assignment) (schemes v (IteField c a b))) [
+        | inl on ↦ ((or_right (not (truth_at nodes assignment c)) _ (or_left _ false (both.0 on)), tt), ((or_left (truth_at nodes assignment c) _ on, tt), tt))
+        | inr off ↦ ((or_left (not (truth_at nodes assignment c)) _ (ap not off), tt), ((or_right (truth_at nodes assignment c) _ (or_left _ false (both.1 off)), tt), tt))
+      ]
+  schemes_true v (BoolConst k) at = tt
+  schemes_true v (FieldConst k p) at = tt
+  schemes_true v (Num n p) at = tt
+  schemes_true v (Eq a b) at = tt
+  schemes_true v (Add ids) at = tt
+  schemes_true v (Mul ids) at = tt
+  schemes_true v (Neg a) at = tt
+  schemes_true v (Bitsum ids) at = tt
+
+-- P holds of an element by its place, where it holds of each
+pub at_place : {X : Type 0} (P : X → Type 0) (xs : List X) (k : ℕ) (x : X) → AllByRecursion P xs → slice_get xs k ≡ Some x → P x
+at_place P [] k x all at = absurd (none-some x at)
+at_place P (y ∷ xs) zero x all at = subst P (same_Some y x at) all.0
+at_place P (y ∷ xs) (suc k) x all at = at_place P xs k x all.1 at
+
+pub scheme_true : (nodes : List Node) (assignment : List Value) (v scheme index : ℕ) (clause : Clause) → IsTable nodes → scheme_clause nodes v scheme index ≡ Some clause → IsTrueClause nodes assignment clause
+unfolding scheme_clause
+scheme_true nodes assignment v scheme index clause table is = by_node (slice_get nodes v) refl is
+  where
+    by_scheme : (lists : List (List Clause)) (o : Option (List Clause)) → slice_get lists scheme ≡ o → AreTrue (truth_at nodes assignment) lists → slice_get (elim o [ None ↦ [] | Some clauses ↦ clauses ]) index ≡ Some clause → IsTrueClause nodes assignment clause
+    by_scheme lists None e all at = absurd (none-some clause at)
+    by_scheme lists (Some clauses) e all at =
+        at_place (λ c. clause_holds (truth_at nodes assignment) c ≡ true) clauses index clause
+        (at_place (AllByRecursion (λ c. clause_holds (truth_at nodes assignment) c ≡ true)) lists scheme clauses all e) at
+
+    by_node : (o : Option Node) → slice_get nodes v ≡ o → slice_get (elim (slice_get (elim o [ None ↦ [] | Some n ↦ schemes v n ]) scheme) [ None ↦ [] | Some clauses ↦ clauses ]) index ≡ Some clause → IsTrueClause nodes assignment clause
+    by_node None e at = absurd (none-some clause at)
+    by_node (Some n) e at = by_scheme (schemes v n) (slice_get (schemes v n) scheme) refl (schemes_true nodes assignment table v n e) at

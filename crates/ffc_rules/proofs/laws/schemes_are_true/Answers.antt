@@ -1,5 +1,5 @@
-use Rattle.ffc_rules.proofs.SchemeLemmas.{or_whole}
+use Rattle.ffc_rules.proofs.SchemeLemmas.{scheme_true}
 use Rattle.ffc_rules.proofs.laws.schemes_are_true.Goals as goal
 
 pub returns : goal.returns
-returns c = ?
+returns c = scheme_true
