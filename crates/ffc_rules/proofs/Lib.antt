@@ -1,2 +1,1 @@
-pub mod HintLemmas
 pub mod SchemeLemmas

@@ -10,12 +10,13 @@ use Rattle.ffc_term.specs.Nodes.{IsNodeAt, order_at}
 use Rattle.ffc_term.specs.Values.{is_same_truth, truth, residue, values, value_at, value_of_node, truth_in, residue_in}
 use Rattle.ffc_term.specs.Tables.{IsTable, second_equality}
 use Rattle.ffc_term.proofs.ValueLemmas.{value_at-is}
-use Rattle.ffc_rules.specs.Clauses.{Literal, Clause, plus, minus, literal_holds, clause_holds, truth_at, IsTrueClause}
+use Rattle.ffc_clause.specs.Clauses.{Clause, plus, minus, literal_holds, clause_holds}
+use Rattle.ffc_rules.specs.Clauses.{truth_at, IsTrueClause}
 use Rattle.ffc_rules.specs.Schemes.{one, schemes, schemes_at, scheme_clauses, scheme_clause}
 
 -- each clause of each scheme is true
-abbrev AreTrue : (ℕ → Bool) → List (List Clause) → Type 0
-AreTrue t lists = AllByRecursion (AllByRecursion (λ clause. clause_holds t clause ≡ true)) lists
+abbrev AreHeld : (ℕ → Bool) → List (List Clause) → Type 0
+AreHeld t lists = AllByRecursion (AllByRecursion (λ clause. clause_holds t clause ≡ true)) lists
 
 -- Each truth table below is that of one variant: w is the truth of the node, the others that of its children.
 
@@ -130,7 +131,7 @@ module _ (nodes : List Node) (assignment : List Value) (table : IsTable nodes) w
     (λ off. truth_is f (Eq v b) second ∙ eq-eqb _ _ (residue_is v (IteField c a b) at ∙ ap (λ t. cond t (residue_in (values nodes assignment) a) (residue_in (values nodes assignment) b)) off)),
   )
 
-  schemes_true : (v : ℕ) (n : Node) → IsNodeAt nodes v n → AreTrue (truth_at nodes assignment) (schemes v n)
+  schemes_true : (v : ℕ) (n : Node) → IsNodeAt nodes v n → AreHeld (truth_at nodes assignment) (schemes v n)
   schemes_true v True at = ((or_left (truth_at nodes assignment v) false (truth_is v True at), tt), tt)
   schemes_true v False at = ((or_left (not (truth_at nodes assignment v)) false (ap not (truth_is v False at)), tt), tt)
   schemes_true v (Not a) at = subst (λ w. NotTable w (truth_at nodes assignment a)) (sym (truth_is v (Not a) at)) (not_table (truth_at nodes assignment a))
@@ -150,7 +151,7 @@ module _ (nodes : List Node) (assignment : List Value) (table : IsTable nodes) w
   schemes_true v (IteField c a b) at =
       let after = table.equalities v c a b at in
       let both = choice_table v c a b (v + 1) (second_equality v a b) at after.0 after.1 in
-      elim (cases_Bool (truth_at nodes assignment c)) as (λ _. AreTrue (truth_at nodes assignment) (schemes v (IteField c a b))) [
+      elim (cases_Bool (truth_at nodes assignment c)) as (λ _. AreHeld (truth_at nodes assignment) (schemes v (IteField c a b))) [
         | inl on ↦ ((or_right (not (truth_at nodes assignment c)) _ (or_left _ false (both.0 on)), tt), ((or_left (truth_at nodes assignment c) _ on, tt), tt))
         | inr off ↦ ((or_left (not (truth_at nodes assignment c)) _ (ap not off), tt), ((or_right (truth_at nodes assignment c) _ (or_left _ false (both.1 off)), tt), tt))
       ]
@@ -173,7 +174,7 @@ pub scheme_true : (nodes : List Node) (assignment : List Value) (v scheme index 
 unfolding scheme_clause
 scheme_true nodes assignment v scheme index clause table is = by_node (slice_get nodes v) refl is
   where
-    by_scheme : (lists : List (List Clause)) (o : Option (List Clause)) → slice_get lists scheme ≡ o → AreTrue (truth_at nodes assignment) lists → slice_get (elim o [ None ↦ [] | Some clauses ↦ clauses ]) index ≡ Some clause → IsTrueClause nodes assignment clause
+    by_scheme : (lists : List (List Clause)) (o : Option (List Clause)) → slice_get lists scheme ≡ o → AreHeld (truth_at nodes assignment) lists → slice_get (elim o [ None ↦ [] | Some clauses ↦ clauses ]) index ≡ Some clause → IsTrueClause nodes assignment clause
     by_scheme lists None e all at = absurd (none-some clause at)
     by_scheme lists (Some clauses) e all at =
         at_place (λ c. clause_holds (truth_at nodes assignment) c ≡ true) clauses index clause

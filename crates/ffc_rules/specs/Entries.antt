@@ -19,9 +19,9 @@ use Rattle.ffc_smt.specs.Numbers.{is_order}
 use Rattle.ffc_trees.specs.TreeLines.{Limits as TreeLimits, limits as tree_limits}
 use Rattle.ffc_trees.specs.Trees.{Broken as BrokenInTree, tree_read}
 use Rattle.ffc_trees.specs.FirstLines.{first_lines}
-use Rattle.ffc_rules.specs.Clauses.{Literal, Clause, plus}
+use Rattle.ffc_clause.specs.Clauses.{Literal, Clause, plus}
 use Rattle.ffc_rules.specs.Schemes.{scheme_clause}
-use Rattle.ffc_rules.specs.Hints.{follows}
+use Rattle.ffc_clause.specs.Hints.{follows}
 use Rattle.ffc_rules.specs.Cones.{span, work}
 use Rattle.ffc_rules.specs.Assignments.{listed_assignment, are_true, has_model_below}
 

@@ -1,6 +1,5 @@
 pub mod Clauses
 pub mod Schemes
-pub mod Hints
 pub mod Cones
 pub mod Assignments
 pub mod Entries

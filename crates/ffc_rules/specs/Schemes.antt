@@ -7,7 +7,7 @@ use Rattle.std.specs.List.{range_with_len}
 use Rattle.ffc_term.specs.declared.node.Node.{Node}
 use Rattle.ffc_term.specs.declared.node.Node.TheVariants.{True, False, BoolConst, FieldConst, Num, Not, And, Or, Iff, Xor, IteBool, IteField, Eq, Add, Mul, Neg, Bitsum}
 use Rattle.ffc_term.specs.Tables.{second_equality}
-use Rattle.ffc_rules.specs.Clauses.{Clause, plus, minus}
+use Rattle.ffc_clause.specs.Clauses.{Clause, plus, minus}
 
 -- a scheme with one clause
 abbrev pub one : Clause → List Clause

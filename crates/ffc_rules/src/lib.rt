@@ -3,4 +3,4 @@
 
 mod laws;
 
-pub use laws::{hints_are_sound, schemes_are_true};
+pub use laws::schemes_are_true;

@@ -2,7 +2,7 @@
 -- propagate over given in order, as in LRAT (Cruz-Filipe, Heule, Hunt, Kaufmann and Schneider-Kamp 2017).
 use Rattle.std.specs.Prelude.{ℕ, Bool, true, false, not, List, [], ◌∷◌, map, filter, slice_get, option_map, option_and_then, Option, Some, None, if◌then◌else◌}
 use Rattle.std.specs.List.{list_all}
-use Rattle.ffc_rules.specs.Clauses.{Literal, Clause, negated, same_literal, is_among}
+use Rattle.ffc_clause.specs.Clauses.{Literal, Clause, negated, same_literal, is_among}
 
 -- the literals of a clause whose negations are not assumed
 abbrev pub open_literals : List Literal → Clause → List Literal
