@@ -1,1 +1,3 @@
 pub mod SchemeLemmas
+pub mod GivenLemmas
+pub mod StepLemmas

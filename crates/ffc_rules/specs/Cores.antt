@@ -1,5 +1,5 @@
 -- Which assertions and assumptions a refutation uses: those that are reached from its last clause by hints.
-use Rattle.std.specs.Prelude.{ℕ, ◌+◌, List, [], ◌∷◌, ◌++◌, filter, filter_map, slice_get, option_and_then, Option, if◌then◌else◌}
+use Rattle.std.specs.Prelude.{ℕ, ◌+◌, ◌-◌, List, [], ◌∷◌, ◌++◌, filter, filter_map, slice_get, option_and_then, Option, if◌then◌else◌}
 use Rattle.std.specs.List.{range_with_len}
 use Rattle.ffc_cert.specs.declared.entries.Entry.{Entry}
 use Rattle.ffc_cert.specs.declared.entries.Entry.TheVariants.{Sat, UnsatCases, UnsatSteps, Unknown}
@@ -19,13 +19,11 @@ hints_of (Hinted lits hints) = hints
 hints_of _ = []
 
 -- The clauses that are reached from the last one, some of them more than once: those that are found from the last of some
--- clauses down to the first, which is numbered k.
+-- clauses down to the first, which is numbered k. After all clauses the last one is found.
 unfoldable pub reached_clauses : ℕ → List CertLine → List ℕ
-reached_clauses k [] = []
-reached_clauses k (x ∷ []) = k ∷ hints_of x
-reached_clauses k (x ∷ y ∷ rest) =
-    let above = reached_clauses (k + 1) (y ∷ rest) in
-    if is_listed above k then hints_of x ++ above else above
+reached_clauses k [] = (k - 1) ∷ []
+reached_clauses k (x ∷ rest) =
+    let above = reached_clauses (k + 1) rest in if is_listed above k then hints_of x ++ above else above
 
 -- the number that a clause takes from the list in force
 abbrev pub taken_by : CertLine → List ℕ
