@@ -1,3 +1,5 @@
 pub mod SchemeLemmas
 pub mod GivenLemmas
 pub mod StepLemmas
+pub mod AssignmentLemmas
+pub mod ConeLemmas

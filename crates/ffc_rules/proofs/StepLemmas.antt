@@ -28,13 +28,13 @@ use Rattle.ffc_smt.specs.Numbers.{is_order}
 use Rattle.ffc_rules.proofs.GivenLemmas.{same_Ok, err≢ok, chosen_ok, IsNumberTrue, given_true}
 
 -- a number that is among some is among more
-listed_right : (xs ys : List ℕ) (j : ℕ) → is_listed ys j ≡ true → is_listed (xs ++ ys) j ≡ true
+pub listed_right : (xs ys : List ℕ) (j : ℕ) → is_listed ys j ≡ true → is_listed (xs ++ ys) j ≡ true
 listed_right xs ys j is = list_any-append (λ k. j == k) xs ys ∙ or_right (is_listed xs j) _ is
 
-listed_left : (xs ys : List ℕ) (j : ℕ) → is_listed xs j ≡ true → is_listed (xs ++ ys) j ≡ true
+pub listed_left : (xs ys : List ℕ) (j : ℕ) → is_listed xs j ≡ true → is_listed (xs ++ ys) j ≡ true
 listed_left xs ys j is = list_any-append (λ k. j == k) xs ys ∙ or_left _ (is_listed ys j) is
 
-listed_cases : (xs ys : List ℕ) (j : ℕ) → is_listed (xs ++ ys) j ≡ true → (is_listed xs j ≡ true) ⊎ (is_listed ys j ≡ true)
+pub listed_cases : (xs ys : List ℕ) (j : ℕ) → is_listed (xs ++ ys) j ≡ true → (is_listed xs j ≡ true) ⊎ (is_listed ys j ≡ true)
 listed_cases xs ys j is = or_cases (is_listed xs j) (is_listed ys j) (sym (list_any-append (λ k. j == k) xs ys) ∙ is)
 
 -- what holds of each number that is listed holds of the list
