@@ -81,7 +81,7 @@ abbrev pub Among : ℕ × ℕ → List (ℕ × ℕ) → Type 0
 Among p [] = ⊥
 Among p (q ∷ pairs) = (p ≡ q) ⊎ Among p pairs
 
-from_each : (P : ℕ × ℕ → Type 0) (pairs : List (ℕ × ℕ)) (p : ℕ × ℕ) → AllByRecursion P pairs → Among p pairs → P p
+pub from_each : (P : ℕ × ℕ → Type 0) (pairs : List (ℕ × ℕ)) (p : ℕ × ℕ) → AllByRecursion P pairs → Among p pairs → P p
 from_each P [] p all has = absurd has
 from_each P (q ∷ pairs) p all (inl e) = subst P (sym e) all.0
 from_each P (q ∷ pairs) p all (inr later) = from_each P pairs p all.1 later
@@ -136,7 +136,7 @@ abbrev pub number_of_value : Value → ℕ
 number_of_value (value.Bool b) = cond b 1 0
 number_of_value (value.Field n) = n
 
-number_fits : (n : Node) (v : Value) → IsValueFor n v → number_of_value v < value_count n
+pub number_fits : (n : Node) (v : Value) → IsValueFor n v → number_of_value v < value_count n
 number_fits (BoolConst k) (value.Bool true) fits = omega arith
 number_fits (BoolConst k) (value.Bool false) fits = omega arith
 number_fits (FieldConst k p) (value.Field m) fits = fits

@@ -3,3 +3,4 @@ pub mod GivenLemmas
 pub mod StepLemmas
 pub mod AssignmentLemmas
 pub mod ConeLemmas
+pub mod CaseLemmas
