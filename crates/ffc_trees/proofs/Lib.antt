@@ -1,1 +1,3 @@
 pub mod NormalLemmas
+pub mod LineLemmas
+pub mod RefuteLemmas
