@@ -1,3 +1,4 @@
 pub mod NormalLemmas
 pub mod LineLemmas
 pub mod RefuteLemmas
+pub mod ReadLemmas

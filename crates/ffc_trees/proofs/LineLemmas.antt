@@ -1,7 +1,7 @@
 -- What each rule of a line says, and the values of what it adds at a point where the lines so far are 0.
-use Rattle.std.proofs.Common.{◌≡◌, ℕ, zero, suc, ◌+◌, ◌-◌, ◌*◌, ◌%◌, ◌^◌, ◌<◌, ◌≤◌, Bool, true, false, not, ◌&&◌, ◌==◌, nat_lt, if◌then◌else◌, List, [], ◌∷◌, ◌++◌, length, All, Result, Ok, Err, refl, sym, ap, ap₂, ◌∙◌, inl, inr, arith, eqb-true, mul_comm}
+use Rattle.std.proofs.Common.{◌≡◌, ℕ, zero, suc, ◌+◌, ◌-◌, ◌*◌, ◌%◌, ◌^◌, ◌<◌, ◌≤◌, Bool, true, false, not, ◌&&◌, ◌==◌, nat_lt, if◌then◌else◌, List, [], ◌∷◌, ◌++◌, length, All, Result, Ok, Err, refl, sym, ap, ap₂, ◌∙◌, inl, inr, arith, eqb-true, eq-eqb, mul_comm}
 use Rattle.std.proofs.Math.Nat.{zero-mod, mod-eq_of_lt, pow-zero, pow-succ', mul_assoc, mul-one}
-use Rattle.std.proofs.lemmas.Bool.{cases_lt, and_parts, not-false, ltb-true, false≢true}
+use Rattle.std.proofs.lemmas.Bool.{cases_lt, and_parts, and_from, not_from_true, ltb-false, le-ltb, cond-false, false≢true}
 use Rattle.std.proofs.lemmas.List.{get_or_past}
 use Rattle.std.proofs.lemmas.List.Elements.{All-head, All-tail}
 use Rattle.std.specs.List.{list_all, range_with_len}
@@ -16,7 +16,7 @@ use Rattle.ffc_uni.specs.Chains.{pair_count}
 use Rattle.ffc_uni.proofs.ValueLemmas.{sum_at-plus}
 use Rattle.ffc_uni.proofs.RingLemmas.{value_in_ring}
 use Rattle.ffc_trees.specs.Laws.{AreZeroAt}
-use Rattle.ffc_trees.specs.TreeLines.{Limits, Multiple, line_at, is_there, are_there, is_written_within, is_within, are_residues, sum_of_multiples, combined, combine_line, is_power, is_in, coefficients_of, is_zero, is_same, are_below, fermat_line, chain_line, root_line, case_lines, is_root_product, split_line, values_line, is_nonzero_constant, last_line, closes}
+use Rattle.ffc_trees.specs.TreeLines.{Limits, Multiple, line_at, is_there, are_there, is_written_within, is_within, are_residues, sum_of_multiples, combined, combine_line, is_power, is_in, coefficients_of, is_zero, is_same, are_below, Factor, times_factor, step_line, fermat_line, chain_line, root_line, case_lines, is_root_product, split_line, values_line, is_nonzero_constant, last_line, closes}
 use Rattle.ffc_trees.proofs.NormalLemmas.{poly_value-normal}
 
 -- what is left of a test that was passed
@@ -137,3 +137,36 @@ values_line-ok p lines x count cases h =
     let small = passed_not (nat_lt 17 p) 7 one cases h in
     let all = passed (count == p) 7 two cases small.1 in
     same_ok two (case_lines p lines x (range_with_len 0 p)) cases refl all.1
+
+pub step_line-ok : (l : Limits) (p : ℕ) (f : Coefficients) (factor : Factor) (r quotient remainder next : Coefficients) → step_line l p f factor r quotient remainder ≡ Ok next → (length quotient ≤ l.coefficients) × (length remainder ≤ l.coefficients) × (are_below p quotient ≡ true) × (are_below p remainder ≡ true) × SameUnivariate p (times_factor factor r) (plus (times quotient f) remainder) × (remainder ≡ next)
+unfolding step_line
+step_line-ok l p f factor r quotient remainder next h =
+    let four : Result Coefficients ℕ = Ok remainder in
+    let three : Result Coefficients ℕ = if not (is_same p (times_factor factor r) (plus (times quotient f) remainder)) then Err 6 else four in
+    let two : Result Coefficients ℕ = if not (are_below p quotient && are_below p remainder) then Err 6 else three in
+    let one : Result Coefficients ℕ = if nat_lt l.coefficients (length remainder) then Err 11 else two in
+    let first = passed_not (nat_lt l.coefficients (length quotient)) 11 one next h in
+    let second = passed_not (nat_lt l.coefficients (length remainder)) 11 two next first.1 in
+    let third = passed (are_below p quotient && are_below p remainder) 6 three next second.1 in
+    let fourth = passed (is_same p (times_factor factor r) (plus (times quotient f) remainder)) 6 four next third.1 in
+    let both = and_parts (are_below p quotient) (are_below p remainder) third.0 in
+    (ltb-false l.coefficients (length quotient) first.0, ltb-false l.coefficients (length remainder) second.0, both.0, both.1, is_same-same p (times_factor factor r) (plus (times quotient f) remainder) fourth.0, same_ok four remainder next refl fourth.1)
+
+-- ---- where the rules are kept
+
+same-is_zero : (p : ℕ) (a : Coefficients) → SameUnivariate p a [] → is_zero p a ≡ true
+same-is_zero p [] same = refl
+same-is_zero p (c ∷ a) same = and_from (c % p == 0) (is_zero p a) (eq-eqb (c % p) 0 (same 0 ∙ zero-mod p)) (same-is_zero p a (λ k. same (suc k)))
+
+pub same-is_same : (p : ℕ) (a b : Coefficients) → SameUnivariate p a b → is_same p a b ≡ true
+same-is_same p [] b same = same-is_zero p b (λ k. sym (same k))
+same-is_same p (x ∷ a) [] same = same-is_zero p (x ∷ a) same
+same-is_same p (x ∷ a) (y ∷ b) same = and_from (x % p == y % p) (is_same p a b) (eq-eqb (x % p) (y % p) (same 0)) (same-is_same p a b (λ k. same (suc k)))
+
+pub step_line-kept : (l : Limits) (p : ℕ) (f : Coefficients) (factor : Factor) (r quotient remainder : Coefficients) → length quotient ≤ l.coefficients → length remainder ≤ l.coefficients → are_below p quotient ≡ true → are_below p remainder ≡ true → SameUnivariate p (times_factor factor r) (plus (times quotient f) remainder) → step_line l p f factor r quotient remainder ≡ Ok remainder
+unfolding step_line
+step_line-kept l p f factor r quotient remainder short small below residues same =
+    cond-false _ _ _ (le-ltb l.coefficients (length quotient) short)
+    ∙ cond-false _ _ _ (le-ltb l.coefficients (length remainder) small)
+    ∙ cond-false _ _ _ (not_from_true (are_below p quotient && are_below p remainder) (and_from (are_below p quotient) (are_below p remainder) below residues))
+    ∙ cond-false _ _ _ (not_from_true (is_same p (times_factor factor r) (plus (times quotient f) remainder)) (same-is_same p (times_factor factor r) (plus (times quotient f) remainder) same))
