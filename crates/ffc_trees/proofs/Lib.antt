@@ -2,3 +2,4 @@ pub mod NormalLemmas
 pub mod LineLemmas
 pub mod RefuteLemmas
 pub mod ReadLemmas
+pub mod NodePolyLemmas

@@ -10,7 +10,8 @@ use Rattle.ffc_trees.specs.Trees.{Power, Stage, Open, Within, with_line, with_po
 use Rattle.ffc_trees.specs.Closing.{written_step, AreWritten, IsChainIn, Closes, CloseAll}
 use Rattle.ffc_trees.specs.Closing.Closes.{combine, chain, split, values, close}
 use Rattle.ffc_trees.specs.Closing.CloseAll.{no_cases, each}
-use Rattle.ffc_trees.proofs.LineLemmas.{step_line-ok}
+use Rattle.ffc_trees.proofs.LineLemmas.{step_line-ok, step_line-kept}
+use Rattle.std.proofs.lemmas.Bool.{false≢true}
 
 -- the steps go on from the power r over these factors
 abbrev pub IsChainOver : ℕ → Coefficients → Coefficients → List Factor → List Pair → Type 0
@@ -64,6 +65,10 @@ record IsClosed (is : Bool) (others : List (List Terms)) (stage : Stage) : Type 
 closed-ok : (is : Bool) (others : List (List Terms)) (stage : Stage) → (let bad : Result Stage ℕ = Err 8 in if is then Ok (Open others) else bad) ≡ Ok stage → IsClosed is others stage
 closed-ok true others stage h = record { closed = refl; gives = cc }
 closed-ok false others stage h = absurd (cc)
+
+closed_read : (is : Bool) (others : List (List Terms)) → is ≡ true → (let bad : Result Stage ℕ = Err 8 in if is then Ok (Open others) else bad) ≡ Ok (Open others)
+closed_read true others is = refl
+closed_read false others is = absurd (false≢true is)
 
 in_front : (line : CertLine) (xs ys : List CertLine) → xs ≡ ys → line ∷ xs ≡ line ∷ ys
 in_front line xs ys e = ap (λ zs. line ∷ zs) e
@@ -167,3 +172,74 @@ module _ (l : Limits) (p : ℕ) where
   tree_read-closes lines tree rest h =
       let parts = uncons lines [] tree rest (read_closes tree rest 0 (Open (lines ∷ [])) h) in
       subst (λ xs. Closes l p lines tree xs) (nothing_later parts.behind rest parts.later) parts.first
+
+  -- ---- what closes is read
+
+  -- reading goes on behind a part of the lines
+  record GoesOn (stage : Stage) (at : ℕ) (tree : List CertLine) (next : Stage) (behind : List CertLine) : Type 0 where
+    place : ℕ
+    read : read_from l p stage at tree ≡ read_from l p next place behind
+
+  branch_next : (lines : List Terms) (others : List (List Terms)) (at : ℕ) (line : CertLine) (tree : List CertLine) (stage : Stage) → branch_read l p lines others line ≡ Ok stage → read_from l p (Open (lines ∷ others)) at (line ∷ tree) ≡ read_from l p stage (suc at) tree
+  unfolding read_from
+  branch_next lines others at line tree stage h = ap (next_read at (λ s. read_from l p s (suc at) tree)) h
+
+  step_next : (c : Power) (lines : List Terms) (others : List (List Terms)) (at : ℕ) (line : CertLine) (tree : List CertLine) (stage : Stage) → step_read l p c lines others line ≡ Ok stage → read_from l p (Within c lines others) at (line ∷ tree) ≡ read_from l p stage (suc at) tree
+  unfolding read_from
+  step_next c lines others at line tree stage h = ap (next_read at (λ s. read_from l p s (suc at) tree)) h
+
+  steps_read : (x : ℕ) (f r : Coefficients) (factors : List Factor) (lines : List Terms) (others : List (List Terms)) (steps : List Pair) (at : ℕ) (behind : List CertLine) → IsChainOver p f r factors steps → AreWritten l p steps → GoesOn (with_power p x f lines others factors r) at (map written_step steps ++ behind) (with_line lines others (fermat_line p x (last_remainder r steps))) behind
+  steps_read x f r [] lines others [] at behind over written = record { place = at; read = refl }
+  steps_read x f r [] lines others (s ∷ steps) at behind over written = absurd over
+  steps_read x f r (factor ∷ factors) lines others [] at behind over written = absurd over
+  steps_read x f r (factor ∷ factors) lines others (s ∷ steps) at behind over written =
+      let later = steps_read x f s.1 factors lines others steps (suc at) behind over.1 written.4 in
+      let c : Power = record { variable = x; modulus = f; power = r; factor = factor; factors = factors } in
+      let here : step_read l p c lines others (written_step s) ≡ Ok (with_power p x f lines others factors s.1) =
+      ap (kept (with_power p x f lines others factors)) (step_line-kept l p f factor r s.0 s.1 written.0 written.1 written.2 written.3 over.0)
+      in record {
+        place = later.place;
+        read = step_next c lines others at (written_step s) (map written_step steps ++ behind) (with_power p x f lines others factors s.1) here ∙ later.read;
+      }
+
+  mutual
+    closed_is_read : (lines : List Terms) (tree rest : List CertLine) → Closes l p lines tree rest → (others : List (List Terms)) (at : ℕ) → GoesOn (Open (lines ∷ others)) at tree (Open others) rest
+    closed_is_read lines _ rest (combine {tree = tree} multiples line h more) others at =
+        let later = closed_is_read (lines ++ line ∷ []) tree rest more others (suc at) in
+        record { place = later.place; read = branch_next lines others at (Combine multiples) tree (with_line lines others line) (ap (kept (with_line lines others)) h) ∙ later.read }
+    closed_is_read lines _ rest (chain {tree = tree} {behind = behind} k x count f steps h whole more) others at =
+        let start : branch_read l p lines others (Chain k x count) ≡ Ok (with_power p x f lines others (factors_over (digits_of p)) indeterminate) =
+        ap (kept (λ g. with_power p x g lines others (factors_over (digits_of p)) indeterminate)) h
+        in let middle = steps_read x f indeterminate (factors_over (digits_of p)) lines others steps (suc at) behind (chain_over_from p f indeterminate (digits_of p) steps whole.chain) whole.written in
+        let later = closed_is_read (lines ++ fermat_line p x (last_remainder indeterminate steps) ∷ []) behind rest more others middle.place in
+        record {
+          place = later.place;
+          read =
+              branch_next lines others at (Chain k x count) tree (with_power p x f lines others (factors_over (digits_of p)) indeterminate) start
+              ∙ ap (read_from l p (with_power p x f lines others (factors_over (digits_of p)) indeterminate) (suc at)) whole.front
+              ∙ middle.read ∙ later.read;
+        }
+    closed_is_read lines _ rest (split {tree = tree} k x zeros cases h all) others at =
+        let later = all_are_read cases tree rest all others (suc at) in
+        record { place = later.place; read = branch_next lines others at (Split k x zeros) tree (Open (cases ++ others)) (ap (kept (λ cs. Open (cs ++ others))) h) ∙ later.read }
+    closed_is_read lines _ rest (values {tree = tree} x count cases h all) others at =
+        let later = all_are_read cases tree rest all others (suc at) in
+        record { place = later.place; read = branch_next lines others at (Values x count) tree (Open (cases ++ others)) (ap (kept (λ cs. Open (cs ++ others))) h) ∙ later.read }
+    closed_is_read lines _ rest (close is) others at =
+        record { place = suc at; read = branch_next lines others at Close rest (Open others) (closed_read (closes p lines) others is) }
+
+    all_are_read : (cases : List (List Terms)) (tree rest : List CertLine) → CloseAll l p cases tree rest → (others : List (List Terms)) (at : ℕ) → GoesOn (Open (cases ++ others)) at tree (Open others) rest
+    all_are_read [] _ rest no_cases others at = record { place = at; read = refl }
+    all_are_read (lines ∷ cases) tree rest (each {behind = behind} first more) others at =
+        let here = closed_is_read lines tree behind first (cases ++ others) at in
+        let later = all_are_read cases behind rest more others here.place in
+        record { place = later.place; read = here.read ∙ later.read }
+
+  ended : (at : ℕ) (rest : List CertLine) → read_from l p (Open []) at rest ≡ Ok rest
+  unfolding read_from
+  ended at rest = refl
+
+  pub closes-tree_read : (lines : List Terms) (tree rest : List CertLine) → Closes l p lines tree rest → tree_read l p lines tree ≡ Ok rest
+  closes-tree_read lines tree rest closed =
+      let whole = closed_is_read lines tree rest closed [] 0 in
+      whole.read ∙ ended whole.place rest
