@@ -3,3 +3,4 @@ pub mod LineLemmas
 pub mod RefuteLemmas
 pub mod ReadLemmas
 pub mod NodePolyLemmas
+pub mod FirstLineLemmas

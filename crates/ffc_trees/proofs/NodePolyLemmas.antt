@@ -48,6 +48,11 @@ products_alike : (p a b c d : ℕ) → a % p ≡ b % p → c % p ≡ d % p → (
 products_alike p a b c d e f =
     sym (mul-mod_first a c p) ∙ sym (mul-mod_second (a % p) c p) ∙ ap₂ (λ x y. x * y % p) e f ∙ mul-mod_second (b % p) d p ∙ mul-mod_first b d p
 
+pub variable_value : (p : ℕ) (point : ℕ → ℕ) (x : ℕ) → point x < p → poly_value p point (variable x) ≡ point x
+variable_value p point x below =
+    let one : point x ^ 1 ≡ point x = pow-suc (point x) 0 ∙ ap (λ n. n * point x) (pow-zero (point x)) ∙ one-mul (point x) in
+    ap (λ n. (1 * (n * 1) + 0) % p) one ∙ ap (λ n. n % p) (let same : 1 * (point x * 1) + 0 ≡ point x = omega arith in same) ∙ mod-eq_of_lt below
+
 module _ (before : List Node) (A vs : List Value) (polys : List Terms) (p id : ℕ) (point : ℕ → ℕ) (positive : 0 < p) (told : (c : ℕ) → IsFieldAt before p c → poly_value p point (poly_in polys c) ≡ residue_in vs c) where
   here_alike : (c : ℕ) → IsFieldAt before p c → value_sum point (poly_in polys c) % p ≡ residue_in vs c % p
   here_alike c is = sym (mod-mod (value_sum point (poly_in polys c)) p) ∙ ap (λ n. n % p) (told c is)
@@ -83,11 +88,6 @@ module _ (before : List Node) (A vs : List Value) (polys : List Terms) (p id : �
   negated_value c is =
       ap (λ n. n % p) (scaled_value (p - 1) (poly_in polys c)) ∙ negated_mod p (value_sum point (poly_in polys c)) positive ∙ ap (λ n. (p - n) % p) (told c is)
 
-  variable_value : point id < p → poly_value p point (variable id) ≡ point id
-  variable_value below =
-      let one : point id ^ 1 ≡ point id = pow-suc (point id) 0 ∙ ap (λ n. n * point id) (pow-zero (point id)) ∙ one-mul (point id) in
-      ap (λ n. (1 * (n * 1) + 0) % p) one ∙ ap (λ n. n % p) (let same : 1 * (point id * 1) + 0 ≡ point id = omega arith in same) ∙ mod-eq_of_lt below
-
   -- the children are of the node's order
   of_order : (ids : List ℕ) → (fits : AreOfOneField before ids) → fits.order ≡ p → All (IsFieldAt before p) ids
   of_order ids fits e = subst (λ q. All (IsFieldAt before q) ids) e fits.each
@@ -96,11 +96,11 @@ module _ (before : List Node) (A vs : List Value) (polys : List Terms) (p id : �
   first_order ids fits is = same_field p fits.order (sym (fits.each 0 0 fits.some).1 ∙ is)
 
   node_value : (n : Node) → Fits before n → sort_of_node (sorts before) n ≡ sort.Field p → point id ≡ residue (value_of_node p A vs n) → point id < p → poly_value p point (expanded p id polys n) ≡ residue (value_of_node p A vs n)
-  node_value (FieldConst k q) fits is here below = variable_value below ∙ here
+  node_value (FieldConst k q) fits is here below = variable_value p point id below ∙ here
   node_value (Num n q) fits is here below =
       let small : n < p = subst (λ r. n < r) (same_field p q is) fits.1 in
       ap (λ m. m % p) (let same : n * 1 + 0 ≡ n = omega arith in same) ∙ mod-eq_of_lt small
-  node_value (IteField c a b) fits is here below = variable_value below ∙ here
+  node_value (IteField c a b) fits is here below = variable_value p point id below ∙ here
   node_value (Add ids) fits is here below = sum_value ids (of_order ids fits (first_order ids fits is))
   node_value (Mul ids) fits is here below = product_value ids (of_order ids fits (first_order ids fits is))
   node_value (Neg a) fits is here below = negated_value a (of_order (a ∷ []) fits (first_order (a ∷ []) fits is) 0 0 (omega arith))
