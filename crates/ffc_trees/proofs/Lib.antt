@@ -4,3 +4,4 @@ pub mod RefuteLemmas
 pub mod ReadLemmas
 pub mod NodePolyLemmas
 pub mod FirstLineLemmas
+pub mod TakenLemmas
