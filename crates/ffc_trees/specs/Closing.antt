@@ -39,5 +39,5 @@ mutual
 
   -- a tree for each of these cases, one after another
   pub data CloseAll (l : Limits) (p : ℕ) : List (List Terms) → List CertLine → List CertLine → Type 0 where
-    none : {rest : List CertLine} → CloseAll l p [] rest rest
+    no_cases : {rest : List CertLine} → CloseAll l p [] rest rest
     each : {lines : List Terms} {cases : List (List Terms)} {tree behind rest : List CertLine} → Closes l p lines tree behind → CloseAll l p cases behind rest → CloseAll l p (lines ∷ cases) tree rest

@@ -3,6 +3,7 @@ use Rattle.std.specs.Prelude.{◌≡◌, ℕ, ◌<◌, true, false, List, ◌++�
 use Rattle.ffc_field.specs.Orders.{IsOrder}
 use Rattle.ffc_ring.specs.Polynomial.{Terms, SamePolynomial, poly_value}
 use Rattle.ffc_cert.specs.declared.entries.CertLine.{CertLine}
+use Rattle.ffc_cert.specs.Spelling.{is_clause}
 use Rattle.ffc_term.specs.declared.node.Node.{Node}
 use Rattle.ffc_term.specs.declared.node.Node.TheVariants.{Eq}
 use Rattle.ffc_term.specs.declared.value.Value.{Value}
@@ -82,3 +83,13 @@ abbrev pub LemmasAreSound : Type 0
 LemmasAreSound = (l : Limits) (nodes : List Node) (assignment : List Value) (p : ℕ) (lits : List Literal) (tree rest : List CertLine)
     → IsTable nodes → IsOrder p → All (IsOnEquality nodes p) lits → tree_read l p (first_lines nodes p lits) tree ≡ Ok rest
     → clause_truth nodes assignment lits ≡ true
+
+-- the lines of a tree: there is one at least, and none is a clause
+pub record IsTakenOff (tree rest : List CertLine) : Type 0 where
+  pub front : List CertLine
+  pub parts : tree ≡ front ++ rest
+  pub some : 0 < length front
+  pub in_tree : All (λ line. is_clause line ≡ false) front
+
+abbrev pub TreesAreTakenOff : Type 0
+TreesAreTakenOff = (l : Limits) (p : ℕ) (lines : List Terms) (tree rest : List CertLine) → tree_read l p lines tree ≡ Ok rest → IsTakenOff tree rest

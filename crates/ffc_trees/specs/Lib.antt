@@ -5,3 +5,4 @@ pub mod Trees
 pub mod Closing
 pub mod FirstLines
 pub mod Laws
+pub mod Rows
