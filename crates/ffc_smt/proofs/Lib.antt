@@ -15,3 +15,8 @@ pub mod SoundTerms
 pub mod SoundReading
 pub mod SoundStates
 pub mod ScriptLemmas
+pub mod ConstantLemmas
+pub mod WalkLemmas
+pub mod TermWalk
+pub mod CommandWalk
+pub mod ScopeStates

@@ -50,7 +50,7 @@ found_first : {A : Type 0} (P : A → Type 0) (b : Bool) (x m : A) (o : Option A
 found_first P true x m o e h k = let same : x ≡ m = cc in subst P same h
 found_first P false x m o e h k = k e
 
-found_all : {A : Type 0} (P : A → Type 0) (ns : Env A) (name : Name) (m : A) → All (λ x. P x.1) ns → found ns name ≡ Some m → P m
+pub found_all : {A : Type 0} (P : A → Type 0) (ns : Env A) (name : Name) (m : A) → All (λ x. P x.1) ns → found ns name ≡ Some m → P m
 found_all P [] name m h e = cc
 found_all P (n ∷ ns) name m h e =
     found_first P (bytes_eq n.0 name) n.1 m (found ns name) e (All-head (λ x. P x.1) n ns h) (found_all P ns name m (All-tail (λ x. P x.1) n ns h))
