@@ -20,3 +20,4 @@ pub mod WalkLemmas
 pub mod TermWalk
 pub mod CommandWalk
 pub mod ScopeStates
+pub mod ConeLemmas

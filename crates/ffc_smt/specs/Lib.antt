@@ -21,3 +21,4 @@ pub mod WellSorted
 pub mod States
 pub mod ScopedStates
 pub mod ScriptLaw
+pub mod CheckLaws
