@@ -21,3 +21,6 @@ pub mod TermWalk
 pub mod CommandWalk
 pub mod ScopeStates
 pub mod ConeLemmas
+pub mod DeclaredLemmas
+pub mod CheckLemmas
+pub mod StepLemmas

@@ -1,5 +1,5 @@
 -- Every state of a script keeps its scopes.
-use Rattle.std.proofs.Common.{◌≡◌, ℕ, zero, suc, ◌+◌, ◌<◌, ◌≤◌, if◌then◌else◌, Bool, true, false, List, [], ◌∷◌, ◌++◌, length, drop, replicate, Some, None, Option, All, Contains, ⊎_elim, refl, sym, ap, ◌∙◌, subst, arith, append-nil, length-append}
+use Rattle.std.proofs.Common.{◌≡◌, ℕ, zero, suc, ◌+◌, ◌<◌, ◌≤◌, if◌then◌else◌, Bool, true, false, List, [], ◌∷◌, ◌++◌, length, drop, replicate, flat_map, reverse, Some, None, Option, All, Contains, ⊎_elim, refl, sym, ap, ◌∙◌, subst, arith, append-nil, length-append}
 use Rattle.std.proofs.lemmas.List.Elements.{All-cons, All-nil, All-head, All-tail, All-append, All-push, All-weaker, All-drop, All-replicate, Contains-append_left, Contains-append_right, Contains-append_cases}
 use Rattle.ffc_field.specs.Orders.{IsOrder}
 use Rattle.ffc_term.specs.declared.node.Sort.{Sort}
@@ -7,7 +7,7 @@ use Rattle.ffc_term.specs.declared.node.Sort.TheVariants as sort
 use Rattle.ffc_smt.specs.Trees.{Word, Tree}
 use Rattle.ffc_smt.specs.Terms.{Name, Term, Parameter, Setting, PrintSuccess, ProduceModels, GlobalDeclarations, ProduceUnsatCores, ProduceUnsatAssumptions, Command, SetLogic, SetOption, Declare, DefineSort, Define, Assert, Push, Pop, ResetAssertions, Reset}
 use Rattle.ffc_smt.specs.Meaning.{Env, found}
-use Rattle.ffc_smt.specs.Scopes.{Meant, AsConstant, AsTerm, AsMacro, Assertion, Level, State, first_state, scope_of, empty_level, at_innermost, with_name, with_sort, with_assertion}
+use Rattle.ffc_smt.specs.Scopes.{assertions_of, Meant, AsConstant, AsTerm, AsMacro, Assertion, Level, State, first_state, scope_of, empty_level, at_innermost, with_name, with_sort, with_assertion}
 use Rattle.ffc_smt.specs.Constants.{MeantConstantsAre}
 use Rattle.ffc_smt.specs.Faults.{Fault, Sound}
 use Rattle.ffc_smt.specs.TermReading.{sort_read, term_read, term_named}
@@ -16,7 +16,7 @@ use Rattle.ffc_smt.specs.Scripts.{named_orders, first_named, changed, labelled, 
 use Rattle.ffc_smt.specs.Scripts.{definition_of as meant_by}
 use Rattle.ffc_smt.specs.ScopedStates.{IsDeclaredIn, SpeaksOf, AreNumberedBelow, IsScopedLevel, names_from, AreScopedLevels, IsScopedState}
 use Rattle.ffc_smt.proofs.ReadLemmas.{IfSound, all_sound, weaker_sound}
-use Rattle.ffc_smt.proofs.SoundStates.{found_all}
+use Rattle.ffc_smt.proofs.SoundStates.{found_all, flat_all, all_reverse}
 use Rattle.ffc_smt.proofs.CommandLemmas.{IsCommandOf, command_is, all_steps}
 use Rattle.ffc_smt.proofs.ConstantLemmas.{constants_weaker, meant_weaker}
 use Rattle.ffc_smt.proofs.WalkLemmas.{MayFail, each_any}
@@ -91,6 +91,20 @@ all_meant [] base more h g =
 all_meant (l ∷ ls) base more h g =
     All-append (λ x. MeantConstantsAre (IsDeclaredIn more) x.1) l.names (names_from ls base) (level_more (names_from (l ∷ ls) base) more l h g.0).meant
     (all_meant ls base more (λ x has. h x (Contains-append_right l.names (names_from ls base) x has)) g.1)
+
+-- the same of the assertions of the levels above 0
+pub levels_assert : (ls : List Level) (base : Level) (more : Env Meant) → IsAmong (names_from ls base) more → AreScopedLevels ls base → All (λ l. All (λ a. SpeaksOf more a.term) l.asserted) ls
+levels_assert [] base more h g = All-nil (λ l. All (λ a. SpeaksOf more a.term) l.asserted)
+levels_assert (l ∷ ls) base more h g =
+    All-cons (λ l. All (λ a. SpeaksOf more a.term) l.asserted) l ls (level_more (names_from (l ∷ ls) base) more l h g.0).asserted
+    (levels_assert ls base more (λ x has. h x (Contains-append_right l.names (names_from ls base) x has)) g.1)
+
+pub scoped_assertions : (s : State) → AreScopedLevels s.levels s.base → All (λ a. SpeaksOf (scope_of s).names a.term) (assertions_of s)
+scoped_assertions s g =
+    let names = (scope_of s).names in
+    let P = λ (a : Assertion). SpeaksOf names a.term in
+    All-append P s.base.asserted (flat_map (λ l. l.asserted) (reverse s.levels)) (level_more s.base.names names s.base (among_base s.levels s.base) (base_scoped s.levels s.base g)).asserted
+    (flat_all (λ l. l.asserted) P (reverse s.levels) (all_reverse (λ l. All P l.asserted) s.levels (levels_assert s.levels s.base names (λ x has. has) g)))
 
 -- States, by their parts
 

@@ -22,3 +22,4 @@ pub mod States
 pub mod ScopedStates
 pub mod ScriptLaw
 pub mod CheckLaws
+pub mod StepLaws
