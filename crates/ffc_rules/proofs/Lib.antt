@@ -4,3 +4,4 @@ pub mod StepLemmas
 pub mod AssignmentLemmas
 pub mod ConeLemmas
 pub mod CaseLemmas
+pub mod EntryLemmas

@@ -194,7 +194,7 @@ module _ (lemmas : LemmasAreSound) (trees : TreesHoldNoClauses) (l : Limits) (c 
   taken_next k x above more taken n is =
       taken n (listed_right (cond (is_listed (found_with k x above) k) (taken_by x) []) _ n (taken_more above (found_with k x above) (still_found k x above) (k + 1) more n is))
 
-  no_steps : (clauses : List Clause) (line tree : ℕ) (lines : List CertLine) → NoClausesIn tree lines
+  pub no_steps : (clauses : List Clause) (line tree : ℕ) (lines : List CertLine) → NoClausesIn tree lines
       → AreFoundTrue (reached_clauses (length clauses) (clause_lines lines)) clauses → AreTakenTrue (reached_clauses (length clauses) (clause_lines lines)) (length clauses) (clause_lines lines)
       → lines_fault l c clauses line tree lines ≡ None → ⊥
   unfolding lines_fault reached_clauses found_with

@@ -1,7 +1,4 @@
 use Rattle.ffc_rules.proofs.SchemeLemmas.{scheme_true}
-use Rattle.ffc_rules.proofs.StepLemmas.{TreesHoldNoClauses}
-use Rattle.ffc_rules.proofs.CaseLemmas.{no_model}
-use Rattle.ffc_rules.proofs.AssignmentLemmas.{constant_listed}
 use Rattle.ffc_rules.proofs.laws.schemes_are_true.Goals as goal
 
 pub returns : goal.returns
