@@ -5,3 +5,5 @@ pub mod AssignmentLemmas
 pub mod ConeLemmas
 pub mod CaseLemmas
 pub mod EntryLemmas
+pub mod ReadingLemmas
+pub mod ScriptLemmas
