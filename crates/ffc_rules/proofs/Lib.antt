@@ -7,3 +7,4 @@ pub mod CaseLemmas
 pub mod EntryLemmas
 pub mod ReadingLemmas
 pub mod ScriptLemmas
+pub mod ListingLemmas
