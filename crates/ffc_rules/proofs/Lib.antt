@@ -8,3 +8,4 @@ pub mod EntryLemmas
 pub mod ReadingLemmas
 pub mod ScriptLemmas
 pub mod ListingLemmas
+pub mod BoundLemmas

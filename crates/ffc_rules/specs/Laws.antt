@@ -86,10 +86,10 @@ IsValid c = IsValidCheck c.nodes c.declared c.in_force c.first_order
 abbrev pub EntriesAreTrue : Type 0
 EntriesAreTrue = (l : Limits) (c : NodeCheck) (entry : Entry) (line : ℕ) → IsValid c → entry_fault_within l c entry line ≡ None → IsTrueOf c entry
 
--- a broken line is one of the entry's
-abbrev pub BrokenLinesAreTheEntrys : Type 0
-BrokenLinesAreTheEntrys = (l : Limits) (c : NodeCheck) (entry : Entry) (line : ℕ) (broken : Broken)
-    → entry_fault_within l c entry line ≡ Some broken → (line ≤ broken.line) × (broken.line < line + line_count entry)
+-- A broken line is one of the entry's, or the one after it where the entry ends within a tree.
+abbrev pub BrokenLinesAreNear : Type 0
+BrokenLinesAreNear = (l : Limits) (c : NodeCheck) (entry : Entry) (line : ℕ) (broken : Broken)
+    → entry_fault_within l c entry line ≡ Some broken → (line ≤ broken.line) × (broken.line ≤ line + line_count entry)
 
 -- Cores
 

@@ -1,6 +1,6 @@
 //! What holds of every entry that breaks no rule, for the crates above. Each function has an empty body: its contract is the law.
 ghost use Rattle.ffc_rules.specs.Laws.{
-  SchemesAreTrue, SchemesAreListed, ClausesAreSound, ConesAreNodes, CasesAreAll, EntriesAreTrue, BrokenLinesAreTheEntrys, CoresAreSound,
+  SchemesAreTrue, SchemesAreListed, ClausesAreSound, ConesAreNodes, CasesAreAll, EntriesAreTrue, BrokenLinesAreNear, CoresAreSound,
   EntriesAreTrueOfChecks, AcceptanceIsSound
 };
 
@@ -34,9 +34,9 @@ pub fn entries_are_true()
     ensures { EntriesAreTrue }
 {}
 
-/// A broken line is one of the entry's.
-pub fn broken_lines_are_the_entrys()
-    ensures { BrokenLinesAreTheEntrys }
+/// A broken line is one of the entry's, or the one after it.
+pub fn broken_lines_are_near()
+    ensures { BrokenLinesAreNear }
 {}
 
 /// No assignment makes all true that is in the core of an entry that breaks no rule.
