@@ -7,3 +7,4 @@ pub mod Judging
 pub mod Causes
 pub mod Cores
 pub mod Laws
+pub mod Rows
