@@ -1,12 +1,10 @@
 -- Assignments by lists of values and by numbers: what they give constants, and that each assignment has a number as far as the
 -- constants of a check go.
-use Rattle.std.proofs.Common.{inl, inr, ◌⊎◌, ◌≡◌, ◌≢◌, ℕ, zero, suc, ◌+◌, ◌*◌, ◌/◌, ◌%◌, ◌<◌, ◌≤◌, ◌==◌, ltb, Bool, true, false, cond, List, [], ◌∷◌, length, take, map, filter, fold, get_or, All, Contains, Option, Some, refl, sym, ap, ap₂, ◌∙◌, subst, arith, take-take, slice_get}
-use Rattle.std.specs.List.{AllByRecursion, range_with_len, list_any, list_all}
-use Rattle.std.specs.List.Sorted.{IsStrictlyIncreasing}
+use Rattle.std.proofs.Common.{inl, inr, ◌⊎◌, ◌≡◌, ◌≢◌, ℕ, ◌+◌, ◌*◌, ◌/◌, ◌%◌, ◌<◌, ◌≤◌, ltb, Bool, true, false, cond, List, [], ◌∷◌, take, map, filter, fold, refl, sym, ap, ap₂, ◌∙◌, subst, arith, take-take}
+use Rattle.std.specs.List.{AllByRecursion}
 use Rattle.std.proofs.Math.Nat.{mul-le-mul_left}
 use Rattle.std.proofs.lemmas.Nat.{mod-mul-add, div-mul-add}
-use Rattle.std.proofs.lemmas.Bool.{false≢true, cases_Bool, cases_lt, cases_eq, eqb-true, eq-eqb, ne_eqb, lt-ltb}
-use Rattle.std.proofs.lemmas.List.{take_all}
+use Rattle.std.proofs.lemmas.Bool.{false≢true, cases_lt, eq-eqb, ne_eqb, lt-ltb}
 use Rattle.std.proofs.lemmas.List.FromFn.{get_or-map-range_with_len}
 use Rattle.std.proofs.lemmas.List.Sums.{count_by_more_yes, sum_by-take-le}
 use Rattle.std.proofs.lemmas.Option.{slice_get_within, get_or_from_slice_get}
@@ -15,15 +13,15 @@ use Rattle.ffc_term.specs.declared.node.Node.TheVariants.{True, BoolConst, Field
 use Rattle.ffc_term.specs.declared.node.Sort.{Sort}
 use Rattle.ffc_term.specs.declared.value.Value.{Value}
 use Rattle.ffc_term.specs.declared.value.Value.TheVariants as value
-use Rattle.ffc_term.specs.Nodes.{IsNodeAt, IsConstantAt, is_constant, node_at, sort_at, sort_of_node, sorts}
+use Rattle.ffc_term.specs.Nodes.{IsNodeAt, IsConstantAt, is_constant, node_at, sort_of_node, sorts}
 use Rattle.ffc_term.specs.Tables.{IsTable, IsWellFormed, IsNumbered, constant_count}
-use Rattle.ffc_term.specs.Values.{value_at, value_in, value_of_node, truth, residue, values, product_by}
+use Rattle.ffc_term.specs.Values.{value_at, value_in, value_of_node, truth, residue, product_by}
 use Rattle.ffc_term.specs.Laws.{IsOfSort}
 use Rattle.ffc_term.specs.Measuring.{value_count, span_of}
 use Rattle.ffc_term.proofs.TableLemmas.{sort_at-is}
 use Rattle.ffc_term.proofs.ValueLemmas.{value_at-is}
 use Rattle.ffc_term.proofs.LawLemmas.{value_at-of_sort}
-use Rattle.ffc_rules.specs.Assignments.{number_of_constant, value_of_number, value_of_constant, listed_value, listed_assignment, digits, numbered_assignment, IsValueFor}
+use Rattle.ffc_rules.specs.Assignments.{number_of_constant, value_of_number, value_of_constant, listed_value, listed_assignment, digits, IsValueFor}
 
 pub node_at-is : (ns : List Node) (id : ℕ) (n : Node) → IsNodeAt ns id n → node_at ns id ≡ n
 node_at-is ns id n at = get_or_from_slice_get ns id n True at
@@ -174,7 +172,7 @@ pub constant_has : (ns : List Node) (A B : List Value) (id : ℕ) → IsTable ns
 constant_has ns A B id table (n, at, const) e =
     value_at-is ns B id n table.well_formed at
     ∙ given_value _ B _ n (value_at ns A id) (subst (λ m. IsValueFor m (value_at ns A id)) (node_at-is ns id n at) (value_fits ns A id table (n, at, const)))
-      (subst (λ m. value_in B (number_of_constant m) ≡ value_of_number m (number_of_value (value_at ns A id))) (node_at-is ns id n at) e)
+    (subst (λ m. value_in B (number_of_constant m) ≡ value_of_number m (number_of_value (value_at ns A id))) (node_at-is ns id n at) e)
 
 -- Numbers of assignments
 

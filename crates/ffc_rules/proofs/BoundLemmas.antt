@@ -1,5 +1,5 @@
 -- A broken line is near its entry.
-use Rattle.std.proofs.Common.{inl, inr, ◌⊎◌, ◌≡◌, ℕ, zero, suc, ◌+◌, ◌-◌, ◌<◌, ◌≤◌, ◌==◌, ◌&&◌, nat_lt, Bool, true, false, cond, List, [], ◌∷◌, ◌++◌, length, Option, Some, None, Result, Ok, Err, refl, sym, ap, ◌∙◌, subst, arith, slice_get}
+use Rattle.std.proofs.Common.{◌≡◌, ℕ, zero, suc, ◌+◌, ◌-◌, ◌<◌, ◌≤◌, ◌==◌, ◌&&◌, nat_lt, Bool, true, false, cond, List, [], ◌∷◌, ◌++◌, length, Option, Some, None, Result, Ok, Err, refl, ap, arith, slice_get}
 use Rattle.std.specs.List.{list_all}
 use Rattle.std.proofs.lemmas.Bool.{false≢true}
 use Rattle.std.proofs.lemmas.Option.{none-some, same_Some}
@@ -11,11 +11,10 @@ use Rattle.ffc_cert.specs.Laws.{line_count}
 use Rattle.ffc_term.specs.declared.node.Node.{Node}
 use Rattle.ffc_term.specs.Nodes.{node_at}
 use Rattle.ffc_term.specs.Measuring.{value_count}
-use Rattle.ffc_ring.specs.Polynomial.{Terms}
 use Rattle.ffc_trees.specs.TreeLines.{Limits as TreeLimits}
 use Rattle.ffc_trees.specs.FirstLines.{first_lines}
 use Rattle.ffc_trees.specs.Trees.{Broken as BrokenInTree, Stage, Open, Within, branch_read, step_read, next_read, read_from, tree_read}
-use Rattle.ffc_clause.specs.Clauses.{Literal, Clause, plus}
+use Rattle.ffc_clause.specs.Clauses.{Clause, plus}
 use Rattle.ffc_clause.specs.Hints.{follows}
 use Rattle.ffc_rules.specs.Schemes.{scheme_clause}
 use Rattle.ffc_rules.specs.Cones.{span, work}

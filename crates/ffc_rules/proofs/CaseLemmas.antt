@@ -1,32 +1,31 @@
 -- A check by cases, and listed values.
-use Rattle.std.proofs.Common.{inl, inr, ◌⊎◌, ◌≡◌, ◌≢◌, ℕ, zero, suc, ◌+◌, ◌<◌, ◌≤◌, ◌==◌, ◌&&◌, nat_lt, Bool, true, false, cond, ◌||◌, List, [], ◌∷◌, length, map, filter, get_or, All, Contains, Option, Some, None, refl, sym, ap, ap₂, ◌∙◌, subst, arith, slice_get}
-use Rattle.std.specs.List.{AllByRecursion, list_any, list_all, range_with_len}
+use Rattle.std.proofs.Common.{inl, inr, ◌≡◌, ◌≢◌, ℕ, zero, suc, ◌+◌, ◌<◌, ◌==◌, ◌&&◌, nat_lt, Bool, true, false, cond, List, [], ◌∷◌, length, map, get_or, All, Contains, Some, None, refl, sym, ap, ap₂, ◌∙◌, subst, arith}
+use Rattle.std.specs.List.{AllByRecursion, range_with_len}
 use Rattle.std.specs.List.Sorted.{IsStrictlyIncreasing}
-use Rattle.std.proofs.lemmas.Bool.{false≢true, true≢false, cases_Bool, cases_lt, and_parts, eqb-true, ltb-true, false_from_ne_true, true_from_ne_false}
-use Rattle.std.proofs.lemmas.List.Elements.{All-contains, All-contains_itself, All-weaker, Contains-append_right}
+use Rattle.std.proofs.lemmas.Bool.{false≢true, and_parts, eqb-true, ltb-true}
+use Rattle.std.proofs.lemmas.List.Elements.{All-contains, Contains-append_right}
 use Rattle.std.proofs.lemmas.List.Sums.{AllPass-from_list_all, list_all-from_AllPass}
 use Rattle.std.proofs.lemmas.List.Folds.{list_any_at, Any-from_list_any}
-use Rattle.std.proofs.lemmas.List.Kept.{AllPairs-from_increasing}
 use Rattle.std.proofs.lemmas.List.FromFn.{get_or-range_with_len, length-range_with_len}
-use Rattle.std.proofs.lemmas.Option.{none-some, same_Some}
+use Rattle.std.proofs.lemmas.Option.{none-some}
 use Rattle.ffc_term.specs.declared.node.Node.{Node}
 use Rattle.ffc_term.specs.declared.value.Value.{Value}
 use Rattle.ffc_term.specs.declared.value.Value.TheVariants as value
-use Rattle.ffc_term.specs.Nodes.{IsConstantAt, is_constant, node_at}
+use Rattle.ffc_term.specs.Nodes.{IsConstantAt, node_at}
 use Rattle.ffc_term.specs.Tables.{IsTable}
 use Rattle.ffc_term.specs.Values.{values, value_at, truth, truth_in}
-use Rattle.ffc_term.specs.Measuring.{value_count, span_of}
-use Rattle.ffc_term.specs.Checks.{AreNodesOf, AreConstantsOf, IsNodeOf, IsValidCheck}
+use Rattle.ffc_term.specs.Measuring.{value_count}
+use Rattle.ffc_term.specs.Checks.{AreConstantsOf, IsValidCheck}
 use Rattle.ffc_term.specs.Checks.IsNodeOf.{listed}
 use Rattle.std.proofs.lemmas.List.{get_or_default}
 use Rattle.ffc_term.proofs.ListLemmas.{nothing_in}
 use Rattle.ffc_term.proofs.CheckLemmas.{AreConstantsOf-filter}
 use Rattle.ffc_term.proofs.LawLemmas.{constants_decide}
 use Rattle.ffc_rules.specs.Clauses.{AreTrue}
-use Rattle.ffc_rules.specs.Cones.{cone, cone_constants, span, work}
-use Rattle.ffc_rules.specs.Assignments.{value_of_constant, value_of_number, listed_assignment, digits, numbered_assignment, are_true, has_model_below, IsValueFor}
-use Rattle.ffc_rules.specs.Entries.{NodeCheck, Limits, Broken, breaks, first_misfit, sat_fault, cases_fault}
-use Rattle.ffc_rules.proofs.AssignmentLemmas.{AreConstants, AreDifferent, Among, from_each, value_fits, number_of_value, number_fits, values_listed, constant_listed, constant_agrees, constant_has, HasNumber, number_of_assignment, span-constants}
+use Rattle.ffc_rules.specs.Cones.{cone, cone_constants, span}
+use Rattle.ffc_rules.specs.Assignments.{value_of_constant, value_of_number, listed_assignment, numbered_assignment, are_true, has_model_below}
+use Rattle.ffc_rules.specs.Entries.{first_misfit}
+use Rattle.ffc_rules.proofs.AssignmentLemmas.{AreConstants, AreDifferent, Among, from_each, value_fits, number_of_value, number_fits, values_listed, constant_listed, constant_agrees, constant_has, number_of_assignment, span-constants}
 use Rattle.ffc_rules.proofs.ConeLemmas.{cone_nodes}
 
 -- between the test and what it says
@@ -115,11 +114,13 @@ module _ (ns : List Node) (ids : List ℕ) (table : IsTable ns) (within : All (�
       let number = number_of_assignment ns constants A fit in
       let below : number.number < span ns ids = subst (λ s. number.number < s) (span-constants ns (cone ns ids)) number.below in
       let same = λ (id : ℕ) (has : Contains constants id). sym (constant_has ns A (listed_assignment ns (values_listed ns A constants)) id table ((constants_of.each id).0 has).1
-          (constant_listed ns (values_listed ns A constants) (id, number_of_value (value_at ns A id)) table.well_formed
-          (each_of_values (IsConstantAt ns) ns A constants constants_each) (different_values ns A constants (increasing_apart constants constants_of.increasing)) (among_values ns A constants id has))) in
-      (number.number, below,
+      (constant_listed ns (values_listed ns A constants) (id, number_of_value (value_at ns A id)) table.well_formed
+      (each_of_values (IsConstantAt ns) ns A constants constants_each) (different_values ns A constants (increasing_apart constants constants_of.increasing)) (among_values ns A constants id has))) in (
+        number.number,
+        below,
         subst (λ pairs. AreTrue ns ids (listed_assignment ns pairs)) (sym number.digits_are)
-        (true_alike ns ids constants A (listed_assignment ns (values_listed ns A constants)) table constants_of same all))
+            (true_alike ns ids constants A (listed_assignment ns (values_listed ns A constants)) table constants_of same all),
+      )
 
   -- where no assignment of a number below the span makes all true, no assignment does
   pub no_model : has_model_below ns ids (span ns ids) ≡ false → (A : List Value) → AreTrue ns ids A → ⊥

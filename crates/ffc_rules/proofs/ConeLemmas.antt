@@ -1,13 +1,13 @@
 -- The nodes of a check are those that are found from the highest number down.
-use Rattle.std.proofs.Common.{inl, inr, ◌⊎◌, ◌≡◌, ◌≢◌, ℕ, zero, suc, ◌+◌, ◌-◌, ◌<◌, ◌≤◌, ◌==◌, Bool, true, false, cond, ◌||◌, List, [], ◌∷◌, ◌++◌, length, take, map, filter, get_or, All, Contains, Option, Some, refl, sym, ap, ◌∙◌, subst, arith, slice_get}
-use Rattle.std.specs.List.{list_any, range_with_len}
+use Rattle.std.proofs.Common.{inl, inr, ◌⊎◌, ◌≡◌, ℕ, zero, suc, ◌+◌, ◌-◌, ◌<◌, ◌≤◌, ◌==◌, Bool, true, false, cond, ◌||◌, List, [], ◌∷◌, ◌++◌, length, All, Contains, Some, refl, sym, ap, ◌∙◌, subst, arith, slice_get}
+use Rattle.std.specs.List.{range_with_len}
 use Rattle.std.specs.List.Sorted.{IsStrictlyIncreasing}
-use Rattle.std.proofs.lemmas.Bool.{false≢true, cases_Bool, cases_lt, cases_eq, or_left, or_right, or_cases, eqb-true, eq-eqb}
+use Rattle.std.proofs.lemmas.Bool.{false≢true, cases_lt, or_left, or_right, or_cases, eqb-true, eq-eqb}
 use Rattle.std.proofs.lemmas.List.{get_or_past}
-use Rattle.std.proofs.lemmas.List.Elements.{All-contains, All-contains_itself, Contains-append_right}
+use Rattle.std.proofs.lemmas.List.Elements.{Contains-append_right}
 use Rattle.std.proofs.lemmas.List.Kept.{IsStrictlyIncreasing-filter}
 use Rattle.std.proofs.lemmas.List.FromFn.{get_or-range_with_len, length-range_with_len}
-use Rattle.std.proofs.lemmas.Option.{slice_get_within, slice_get-get_or, get_or_from_slice_get, none-some, same_Some}
+use Rattle.std.proofs.lemmas.Option.{slice_get-get_or, none-some, same_Some}
 use Rattle.ffc_term.specs.declared.node.Node.{Node}
 use Rattle.ffc_term.specs.declared.node.Node.TheVariants.{True, IteField, Eq}
 use Rattle.ffc_term.specs.Nodes.{IsNodeAt, children, node_at}
@@ -112,11 +112,16 @@ module _ (ns : List Node) (ids : List ℕ) (table : IsTable ns) where
 -- Equalities with branches
 
 equality_is : (ns : List Node) (id t : ℕ) (n : Node) → IsNodeAt ns t n → is_equality_of id t n ≡ true → (c : ℕ) × (a : ℕ) × (b : ℕ) × (n ≡ IteField c a b) × ((id ≡ t + 1) ⊎ (id ≡ second_equality t a b))
-equality_is ns id t (IteField c a b) at is =
-    (c, a, b, refl, elim (or_cases (id == t + 1) (id == second_equality t a b) is) as (λ _. (id ≡ t + 1) ⊎ (id ≡ second_equality t a b)) [
-      | inl one ↦ inl (eqb-true id (t + 1) one)
-      | inr two ↦ inr (eqb-true id (second_equality t a b) two)
-    ])
+equality_is ns id t (IteField c a b) at is = (
+  c,
+  a,
+  b,
+  refl,
+  elim (or_cases (id == t + 1) (id == second_equality t a b) is) as (λ _. (id ≡ t + 1) ⊎ (id ≡ second_equality t a b)) [
+    | inl one ↦ inl (eqb-true id (t + 1) one)
+    | inr two ↦ inr (eqb-true id (second_equality t a b) two)
+  ],
+)
 equality_is ns id t _ at is = absurd (false≢true is)
 
 -- an equality of a node that passes the test

@@ -1,9 +1,9 @@
 -- What it means that an entry breaks no rule.
-use Rattle.std.proofs.Common.{inl, inr, ◌⊎◌, ◌≡◌, ℕ, zero, suc, ◌+◌, ◌<◌, ◌≤◌, ◌==◌, nat_lt, Bool, true, false, cond, List, [], ◌∷◌, ◌++◌, length, map, filter, get_or, All, Contains, Option, Some, None, Result, Ok, Err, refl, sym, ap, ◌∙◌, subst, arith, slice_get}
+use Rattle.std.proofs.Common.{◌≡◌, ℕ, ◌+◌, ◌<◌, ◌==◌, nat_lt, Bool, true, false, cond, List, [], ◌∷◌, length, filter, get_or, All, Contains, Option, Some, None, Ok, refl, sym, ap, subst, slice_get}
 use Rattle.std.specs.List.{AllByRecursion, range_with_len}
-use Rattle.std.proofs.lemmas.Bool.{false≢true, true≢false, cases_Bool, eqb-true, true_from_ne_false, false_from_ne_true}
+use Rattle.std.proofs.lemmas.Bool.{eqb-true}
 use Rattle.std.proofs.lemmas.List.Elements.{All-contains, All-from_recursion, recursion_from_All}
-use Rattle.std.proofs.lemmas.Option.{none-some, same_Some, slice_get_within, get_or_from_slice_get, slice_get-get_or}
+use Rattle.std.proofs.lemmas.Option.{none-some, slice_get_within, get_or_from_slice_get, slice_get-get_or}
 use Rattle.ffc_cert.specs.declared.entries.CertLine.{CertLine}
 use Rattle.ffc_cert.specs.declared.entries.Entry.{Entry}
 use Rattle.ffc_cert.specs.declared.entries.Entry.TheVariants.{Sat, UnsatCases, UnsatSteps, Unknown}
@@ -12,23 +12,21 @@ use Rattle.ffc_term.specs.declared.value.Value.{Value}
 use Rattle.ffc_term.specs.declared.value.Value.TheVariants as value
 use Rattle.ffc_term.specs.Tables.{IsTable}
 use Rattle.ffc_term.specs.Values.{truth, value_at}
-use Rattle.ffc_term.specs.Checks.{IsValidCheck}
 use Rattle.ffc_term.proofs.ListLemmas.{Contains-filter}
-use Rattle.ffc_trees.specs.Laws.{LemmasAreSound}
 use Rattle.ffc_trees.proofs.FirstLineLemmas.{lemma_is_true}
 use Rattle.ffc_trees.proofs.TakenLemmas.{tree_taken}
 use Rattle.ffc_clause.specs.Clauses.{Clause}
 use Rattle.ffc_clause.proofs.HintLemmas.{IsHintTrue}
 use Rattle.ffc_rules.specs.Clauses.{AreTrue, truth_at, IsTrueClause}
-use Rattle.ffc_rules.specs.Cones.{is_listed, cone, cone_constants, span, work}
+use Rattle.ffc_rules.specs.Cones.{is_listed, span, work}
 use Rattle.ffc_rules.specs.Assignments.{listed_assignment, are_true, has_model_below}
 use Rattle.ffc_rules.specs.Entries.{NodeCheck, Limits, Broken, breaks, Given, clause_given, first_misfit, sat_fault, cases_fault, lines_fault, entry_fault_within}
-use Rattle.ffc_rules.specs.Cores.{clause_lines, hints_of, taken_by, numbers_reached, core}
-use Rattle.ffc_rules.specs.Laws.{HasNoModel, AreValues, Agrees, IsTrueOf, IsValid, IsUnsat, AreTrueAt}
+use Rattle.ffc_rules.specs.Cores.{hints_of, taken_by, numbers_reached, core}
+use Rattle.ffc_rules.specs.Laws.{HasNoModel, IsTrueOf, IsValid, IsUnsat, AreTrueAt}
 use Rattle.ffc_rules.proofs.GivenLemmas.{IsNumberTrue, given_true}
 use Rattle.ffc_rules.proofs.StepLemmas.{TreesHoldNoClauses, no_steps}
 use Rattle.ffc_rules.proofs.ConeLemmas.{Contains-range}
-use Rattle.ffc_rules.proofs.CaseLemmas.{no_model, a_model, AreListed, are_listed, listed_true}
+use Rattle.ffc_rules.proofs.CaseLemmas.{no_model, are_listed, listed_true}
 
 trees_hold_none : TreesHoldNoClauses
 trees_hold_none l p known lines rest read =
@@ -80,9 +78,10 @@ values_true l c pairs line valid e =
     by_misfit (Some misfit) at is same = absurd (none-some _ (sym is))
     by_misfit None at is same =
         let listed = are_listed c.nodes c.declared pairs (line + 1) same at in
-        let good = (kept (are_true c.nodes c.in_force (listed_assignment c.nodes pairs)) _ None is).0 in
-        (record { names = listed.names; fit = All-from_recursion _ pairs listed.values_fit },
-          λ A agrees. listed_true c.nodes c.declared c.in_force c.first_order valid pairs listed.names good A (recursion_from_All _ pairs agrees))
+        let good = (kept (are_true c.nodes c.in_force (listed_assignment c.nodes pairs)) _ None is).0 in (
+          record { names = listed.names; fit = All-from_recursion _ pairs listed.values_fit },
+          λ A agrees. listed_true c.nodes c.declared c.in_force c.first_order valid pairs listed.names good A (recursion_from_All _ pairs agrees),
+        )
 
 pub entry_true : (l : Limits) (c : NodeCheck) (entry : Entry) (line : ℕ) → IsValid c → entry_fault_within l c entry line ≡ None → IsTrueOf c entry
 unfolding entry_fault_within

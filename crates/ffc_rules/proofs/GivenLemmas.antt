@@ -1,12 +1,11 @@
 -- The clause of a line that breaks no rule is true, where those clauses are that its hints name, and what it takes from the list
 -- in force is true.
-use Rattle.std.proofs.Common.{inl, inr, ◌⊎◌, ◌≡◌, ℕ, zero, suc, ◌<◌, ◌≤◌, ◌==◌, nat_lt, Bool, true, false, not, cond, ◌||◌, ◌&&◌, List, [], ◌∷◌, length, map, take, get_or, length-take, arith, All, Contains, Option, Some, None, Result, Ok, Err, refl, sym, ap, ◌∙◌, subst, slice_get}
-use Rattle.std.specs.List.{AllByRecursion, list_any, list_all}
-use Rattle.std.proofs.lemmas.Bool.{false≢true, true≢false, and_parts, cases_Bool, cases_lt, or_left, eqb-true, ltb-true}
+use Rattle.std.proofs.Common.{inl, inr, ◌≡◌, ℕ, ◌<◌, ◌≤◌, nat_lt, Bool, true, false, cond, ◌&&◌, List, [], ◌∷◌, length, take, get_or, length-take, arith, All, Option, Some, None, Result, Ok, Err, refl, sym, ap, ◌∙◌, slice_get}
+use Rattle.std.specs.List.{AllByRecursion, list_all}
+use Rattle.std.proofs.lemmas.Bool.{false≢true, and_parts, cases_lt, or_left, eqb-true}
 use Rattle.std.proofs.lemmas.List.{get_or_past}
 use Rattle.std.proofs.lemmas.List.Sums.{AllPass-from_list_all}
-use Rattle.std.proofs.lemmas.Option.{none-some, same_Some, slice_get-get_or}
-use Rattle.ffc_field.specs.Orders.{IsOrder}
+use Rattle.std.proofs.lemmas.Option.{slice_get-get_or}
 use Rattle.ffc_cert.specs.declared.entries.CertLine.{CertLine}
 use Rattle.ffc_cert.specs.declared.entries.CertLine.TheVariants.{Assume, Scheme, Hinted, Lemma, Combine, Chain, Step, Split, Values, Close}
 use Rattle.ffc_term.specs.declared.node.Node.{Node}
@@ -20,10 +19,10 @@ use Rattle.ffc_smt.proofs.SoundReading.{order_good}
 use Rattle.ffc_trees.specs.FirstLines.{first_lines}
 use Rattle.ffc_trees.specs.Trees.{Broken as BrokenInTree, tree_read}
 use Rattle.ffc_trees.specs.Laws.{IsOnEquality, LemmasAreSound}
-use Rattle.ffc_clause.specs.Clauses.{Literal, Clause, plus, literal_holds, clause_holds}
+use Rattle.ffc_clause.specs.Clauses.{Literal, Clause, plus, clause_holds}
 use Rattle.ffc_clause.specs.Hints.{follows}
 use Rattle.ffc_clause.proofs.HintLemmas.{IsHintTrue, follows_true}
-use Rattle.ffc_rules.specs.Clauses.{truth_at, IsTrueClause}
+use Rattle.ffc_rules.specs.Clauses.{truth_at}
 use Rattle.ffc_rules.specs.Schemes.{scheme_clause}
 use Rattle.ffc_rules.specs.Entries.{NodeCheck, Limits, Broken, breaks, Given, is_boolean, is_equality_at, is_equality_over, is_within, order_or, tree_given, lemma_given, clause_given}
 use Rattle.ffc_rules.specs.Cores.{hints_of, taken_by}

@@ -1,11 +1,11 @@
 -- The listed schemes of a node are those that have a clause.
-use Rattle.std.proofs.Common.{inl, inr, ◌⊎◌, ◌≡◌, ℕ, zero, suc, ◌+◌, ◌<◌, ◌≤◌, ◌↔◌, Bool, true, false, List, [], ◌∷◌, ◌++◌, length, map, get_or, Contains, Option, Some, None, refl, sym, ap, ◌∙◌, subst, arith, slice_get}
+use Rattle.std.proofs.Common.{inl, inr, ◌⊎◌, ◌≡◌, ℕ, zero, suc, ◌<◌, ◌↔◌, List, [], ◌∷◌, ◌++◌, length, map, Contains, Option, Some, None, refl, sym, ap, ◌∙◌, subst, arith, slice_get}
 use Rattle.std.specs.Prelude.{IsSome, is_some, flat_map}
 use Rattle.std.specs.List.{range_with_len}
 use Rattle.std.proofs.lemmas.Bool.{false≢true, cases_lt}
 use Rattle.std.proofs.lemmas.List.Elements.{Contains-append_left, Contains-append_right, Contains-append_cases}
 use Rattle.std.proofs.lemmas.List.FromFn.{get_or-range_with_len, length-range_with_len}
-use Rattle.std.proofs.lemmas.Option.{slice_get_within, slice_get-get_or, slice_get_past}
+use Rattle.std.proofs.lemmas.Option.{slice_get_past}
 use Rattle.ffc_term.specs.declared.node.Node.{Node}
 use Rattle.ffc_clause.specs.Clauses.{Clause}
 use Rattle.ffc_rules.specs.Schemes.{schemes_at, scheme_clauses, scheme_clause, all_schemes}
@@ -90,17 +90,16 @@ scheme_inside ns v s i is =
 pub listed_schemes : (ns : List Node) (v s i : ℕ) → Contains (all_schemes ns v) (s, i) ↔ IsSome (scheme_clause ns v s i)
 unfolding all_schemes scheme_clause
 listed_schemes ns v s i =
-    let of = λ (scheme : ℕ). map (λ (index : ℕ). (scheme, index)) (range_with_len 0 (length (scheme_clauses ns v scheme))) in
-    (
+    let of = λ (scheme : ℕ). map (λ (index : ℕ). (scheme, index)) (range_with_len 0 (length (scheme_clauses ns v scheme))) in (
       (λ has.
-      let (t, among, at) = from_flat_map of (range_with_len 0 (length (schemes_at ns v))) (s, i) has in
-      let (j, inside, e) = from_map (λ (index : ℕ). (t, index)) (range_with_len 0 (length (scheme_clauses ns v t))) (s, i) at in
-      let one : t ≡ s = ap (λ p. p.0) e in
-      let two : j ≡ i = ap (λ p. p.1) e in
-      let below : j < length (scheme_clauses ns v t) = range_below _ j inside in
-      subst (λ x. IsSome (slice_get (scheme_clauses ns v x) i)) one (inside_some (scheme_clauses ns v t) i (subst (λ x. x < length (scheme_clauses ns v t)) two below))),
+          let (t, among, at) = from_flat_map of (range_with_len 0 (length (schemes_at ns v))) (s, i) has in
+          let (j, inside, e) = from_map (λ (index : ℕ). (t, index)) (range_with_len 0 (length (scheme_clauses ns v t))) (s, i) at in
+          let one : t ≡ s = ap (λ p. p.0) e in
+          let two : j ≡ i = ap (λ p. p.1) e in
+          let below : j < length (scheme_clauses ns v t) = range_below _ j inside in
+          subst (λ x. IsSome (slice_get (scheme_clauses ns v x) i)) one (inside_some (scheme_clauses ns v t) i (subst (λ x. x < length (scheme_clauses ns v t)) two below))),
       (λ some.
-      to_flat_map of (range_with_len 0 (length (schemes_at ns v))) s (s, i)
-      (Contains-range (length (schemes_at ns v)) s (scheme_inside ns v s i some))
-      (to_map (λ (index : ℕ). (s, index)) (range_with_len 0 (length (scheme_clauses ns v s))) i (Contains-range _ i (some_inside (scheme_clauses ns v s) i some)))),
+          to_flat_map of (range_with_len 0 (length (schemes_at ns v))) s (s, i)
+          (Contains-range (length (schemes_at ns v)) s (scheme_inside ns v s i some))
+          (to_map (λ (index : ℕ). (s, index)) (range_with_len 0 (length (scheme_clauses ns v s))) i (Contains-range _ i (some_inside (scheme_clauses ns v s) i some)))),
     )

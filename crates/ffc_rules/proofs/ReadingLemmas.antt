@@ -1,11 +1,10 @@
 -- A certificate that is read to its end has as many entries as were wanted.
-use Rattle.std.proofs.Common.{◌≡◌, ℕ, ◌+◌, ◌<◌, ◌==◌, nat_lt, Bool, true, false, cond, List, [], ◌∷◌, length, take, Result, Ok, Err, refl, sym, ap, ◌∙◌, subst, arith, codes}
-use Rattle.std.proofs.lemmas.Bool.{false≢true, cond_both, eqb-true}
+use Rattle.std.proofs.Common.{◌≡◌, ℕ, ◌+◌, ◌==◌, nat_lt, Bool, true, false, cond, List, [], ◌∷◌, length, take, Result, Ok, Err, refl, sym, subst, arith, codes}
+use Rattle.std.proofs.lemmas.Bool.{false≢true, eqb-true}
 use Rattle.std.specs.Str.{bytes_eq}
 use Rattle.std.specs.List.{slice_split}
 use Rattle.ffc_cert.specs.declared.TheConstants.{MAX_BYTES}
 use Rattle.ffc_cert.specs.declared.entries.CertFault.{CertFault}
-use Rattle.ffc_cert.specs.declared.entries.Entry.TheVariants.{Sat, UnsatSteps}
 use Rattle.ffc_cert.specs.declared.entries.CertLine.{CertLine}
 use Rattle.ffc_cert.specs.declared.forms.Opening.{Opening}
 use Rattle.ffc_cert.specs.declared.forms.Opening.TheVariants as openings
@@ -14,7 +13,7 @@ use Rattle.ffc_cert.specs.declared.progress.Place.{Place}
 use Rattle.ffc_cert.specs.declared.progress.Place.TheVariants.{Header, Between, Assignment, Refutation}
 use Rattle.ffc_cert.specs.declared.progress.Progress.{Progress}
 use Rattle.ffc_cert.specs.Lines.{opening_at, value_at, line_at}
-use Rattle.ffc_cert.specs.Reading.{Next, Halt, Move, Give, End, Complete, Open, Stopped, Reading, awaited_after, is_whole, given, begun, with_value, with_line, limited, after, named, header_line, opening_line, assignment_line, refutation_line, fault_at, next_in, next_at, read, read_parts, read_text, reading_of, origin, is_line_end, end_at, is_behind, end_behind, cut_end}
+use Rattle.ffc_cert.specs.Reading.{Next, Halt, Move, Give, End, Complete, Open, Stopped, Reading, awaited_after, is_whole, begun, with_value, with_line, limited, after, header_line, opening_line, assignment_line, refutation_line, fault_at, next_in, next_at, read, read_parts, reading_of, origin, is_line_end, end_at, is_behind, end_behind, cut_end}
 
 -- each entry that is given counts one
 Counts : Progress → Next → Type 0

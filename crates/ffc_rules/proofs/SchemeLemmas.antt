@@ -1,18 +1,18 @@
 -- The clause of each scheme is true under every assignment.
-use Rattle.std.proofs.Common.{inl, inr, ◌⊎◌, ◌≡◌, ℕ, zero, suc, ◌+◌, ◌<◌, ◌==◌, Bool, true, false, not, cond, ◌||◌, ◌&&◌, List, [], ◌∷◌, length, map, Option, Some, None, refl, sym, ap, ◌∙◌, subst, slice_get}
+use Rattle.std.proofs.Common.{inl, inr, ◌≡◌, ℕ, zero, suc, ◌+◌, Bool, true, false, not, cond, ◌||◌, ◌&&◌, List, [], ◌∷◌, map, Option, Some, None, refl, sym, ap, ◌∙◌, subst, slice_get}
 use Rattle.std.specs.List.{AllByRecursion, list_any, list_all}
-use Rattle.std.proofs.lemmas.Bool.{false≢true, true≢false, eqb-true, eq-eqb, and_parts, cases_Bool, or_left, or_right, or_parts}
+use Rattle.std.proofs.lemmas.Bool.{true≢false, eq-eqb, and_parts, cases_Bool, or_left, or_right, or_parts}
 use Rattle.std.proofs.lemmas.Option.{none-some, same_Some}
 use Rattle.ffc_term.specs.declared.node.Node.{Node}
 use Rattle.ffc_term.specs.declared.node.Node.TheVariants.{True, False, BoolConst, FieldConst, Num, Not, And, Or, Iff, Xor, IteBool, IteField, Eq, Add, Mul, Neg, Bitsum}
 use Rattle.ffc_term.specs.declared.value.Value.{Value}
 use Rattle.ffc_term.specs.Nodes.{IsNodeAt, order_at}
-use Rattle.ffc_term.specs.Values.{is_same_truth, truth, residue, values, value_at, value_of_node, truth_in, residue_in}
+use Rattle.ffc_term.specs.Values.{is_same_truth, truth, residue, values, value_of_node, residue_in}
 use Rattle.ffc_term.specs.Tables.{IsTable, second_equality}
 use Rattle.ffc_term.proofs.ValueLemmas.{value_at-is}
-use Rattle.ffc_clause.specs.Clauses.{Clause, plus, minus, literal_holds, clause_holds}
+use Rattle.ffc_clause.specs.Clauses.{Clause, plus, minus, clause_holds}
 use Rattle.ffc_rules.specs.Clauses.{truth_at, IsTrueClause}
-use Rattle.ffc_rules.specs.Schemes.{one, schemes, schemes_at, scheme_clauses, scheme_clause}
+use Rattle.ffc_rules.specs.Schemes.{schemes, scheme_clause}
 
 -- each clause of each scheme is true
 abbrev AreHeld : (ℕ → Bool) → List (List Clause) → Type 0

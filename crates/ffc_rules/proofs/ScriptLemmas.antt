@@ -1,20 +1,18 @@
 -- What an accepted certificate means for the checks of a script.
-use Rattle.std.proofs.Common.{◌≡◌, ℕ, zero, suc, ◌+◌, ◌<◌, ◌≤◌, Bool, true, false, List, [], ◌∷◌, length, map, All, Option, Some, None, refl, sym, ap, ◌∙◌, subst, arith, slice_get, get_or, option_map}
-use Rattle.std.proofs.lemmas.Bool.{cases_lt, true≢false, false≢true}
-use Rattle.std.proofs.lemmas.Option.{none-some, same_Some, slice_get_within, get_or_from_slice_get, slice_get-get_or, slice_get-map}
+use Rattle.std.proofs.Common.{◌≡◌, ℕ, zero, suc, ◌<◌, Bool, true, false, List, [], ◌∷◌, length, Option, Some, None, refl, sym, ap, ◌∙◌, subst, arith, slice_get, option_map}
+use Rattle.std.proofs.lemmas.Bool.{true≢false, false≢true}
+use Rattle.std.proofs.lemmas.Option.{none-some, same_Some, slice_get_within, get_or_from_slice_get, slice_get-map}
 use Rattle.ffc_cert.specs.declared.entries.Entry.{Entry}
 use Rattle.ffc_cert.specs.declared.entries.Entry.TheVariants.{Sat, UnsatCases, UnsatSteps, Unknown}
 use Rattle.ffc_cert.specs.declared.entries.Numbered.{Numbered}
-use Rattle.ffc_cert.specs.declared.entries.CertFault.{CertFault}
 use Rattle.ffc_cert.specs.Reading.{End, Complete, Open, Stopped, Reading, reading_of}
-use Rattle.ffc_term.specs.Tables.{most_nodes}
 use Rattle.ffc_smt.specs.Scripts.{reads}
 use Rattle.ffc_smt.specs.TableChecks.{TableCheck, nodes_in_force, table_checks}
 use Rattle.ffc_smt.specs.CommandReading.{limits as script_limits}
 use Rattle.ffc_smt.specs.CheckLaws.{KeepsCheck}
 use Rattle.ffc_smt.proofs.CheckLemmas.{scripts_keep_checks}
 use Rattle.ffc_rules.specs.Entries.{NodeCheck, Limits, limits, Broken, entry_fault_within}
-use Rattle.ffc_rules.specs.Judging.{node_check, Cause, Rule, Format, Counts, Judgement, Accepted, Refused, counts_of, first_broken, refused_for, end_judgement, judgement_of, judge, checks_in, Accepts}
+use Rattle.ffc_rules.specs.Judging.{node_check, Rule, Counts, Judgement, Accepted, Refused, first_broken, end_judgement, judgement_of, checks_in, Accepts}
 use Rattle.ffc_rules.specs.Cores.{core}
 use Rattle.ffc_rules.specs.Laws.{IsTrueOfCheck, HasEntry}
 use Rattle.ffc_rules.proofs.EntryLemmas.{entry_true, core_sound}

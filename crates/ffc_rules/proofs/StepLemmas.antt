@@ -1,9 +1,9 @@
 -- No assignment makes those assertions true that a refutation by clauses uses: each clause that is reached from the last one is
 -- true where they are, and the last one is empty.
-use Rattle.std.proofs.Common.{inl, inr, ◌⊎◌, ◌≡◌, ℕ, zero, suc, ◌+◌, ◌-◌, ◌<◌, ◌≤◌, ◌==◌, nat_lt, Bool, true, false, not, cond, ◌||◌, ◌&&◌, List, [], ◌∷◌, ◌++◌, length, map, take, drop, get_or, filter, arith, All, Contains, Option, Some, None, Result, Ok, Err, refl, sym, ap, ◌∙◌, subst, slice_get, length-append}
-use Rattle.std.specs.List.{AllByRecursion, list_any, list_all}
-use Rattle.std.proofs.lemmas.Bool.{false≢true, true≢false, and_parts, cases_Bool, cases_lt, cases_eq, or_left, or_right, or_cases, eqb-true, eq-eqb, ltb-true}
-use Rattle.std.proofs.lemmas.Option.{none-some, same_Some, slice_get-get_or}
+use Rattle.std.proofs.Common.{inl, inr, ◌⊎◌, ◌≡◌, ℕ, zero, suc, ◌+◌, ◌-◌, ◌==◌, nat_lt, Bool, true, false, cond, ◌&&◌, List, [], ◌∷◌, ◌++◌, length, take, arith, Option, Some, None, Result, Ok, Err, refl, sym, ap, ◌∙◌, subst, slice_get, length-append}
+use Rattle.std.specs.List.{AllByRecursion, list_all}
+use Rattle.std.proofs.lemmas.Bool.{false≢true, or_left, or_right, or_cases, eq-eqb}
+use Rattle.std.proofs.lemmas.Option.{none-some, same_Some}
 use Rattle.std.proofs.lemmas.List.{take_at}
 use Rattle.std.proofs.lemmas.List.Folds.{list_any-append}
 use Rattle.ffc_cert.specs.declared.entries.CertLine.{CertLine}
@@ -16,7 +16,7 @@ use Rattle.ffc_trees.specs.TreeLines.{Limits as TreeLimits}
 use Rattle.ffc_trees.specs.FirstLines.{first_lines}
 use Rattle.ffc_trees.specs.Trees.{Broken as BrokenInTree, tree_read}
 use Rattle.ffc_trees.specs.Laws.{LemmasAreSound}
-use Rattle.ffc_clause.specs.Clauses.{Literal, Clause, plus, clause_holds}
+use Rattle.ffc_clause.specs.Clauses.{Clause, plus, clause_holds}
 use Rattle.ffc_clause.specs.Hints.{follows}
 use Rattle.ffc_clause.proofs.HintLemmas.{IsHintTrue}
 use Rattle.ffc_rules.specs.Clauses.{truth_at}
@@ -182,12 +182,12 @@ module _ (lemmas : LemmasAreSound) (trees : TreesHoldNoClauses) (l : Limits) (c 
         | inr last ↦
             let on : is_listed above (length clauses) ≡ true = ap (is_listed above) (sym last.0) ∙ is in
             let numbers : (n : ℕ) → is_listed (taken_by x) n ≡ true → IsNumberTrue (truth_at c.nodes assignment) c.in_force n =
-                λ n has. taken n (listed_left _ (numbers_taken (found_with (length clauses) x above) (length clauses + 1) more) n
-                (ap (λ w. is_listed (cond w (taken_by x) []) n) (still_found (length clauses) x above (length clauses) on) ∙ has)) in
+            λ n has. taken n (listed_left _ (numbers_taken (found_with (length clauses) x above) (length clauses + 1) more) n
+            (ap (λ w. is_listed (cond w (taken_by x) []) n) (still_found (length clauses) x above (length clauses) on) ∙ has)) in
             ap (clause_holds (truth_at c.nodes assignment)) (sym last.1)
             ∙ given_true c assignment table lemmas l clauses line x rest given
-              (each_listed (IsHintTrue (truth_at c.nodes assignment) clauses) (hints_of x) (λ h has. found h (hint_found (length clauses) x above on h has)))
-              (each_listed (IsNumberTrue (truth_at c.nodes assignment) c.in_force) (taken_by x) numbers) e
+            (each_listed (IsHintTrue (truth_at c.nodes assignment) clauses) (hints_of x) (λ h has. found h (hint_found (length clauses) x above on h has)))
+            (each_listed (IsNumberTrue (truth_at c.nodes assignment) c.in_force) (taken_by x) numbers) e
       ]
 
   taken_next : (k : ℕ) (x : CertLine) (above : List ℕ) (more : List CertLine) → AreTakenTrue (found_with k x above) k (x ∷ more) → AreTakenTrue above (k + 1) more
@@ -210,9 +210,9 @@ module _ (lemmas : LemmasAreSound) (trees : TreesHoldNoClauses) (l : Limits) (c 
       by_given : (r : Result Given Broken) → clause_given l c clauses line x rest ≡ r
           → elim r as (λ _. Option Broken) [ Err broken ↦ Some broken | Ok given ↦ lines_fault l c (clauses ++ given.clause ∷ []) (line + 1) (length rest - length given.rest) rest ] ≡ None
           → ((given : Given) → NoClausesIn (length rest - length given.rest) rest
-              → AreFoundTrue (reached_clauses (length (clauses ++ given.clause ∷ [])) (clause_lines rest)) (clauses ++ given.clause ∷ [])
-              → AreTakenTrue (reached_clauses (length (clauses ++ given.clause ∷ [])) (clause_lines rest)) (length (clauses ++ given.clause ∷ [])) (clause_lines rest)
-              → lines_fault l c (clauses ++ given.clause ∷ []) (line + 1) (length rest - length given.rest) rest ≡ None → ⊥)
+          → AreFoundTrue (reached_clauses (length (clauses ++ given.clause ∷ [])) (clause_lines rest)) (clauses ++ given.clause ∷ [])
+          → AreTakenTrue (reached_clauses (length (clauses ++ given.clause ∷ [])) (clause_lines rest)) (length (clauses ++ given.clause ∷ [])) (clause_lines rest)
+          → lines_fault l c (clauses ++ given.clause ∷ []) (line + 1) (length rest - length given.rest) rest ≡ None → ⊥)
           → ⊥
       by_given (Err broken) is on next = none-some broken (sym on)
       by_given (Ok given) is on next =

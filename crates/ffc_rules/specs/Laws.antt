@@ -1,5 +1,5 @@
 -- What it means that an entry breaks no rule. Nothing is assumed of the entry.
-use Rattle.std.specs.Prelude.{◌≡◌, ℕ, ◌<◌, ◌≤◌, ◌+◌, true, false, List, [], ◌∷◌, ◌↔◌, Some, None, Ok, Contains, IsSome, All, length, map, slice_get}
+use Rattle.std.specs.Prelude.{◌≡◌, ℕ, ◌<◌, ◌≤◌, ◌+◌, true, false, List, ◌↔◌, Some, None, Ok, Contains, IsSome, All, length, map, slice_get}
 use Rattle.ffc_cert.specs.declared.entries.CertLine.{CertLine}
 use Rattle.ffc_cert.specs.declared.entries.Entry.{Entry}
 use Rattle.ffc_cert.specs.declared.entries.Entry.TheVariants.{Sat, UnsatCases, UnsatSteps, Unknown}
@@ -21,8 +21,8 @@ use Rattle.ffc_clause.specs.Clauses.{Clause}
 use Rattle.ffc_rules.specs.Clauses.{IsTrueClause, AreTrue}
 use Rattle.ffc_rules.specs.Schemes.{scheme_clause, all_schemes}
 use Rattle.ffc_rules.specs.Cones.{cone, cone_constants, span}
-use Rattle.ffc_rules.specs.Assignments.{value_of_constant, value_of_number, listed_assignment, has_model_below}
-use Rattle.ffc_rules.specs.Entries.{NodeCheck, Limits, Broken, Given, clause_given, entry_fault_within, EntryOk}
+use Rattle.ffc_rules.specs.Assignments.{value_of_constant, value_of_number, has_model_below}
+use Rattle.ffc_rules.specs.Entries.{NodeCheck, Limits, Broken, Given, clause_given, entry_fault_within}
 use Rattle.ffc_rules.specs.Judging.{node_check, Accepts, checks_in}
 use Rattle.ffc_rules.specs.Cores.{core}
 

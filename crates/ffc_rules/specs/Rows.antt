@@ -1,18 +1,17 @@
 -- Scripts and certificates that the definitions are tried on, and what these say of them.
-use Rattle.std.specs.Prelude.{◌≡◌, ℕ, true, false, List, [], ◌∷◌, ◌++◌, map, take, drop, flat_map, codes, Option, Some, None}
+use Rattle.std.specs.Prelude.{◌≡◌, ℕ, true, false, List, [], ◌∷◌, ◌++◌, map, take, drop, flat_map, codes, Some, None}
 use Rattle.ffc_cert.specs.declared.entries.Entry.{Entry}
-use Rattle.ffc_cert.specs.declared.entries.Entry.TheVariants.{Sat, UnsatCases, UnsatSteps, Unknown}
+use Rattle.ffc_cert.specs.declared.entries.Entry.TheVariants.{Sat, UnsatCases, UnsatSteps}
 use Rattle.ffc_cert.specs.declared.entries.Cause.TheVariants as causes
-use Rattle.ffc_cert.specs.declared.entries.CertLine.{CertLine}
-use Rattle.ffc_cert.specs.declared.entries.CertLine.TheVariants.{Assume, Scheme, Hinted, Lemma, Combine, Split, Close}
+use Rattle.ffc_cert.specs.declared.entries.CertLine.TheVariants.{Assume, Scheme, Hinted, Lemma, Combine, Close}
 use Rattle.ffc_term.specs.declared.node.Node.{Node}
 use Rattle.ffc_term.specs.declared.node.Node.TheVariants as node
 use Rattle.ffc_smt.specs.Scripts.{reads}
 use Rattle.ffc_smt.specs.TableChecks.{names_in_force, table_checks}
 use Rattle.ffc_rules.specs.Schemes.{scheme_clause, all_schemes}
-use Rattle.ffc_rules.specs.Cones.{cone, span, work}
-use Rattle.ffc_rules.specs.Entries.{NodeCheck, Limits, limits, Broken, entry_fault, entry_fault_within}
-use Rattle.ffc_rules.specs.Judging.{Judgement, Accepted, Refused, Cause, Format, Rule, judge_checks, judge, checks_in}
+use Rattle.ffc_rules.specs.Cones.{cone}
+use Rattle.ffc_rules.specs.Entries.{NodeCheck, Limits, limits, entry_fault_within}
+use Rattle.ffc_rules.specs.Judging.{Judgement, Accepted, Refused, Format, Rule, judge_checks, judge, checks_in}
 use Rattle.ffc_rules.specs.Causes.{is_cause_within, first_count}
 use Rattle.ffc_rules.specs.Cores.{core, names_at}
 
@@ -124,14 +123,14 @@ pub record AreChecks : Type 0 where
   pub clause : Checks clause_script (clause_check ∷ [])
   pub named : Checks named_script (named_check ∷ [])
   pub assuming : Checks assuming_script (
-    record { nodes = implication_nodes; declared = 0 ∷ 1 ∷ []; in_force = 3 ∷ 0 ∷ 4 ∷ []; first_order = 2 }
-    ∷ record { nodes = implication_nodes; declared = 0 ∷ 1 ∷ []; in_force = 3 ∷ []; first_order = 2 }
-    ∷ [])
+      record { nodes = implication_nodes; declared = 0 ∷ 1 ∷ []; in_force = 3 ∷ 0 ∷ 4 ∷ []; first_order = 2 }
+      ∷ record { nodes = implication_nodes; declared = 0 ∷ 1 ∷ []; in_force = 3 ∷ []; first_order = 2 }
+      ∷ [])
   pub names : names_of (0 ∷ 1 ∷ []) ≡ (codes "a1" ∷ codes "a2" ∷ []) ∷ []
   pub all_names : names_of (0 ∷ 1 ∷ 2 ∷ []) ≡ (codes "a1" ∷ codes "a2" ∷ codes "a3" ∷ []) ∷ []
   -- a constant that is out of scope is not declared, and nodes that a later command makes are not there
   pub levels : Checks (codes "(set-logic QF_FF)(push)(declare-const b Bool)(pop)(declare-const c Bool)(assert c)(check-sat)(assert true)") (
-    record { nodes = node.BoolConst 0 ∷ node.BoolConst 1 ∷ []; declared = 1 ∷ []; in_force = 1 ∷ []; first_order = 2 } ∷ [])
+      record { nodes = node.BoolConst 0 ∷ node.BoolConst 1 ∷ []; declared = 1 ∷ []; in_force = 1 ∷ []; first_order = 2 } ∷ [])
 
 -- A product with zero, and its certificate altered
 

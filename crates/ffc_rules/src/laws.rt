@@ -1,7 +1,15 @@
 //! What holds of every entry that breaks no rule, for the crates above. Each function has an empty body: its contract is the law.
 ghost use Rattle.ffc_rules.specs.Laws.{
-  SchemesAreTrue, SchemesAreListed, ClausesAreSound, ConesAreNodes, CasesAreAll, EntriesAreTrue, BrokenLinesAreNear, CoresAreSound,
-  EntriesAreTrueOfChecks, AcceptanceIsSound
+  SchemesAreTrue,
+  SchemesAreListed,
+  ClausesAreSound,
+  ConesAreNodes,
+  CasesAreAll,
+  EntriesAreTrue,
+  BrokenLinesAreNear,
+  CoresAreSound,
+  EntriesAreTrueOfChecks,
+  AcceptanceIsSound,
 };
 
 /// The clause of each scheme is true under every assignment.
