@@ -5,3 +5,4 @@ pub mod ReadLemmas
 pub mod NodePolyLemmas
 pub mod FirstLineLemmas
 pub mod TakenLemmas
+pub mod VariableLemmas

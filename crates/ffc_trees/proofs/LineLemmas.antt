@@ -134,7 +134,7 @@ unfolding values_line
 values_line-ok p lines x count cases h =
     let two : Result (List (List Terms)) ℕ = Ok (case_lines p lines x (range_with_len 0 p)) in
     let one : Result (List (List Terms)) ℕ = if not (count == p) then Err 7 else two in
-    let small = passed_not (nat_lt 17 p) 7 one cases h in
+    let small = passed_not _ 7 one cases h in
     let all = passed (count == p) 7 two cases small.1 in
     same_ok two (case_lines p lines x (range_with_len 0 p)) cases refl all.1
 

@@ -27,11 +27,18 @@ use Rattle.ffc_trees.specs.NodePolynomials.{variable, constant, poly_in, sum_of,
 use Rattle.ffc_trees.specs.Laws.{IsPointOf}
 use Rattle.ffc_trees.proofs.NormalLemmas.{poly_value-normal}
 
-boolean_field : (p : ℕ) → ¬ (sort.Bool ≡ sort.Field p)
+pub boolean_field : (p : ℕ) → ¬ (sort.Bool ≡ sort.Field p)
 boolean_field p e = cc
 
 same_field : (p q : ℕ) → sort.Field q ≡ sort.Field p → q ≡ p
 same_field p q e = cc
+
+-- the children of a node are of its order
+pub of_order : (before : List Node) (p : ℕ) (ids : List ℕ) → (fits : AreOfOneField before ids) → fits.order ≡ p → All (IsFieldAt before p) ids
+of_order before p ids fits e = subst (λ q. All (IsFieldAt before q) ids) e fits.each
+
+pub first_order : (before : List Node) (p : ℕ) (ids : List ℕ) (fits : AreOfOneField before ids) → sort_at before (get_or ids 0 0) ≡ sort.Field p → fits.order ≡ p
+first_order before p ids fits is = same_field p fits.order (sym (fits.each 0 0 fits.some).1 ∙ is)
 
 -- ---- one node
 
@@ -88,23 +95,16 @@ module _ (before : List Node) (A vs : List Value) (polys : List Terms) (p id : �
   negated_value c is =
       ap (λ n. n % p) (scaled_value (p - 1) (poly_in polys c)) ∙ negated_mod p (value_sum point (poly_in polys c)) positive ∙ ap (λ n. (p - n) % p) (told c is)
 
-  -- the children are of the node's order
-  of_order : (ids : List ℕ) → (fits : AreOfOneField before ids) → fits.order ≡ p → All (IsFieldAt before p) ids
-  of_order ids fits e = subst (λ q. All (IsFieldAt before q) ids) e fits.each
-
-  first_order : (ids : List ℕ) (fits : AreOfOneField before ids) → sort_at before (get_or ids 0 0) ≡ sort.Field p → fits.order ≡ p
-  first_order ids fits is = same_field p fits.order (sym (fits.each 0 0 fits.some).1 ∙ is)
-
   node_value : (n : Node) → Fits before n → sort_of_node (sorts before) n ≡ sort.Field p → point id ≡ residue (value_of_node p A vs n) → point id < p → poly_value p point (expanded p id polys n) ≡ residue (value_of_node p A vs n)
   node_value (FieldConst k q) fits is here below = variable_value p point id below ∙ here
   node_value (Num n q) fits is here below =
       let small : n < p = subst (λ r. n < r) (same_field p q is) fits.1 in
       ap (λ m. m % p) (let same : n * 1 + 0 ≡ n = omega arith in same) ∙ mod-eq_of_lt small
   node_value (IteField c a b) fits is here below = variable_value p point id below ∙ here
-  node_value (Add ids) fits is here below = sum_value ids (of_order ids fits (first_order ids fits is))
-  node_value (Mul ids) fits is here below = product_value ids (of_order ids fits (first_order ids fits is))
-  node_value (Neg a) fits is here below = negated_value a (of_order (a ∷ []) fits (first_order (a ∷ []) fits is) 0 0 (omega arith))
-  node_value (Bitsum ids) fits is here below = bit_sum_value 0 ids (of_order ids fits (first_order ids fits is))
+  node_value (Add ids) fits is here below = sum_value ids (of_order before p ids fits (first_order before p ids fits is))
+  node_value (Mul ids) fits is here below = product_value ids (of_order before p ids fits (first_order before p ids fits is))
+  node_value (Neg a) fits is here below = negated_value a (of_order before p (a ∷ []) fits (first_order before p (a ∷ []) fits is) 0 0 (omega arith))
+  node_value (Bitsum ids) fits is here below = bit_sum_value 0 ids (of_order before p ids fits (first_order before p ids fits is))
   node_value _ fits is here below = absurd (boolean_field p is)
 
 -- ---- all nodes

@@ -1,6 +1,6 @@
 //! What holds of polynomials of nodes and of case trees, for the crates above. Each function has an empty body: its
 //! contract is the law.
-ghost use Rattle.ffc_trees.specs.Laws.{NormalIsSame, NormalIsNormal, PolynomialsKeepValues, PolynomialsStay, TreesRefute, ReadTreesClose, ClosedTreesAreRead, TreesAreTakenOff, FirstLinesVanish, LemmasAreSound};
+ghost use Rattle.ffc_trees.specs.Laws.{NormalIsSame, NormalIsNormal, PolynomialsKeepValues, PolynomialsStay, PolynomialsHaveVariables, TreesRefute, ReadTreesClose, ClosedTreesAreRead, TreesAreTakenOff, FirstLinesVanish, LemmasAreSound};
 
 /// The normal list of a polynomial is the same polynomial, with different monomials and coefficients from 1 to p - 1.
 pub fn normal_lists()
@@ -16,6 +16,11 @@ pub fn polynomials_keep_values()
 /// Further nodes change no polynomial.
 pub fn polynomials_stay()
     ensures { PolynomialsStay }
+{}
+
+/// The variables of a node's polynomial are constants and `ite`s of its order in its cone.
+pub fn polynomials_have_variables()
+    ensures { PolynomialsHaveVariables }
 {}
 
 /// A tree that closes refutes that all its first lines are 0 at a point of residues.
