@@ -6,3 +6,5 @@ pub mod NodePolyLemmas
 pub mod FirstLineLemmas
 pub mod TakenLemmas
 pub mod VariableLemmas
+pub mod SameLemmas
+pub mod AlikeLemmas

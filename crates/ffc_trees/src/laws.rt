@@ -1,6 +1,7 @@
 //! What holds of polynomials of nodes and of case trees, for the crates above. Each function has an empty body: its
 //! contract is the law.
 ghost use Rattle.ffc_trees.specs.Laws.{NormalIsSame, NormalIsNormal, PolynomialsKeepValues, PolynomialsStay, PolynomialsHaveVariables, TreesRefute, ReadTreesClose, ClosedTreesAreRead, TreesAreTakenOff, FirstLinesVanish, LemmasAreSound};
+ghost use Rattle.ffc_trees.specs.Same.{SizesAreOne, StagesReadAlike, TreesReadAlike};
 
 /// The normal list of a polynomial is the same polynomial, with different monomials and coefficients from 1 to p - 1.
 pub fn normal_lists()
@@ -47,4 +48,15 @@ pub fn first_lines_vanish()
 /// A lemma whose tree is read to its end is true under every assignment.
 pub fn lemmas_are_sound()
     ensures { LemmasAreSound }
+{}
+
+/// Normal lists of one polynomial have the same number of terms and the same degree.
+pub fn sizes_are_one()
+    ensures { SizesAreOne }
+{}
+
+/// What is read of a tree depends on the polynomials of the lines, and not on the order of their terms.
+pub fn trees_read_alike()
+    ensures stages { StagesReadAlike }
+    ensures trees { TreesReadAlike }
 {}
