@@ -8,3 +8,4 @@ pub mod TakenLemmas
 pub mod VariableLemmas
 pub mod SameLemmas
 pub mod AlikeLemmas
+pub mod BoundLemmas

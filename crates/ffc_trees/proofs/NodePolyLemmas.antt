@@ -48,7 +48,7 @@ product_from f a (id ∷ ids) =
     product_from f (a * f id) ids ∙ mul_assoc a (f id) (product_by f ids)
     ∙ ap (λ n. a * n) (sym (product_from f (1 * f id) ids ∙ ap (λ n. n * product_by f ids) (one-mul (f id))))
 
-product_by-cons : (f : ℕ → ℕ) (id : ℕ) (ids : List ℕ) → product_by f (id ∷ ids) ≡ f id * product_by f ids
+pub product_by-cons : (f : ℕ → ℕ) (id : ℕ) (ids : List ℕ) → product_by f (id ∷ ids) ≡ f id * product_by f ids
 product_by-cons f id ids = product_from f (1 * f id) ids ∙ ap (λ n. n * product_by f ids) (one-mul (f id))
 
 products_alike : (p a b c d : ℕ) → a % p ≡ b % p → c % p ≡ d % p → (a * c) % p ≡ (b * d) % p

@@ -1,6 +1,6 @@
 //! What holds of polynomials of nodes and of case trees, for the crates above. Each function has an empty body: its
 //! contract is the law.
-ghost use Rattle.ffc_trees.specs.Laws.{NormalIsSame, NormalIsNormal, PolynomialsKeepValues, PolynomialsStay, PolynomialsHaveVariables, TreesRefute, ReadTreesClose, ClosedTreesAreRead, TreesAreTakenOff, FirstLinesVanish, LemmasAreSound};
+ghost use Rattle.ffc_trees.specs.Laws.{NormalIsSame, NormalIsNormal, PolynomialsKeepValues, PolynomialsStay, PolynomialsHaveVariables, MeasuresBound, TreesRefute, ReadTreesClose, ClosedTreesAreRead, TreesAreTakenOff, FirstLinesVanish, LemmasAreSound};
 ghost use Rattle.ffc_trees.specs.Same.{SizesAreOne, StagesReadAlike, TreesReadAlike};
 
 /// The normal list of a polynomial is the same polynomial, with different monomials and coefficients from 1 to p - 1.
@@ -22,6 +22,11 @@ pub fn polynomials_stay()
 /// The variables of a node's polynomial are constants and `ite`s of its order in its cone.
 pub fn polynomials_have_variables()
     ensures { PolynomialsHaveVariables }
+{}
+
+/// The degree and the number of terms of a node's polynomial are at most the node's measures.
+pub fn measures_bound()
+    ensures { MeasuresBound }
 {}
 
 /// A tree that closes refutes that all its first lines are 0 at a point of residues.
