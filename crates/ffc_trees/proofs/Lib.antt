@@ -9,3 +9,4 @@ pub mod VariableLemmas
 pub mod SameLemmas
 pub mod AlikeLemmas
 pub mod BoundLemmas
+pub mod RuleLemmas

@@ -7,3 +7,4 @@ pub mod FirstLines
 pub mod Laws
 pub mod Rows
 pub mod Same
+pub mod Rules

@@ -1,6 +1,7 @@
 //! What holds of polynomials of nodes and of case trees, for the crates above. Each function has an empty body: its
 //! contract is the law.
 ghost use Rattle.ffc_trees.specs.Laws.{NormalIsSame, NormalIsNormal, PolynomialsKeepValues, PolynomialsStay, PolynomialsHaveVariables, MeasuresBound, TreesRefute, ReadTreesClose, ClosedTreesAreRead, TreesAreTakenOff, FirstLinesVanish, LemmasAreSound};
+ghost use Rattle.ffc_trees.specs.Rules.{SumsAre, ChainsAre, StepsAre, SplitsAre, ValuesAre};
 ghost use Rattle.ffc_trees.specs.Same.{SizesAreOne, StagesReadAlike, TreesReadAlike};
 
 /// The normal list of a polynomial is the same polynomial, with different monomials and coefficients from 1 to p - 1.
@@ -27,6 +28,15 @@ pub fn polynomials_have_variables()
 /// The degree and the number of terms of a node's polynomial are at most the node's measures.
 pub fn measures_bound()
     ensures { MeasuresBound }
+{}
+
+/// A line keeps its rule exactly where its parts are there, are residues, are within the limits and fit.
+pub fn rules_are_kept()
+    ensures sums { SumsAre }
+    ensures chains { ChainsAre }
+    ensures steps { StepsAre }
+    ensures splits { SplitsAre }
+    ensures values { ValuesAre }
 {}
 
 /// A tree that closes refutes that all its first lines are 0 at a point of residues.
