@@ -10,7 +10,7 @@ use Rattle.ffc_trees.specs.Trees.{Power, Stage, Open, Within, with_line, with_po
 use Rattle.ffc_trees.specs.Closing.{written_step, AreWritten, IsChainIn, Closes, CloseAll}
 use Rattle.ffc_trees.specs.Closing.Closes.{combine, chain, split, values, close}
 use Rattle.ffc_trees.specs.Closing.CloseAll.{no_cases, each}
-use Rattle.ffc_trees.proofs.LineLemmas.{step_line-ok, step_line-kept}
+use Rattle.ffc_trees.proofs.RuleLemmas.{step_gives, step_to}
 use Rattle.std.proofs.lemmas.Bool.{false≢true}
 
 -- the steps go on from the power r over these factors
@@ -140,14 +140,14 @@ module _ (l : Limits) (p : ℕ) where
   step_closes : (c : Power) (lines : List Terms) (others : List (List Terms)) (line : CertLine) (tree rest : List CertLine) (stage : Stage) → step_read l p c lines others line ≡ Ok stage → Reached stage tree rest → Chained c.variable c.modulus c.power (c.factor ∷ c.factors) lines others (line ∷ tree) rest
   step_closes c lines others (Step quotient remainder) tree rest stage h reached =
       let k = kept-ok (with_power p c.variable c.modulus lines others c.factors) (step_line l p c.modulus c.factor c.power quotient remainder) stage h in
-      let ok = step_line-ok l p c.modulus c.factor c.power quotient remainder k.what k.rule in
-      let there : Reached (with_power p c.variable c.modulus lines others c.factors remainder) tree rest = subst (λ r. Reached (with_power p c.variable c.modulus lines others c.factors r) tree rest) (sym ok.5) (subst (λ s. Reached s tree rest) (sym k.gives) reached) in
+      let ok = step_gives l p c.modulus c.factor c.power quotient remainder k.what k.rule in
+      let there : Reached (with_power p c.variable c.modulus lines others c.factors remainder) tree rest = subst (λ r. Reached (with_power p c.variable c.modulus lines others c.factors r) tree rest) (sym ok.1) (subst (λ s. Reached s tree rest) (sym k.gives) reached) in
       let chained = with_power-reached c.variable c.modulus remainder c.factors lines others tree rest there in
       record {
         steps = (quotient, remainder) ∷ chained.steps;
         behind = chained.behind;
-        over = (ok.4, chained.over);
-        written = (ok.0, ok.1, ok.2, ok.3, chained.written);
+        over = (ok.0.identity, chained.over);
+        written = (ok.0.short, ok.0.small, ok.0.residues, ok.0.below, chained.written);
         front = in_front (Step quotient remainder) tree (map written_step chained.steps ++ chained.behind) chained.front;
         more = chained.more;
       }
@@ -196,7 +196,7 @@ module _ (l : Limits) (p : ℕ) where
       let later = steps_read x f s.1 factors lines others steps (suc at) behind over.1 written.4 in
       let c : Power = record { variable = x; modulus = f; power = r; factor = factor; factors = factors } in
       let here : step_read l p c lines others (written_step s) ≡ Ok (with_power p x f lines others factors s.1) =
-      ap (kept (with_power p x f lines others factors)) (step_line-kept l p f factor r s.0 s.1 written.0 written.1 written.2 written.3 over.0)
+      ap (kept (with_power p x f lines others factors)) (step_to l p f factor r s.0 s.1 (record { short = written.0; small = written.1; residues = written.2; below = written.3; identity = over.0 }))
       in record {
         place = later.place;
         read = step_next c lines others at (written_step s) (map written_step steps ++ behind) (with_power p x f lines others factors s.1) here ∙ later.read;

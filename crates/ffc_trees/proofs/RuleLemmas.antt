@@ -1,15 +1,56 @@
--- Where each rule of a line is kept.
-use Rattle.std.proofs.Common.{◌≡◌, ℕ, zero, suc, ◌<◌, ◌≤◌, Bool, true, false, not, ◌&&◌, ◌==◌, nat_lt, if◌then◌else◌, List, [], ◌∷◌, length, get_or, All, Result, Ok, Err, refl, sym, ap, ◌∙◌, eqb-true, eq-eqb}
+-- Where each rule of a line is kept: the tests, and what they say.
+use Rattle.std.proofs.Math.Nat.{zero-mod}
+use Rattle.std.proofs.Common.{◌≡◌, ℕ, zero, suc, ◌<◌, ◌≤◌, Bool, true, false, not, ◌&&◌, ◌==◌, nat_lt, if◌then◌else◌, List, [], ◌∷◌, length, get_or, All, Result, Ok, Err, refl, sym, ap, ◌∙◌, eqb-true, eq-eqb, ◌%◌, ap₂}
 use Rattle.std.specs.List.{list_all, range_with_len, AllPass}
 use Rattle.std.proofs.lemmas.Bool.{and_parts, and_from, not-true, not_from_false, not_from_true, lt-ltb, ltb-true, ltb-false, le-ltb, cond-false}
 use Rattle.std.proofs.lemmas.List.Sums.{AllPass-from_list_all, list_all-from_AllPass}
 use Rattle.ffc_ring.specs.Polynomial.{Terms}
-use Rattle.ffc_uni.specs.Univariate.{Coefficients, plus, times, product_of_roots}
+use Rattle.ffc_uni.specs.Univariate.{Coefficients, plus, times, product_of_roots, SameUnivariate}
 use Rattle.ffc_uni.specs.Chains.{pair_count}
 use Rattle.ffc_trees.specs.Normal.{degree_of}
-use Rattle.ffc_trees.specs.TreeLines.{Limits, Multiple, Factor, line_at, is_there, are_there, products_in, written_degree, is_written_within, is_within, are_residues, combined, combine_line, is_in, coefficients_of, is_same, are_below, times_factor, chain_line, step_line, case_lines, is_root_product, split_line, values_line}
+use Rattle.ffc_trees.specs.TreeLines.{Limits, Multiple, Factor, line_at, is_there, are_there, products_in, written_degree, is_written_within, is_within, are_residues, combined, combine_line, is_in, coefficients_of, is_same, are_below, times_factor, chain_line, step_line, case_lines, is_root_product, split_line, values_line, is_zero}
 use Rattle.ffc_trees.specs.Rules.{IsSum, IsChainOf, IsStep, IsSplit, AreValues}
-use Rattle.ffc_trees.proofs.LineLemmas.{passed, passed_not, same_ok, is_same-same, same-is_same, step_line-ok, step_line-kept}
+
+-- ---- tests
+
+-- what is left of a test that was passed
+passed : {A : Type 0} (c : Bool) (e : ℕ) (r : Result A ℕ) (x : A) → (if not c then Err e else r) ≡ Ok x → (c ≡ true) × (r ≡ Ok x)
+passed false e r x h = absurd (cc)
+passed true e r x h = (refl, h)
+
+passed_not : {A : Type 0} (c : Bool) (e : ℕ) (r : Result A ℕ) (x : A) → (if c then Err e else r) ≡ Ok x → (c ≡ false) × (r ≡ Ok x)
+passed_not true e r x h = absurd (cc)
+passed_not false e r x h = (refl, h)
+
+same_ok : {A : Type 0} (r : Result A ℕ) (x y : A) → r ≡ Ok x → r ≡ Ok y → x ≡ y
+same_ok r x y g h = cc
+
+-- a test that is passed
+pass : {A : Type 0} (c : Bool) (e : A) (r : A) → c ≡ true → (if not c then e else r) ≡ r
+pass true e r is = refl
+pass false e r is = cond-false _ _ _ (not_from_true false is)
+
+-- ---- the test of two lists of coefficients
+
+is_zero-same : (p : ℕ) (a : Coefficients) → is_zero p a ≡ true → SameUnivariate p a []
+is_zero-same p [] is k = refl
+is_zero-same p (c ∷ a) is zero = eqb-true (c % p) 0 (and_parts (c % p == 0) (is_zero p a) is).0 ∙ sym (zero-mod p)
+is_zero-same p (c ∷ a) is (suc k) = is_zero-same p a (and_parts (c % p == 0) (is_zero p a) is).1 k
+
+is_same-same : (p : ℕ) (a b : Coefficients) → is_same p a b ≡ true → SameUnivariate p a b
+is_same-same p [] b is k = sym (is_zero-same p b is k)
+is_same-same p (x ∷ a) [] is k = is_zero-same p (x ∷ a) is k
+is_same-same p (x ∷ a) (y ∷ b) is zero = eqb-true (x % p) (y % p) (and_parts (x % p == y % p) (is_same p a b) is).0
+is_same-same p (x ∷ a) (y ∷ b) is (suc k) = is_same-same p a b (and_parts (x % p == y % p) (is_same p a b) is).1 k
+
+same-is_zero : (p : ℕ) (a : Coefficients) → SameUnivariate p a [] → is_zero p a ≡ true
+same-is_zero p [] same = refl
+same-is_zero p (c ∷ a) same = and_from (c % p == 0) (is_zero p a) (eq-eqb (c % p) 0 (same 0 ∙ zero-mod p)) (same-is_zero p a (λ k. same (suc k)))
+
+same-is_same : (p : ℕ) (a b : Coefficients) → SameUnivariate p a b → is_same p a b ≡ true
+same-is_same p [] b same = same-is_zero p b (λ k. sym (same k))
+same-is_same p (x ∷ a) [] same = same-is_zero p (x ∷ a) same
+same-is_same p (x ∷ a) (y ∷ b) same = and_from (x % p == y % p) (is_same p a b) (eq-eqb (x % p) (y % p) (same 0)) (same-is_same p a b (λ k. same (suc k)))
 
 -- ---- tests of all elements
 
@@ -42,11 +83,6 @@ both_within a b c d is =
 
 within_both : (a b c d : ℕ) → b ≤ a → d ≤ c → (not (nat_lt a b) && not (nat_lt c d)) ≡ true
 within_both a b c d x y = and_from (not (nat_lt a b)) (not (nat_lt c d)) (not_from_false (nat_lt a b) (le-ltb a b x)) (not_from_false (nat_lt c d) (le-ltb c d y))
-
--- a test that is passed
-pass : {A : Type 0} (c : Bool) (e : A) (r : A) → c ≡ true → (if not c then e else r) ≡ r
-pass true e r is = refl
-pass false e r is = cond-false _ _ _ (not_from_true false is)
 
 -- ---- the rules
 
@@ -105,14 +141,39 @@ chain_to p lines k x count f is =
     ∙ pass (is_in x (line_at lines k) && (count == pair_count p)) (Err 6) two (and_from (is_in x (line_at lines k)) (count == pair_count p) is.alone (eq-eqb count (pair_count p) is.long))
     ∙ ap (λ (g : Coefficients). let r : Result Coefficients ℕ = Ok g in r) is.line
 
+-- what a step that keeps its rule answers is the remainder
+pub step_gives : (l : Limits) (p : ℕ) (f : Coefficients) (factor : Factor) (r quotient remainder next : Coefficients) → step_line l p f factor r quotient remainder ≡ Ok next → IsStep l p f factor r quotient remainder × (remainder ≡ next)
+unfolding step_line
+step_gives l p f factor r quotient remainder next h =
+    let four : Result Coefficients ℕ = Ok remainder in
+    let three : Result Coefficients ℕ = if not (is_same p (times_factor factor r) (plus (times quotient f) remainder)) then Err 6 else four in
+    let two : Result Coefficients ℕ = if not (are_below p quotient && are_below p remainder) then Err 6 else three in
+    let one : Result Coefficients ℕ = if nat_lt l.coefficients (length remainder) then Err 11 else two in
+    let first = passed_not (nat_lt l.coefficients (length quotient)) 11 one next h in
+    let second = passed_not (nat_lt l.coefficients (length remainder)) 11 two next first.1 in
+    let third = passed (are_below p quotient && are_below p remainder) 6 three next second.1 in
+    let fourth = passed (is_same p (times_factor factor r) (plus (times quotient f) remainder)) 6 four next third.1 in
+    let both = and_parts (are_below p quotient) (are_below p remainder) third.0 in
+    (record {
+      short = ltb-false l.coefficients (length quotient) first.0;
+      small = ltb-false l.coefficients (length remainder) second.0;
+      residues = all_below-from p quotient both.0;
+      below = all_below-from p remainder both.1;
+      identity = is_same-same p (times_factor factor r) (plus (times quotient f) remainder) fourth.0;
+    }, same_ok four remainder next refl fourth.1)
+
 pub step_from : (l : Limits) (p : ℕ) (f : Coefficients) (factor : Factor) (r quotient remainder : Coefficients) → step_line l p f factor r quotient remainder ≡ Ok remainder → IsStep l p f factor r quotient remainder
-step_from l p f factor r quotient remainder h =
-    let ok = step_line-ok l p f factor r quotient remainder remainder h in
-    record { short = ok.0; small = ok.1; residues = all_below-from p quotient ok.2; below = all_below-from p remainder ok.3; identity = ok.4 }
+step_from l p f factor r quotient remainder h = (step_gives l p f factor r quotient remainder remainder h).0
 
 pub step_to : (l : Limits) (p : ℕ) (f : Coefficients) (factor : Factor) (r quotient remainder : Coefficients) → IsStep l p f factor r quotient remainder → step_line l p f factor r quotient remainder ≡ Ok remainder
+unfolding step_line
 step_to l p f factor r quotient remainder is =
-    step_line-kept l p f factor r quotient remainder is.short is.small (all_below-to p quotient is.residues) (all_below-to p remainder is.below) is.identity
+    let four : Result Coefficients ℕ = Ok remainder in
+    let three : Result Coefficients ℕ = if not (is_same p (times_factor factor r) (plus (times quotient f) remainder)) then Err 6 else four in
+    cond-false _ _ _ (le-ltb l.coefficients (length quotient) is.short)
+    ∙ cond-false _ _ _ (le-ltb l.coefficients (length remainder) is.small)
+    ∙ pass (are_below p quotient && are_below p remainder) (Err 6) three (and_from (are_below p quotient) (are_below p remainder) (all_below-to p quotient is.residues) (all_below-to p remainder is.below))
+    ∙ pass (is_same p (times_factor factor r) (plus (times quotient f) remainder)) (Err 6) four (same-is_same p (times_factor factor r) (plus (times quotient f) remainder) is.identity)
 
 pub split_from : (p : ℕ) (lines : List Terms) (k x : ℕ) (zeros : List ℕ) (cases : List (List Terms)) → split_line p lines k x zeros ≡ Ok cases → IsSplit p lines k x zeros cases
 unfolding split_line

@@ -1,13 +1,13 @@
 -- Which trees refute: the identities of the Nullstellensatz with cases. `Closes l p lines tree rest` says that a tree stands at
 -- the front of `tree`, with `rest` after it, that each of its lines keeps its rule from the lines before it in its branch,
 -- and that each branch ends with a constant other than 0.
-use Rattle.std.specs.Prelude.{◌≡◌, ℕ, ◌≤◌, true, List, [], ◌∷◌, ◌++◌, length, map, Ok}
+use Rattle.std.specs.Prelude.{◌≡◌, ℕ, ◌<◌, ◌≤◌, All, true, List, [], ◌∷◌, ◌++◌, length, map, Ok}
 use Rattle.ffc_cert.specs.declared.entries.CertLine.{CertLine}
 use Rattle.ffc_cert.specs.declared.entries.CertLine.TheVariants.{Combine, Chain, Step, Split, Values, Close}
 use Rattle.ffc_ring.specs.Polynomial.{Terms}
 use Rattle.ffc_uni.specs.Univariate.{Coefficients, indeterminate}
 use Rattle.ffc_uni.specs.Chains.{Pair, IsChain, last_remainder}
-use Rattle.ffc_trees.specs.TreeLines.{Limits, Multiple, combine_line, chain_line, fermat_line, split_line, values_line, closes, are_below}
+use Rattle.ffc_trees.specs.TreeLines.{Limits, Multiple, combine_line, chain_line, fermat_line, split_line, values_line, closes}
 
 -- a step as it is written
 abbrev pub written_step : Pair → CertLine
@@ -16,7 +16,7 @@ written_step s = Step s.0 s.1
 -- quotients and remainders are written within the limit, and with residues
 abbrev pub AreWritten : Limits → ℕ → List Pair → Type 0
 AreWritten l p [] = Unit {0}
-AreWritten l p (s ∷ steps) = (length s.0 ≤ l.coefficients) × (length s.1 ≤ l.coefficients) × (are_below p s.0 ≡ true) × (are_below p s.1 ≡ true) × AreWritten l p steps
+AreWritten l p (s ∷ steps) = (length s.0 ≤ l.coefficients) × (length s.1 ≤ l.coefficients) × All (λ c. c < p) s.0 × All (λ c. c < p) s.1 × AreWritten l p steps
 
 -- The steps are those of x^p modulo f, as they are written in front of the other lines.
 pub record IsChainIn (l : Limits) (p : ℕ) (f : Coefficients) (steps : List Pair) (lines behind : List CertLine) : Type 0 where
