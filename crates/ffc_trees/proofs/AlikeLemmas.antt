@@ -1,16 +1,16 @@
 -- What is read from the same lines, written in other orders of their terms, is one.
-use Rattle.std.proofs.Common.{◌≡◌, ℕ, zero, suc, ◌+◌, ◌-◌, ◌*◌, ◌%◌, ◌<◌, Bool, true, false, not, ◌&&◌, ◌==◌, nat_lt, if◌then◌else◌, List, [], ◌∷◌, ◌++◌, length, map, fold, sum_by, Result, Ok, Err, refl, sym, ap, ap₂, ◌∙◌, subst}
-use Rattle.std.specs.List.{list_all, range_with_len}
+use Rattle.std.proofs.Common.{◌≡◌, ℕ, zero, suc, ◌+◌, ◌-◌, ◌*◌, ◌<◌, Bool, true, false, not, ◌&&◌, ◌==◌, nat_lt, if◌then◌else◌, List, [], ◌∷◌, ◌++◌, length, Result, Ok, Err, refl, sym, ap, ap₂, ◌∙◌, subst}
+use Rattle.std.specs.List.{range_with_len}
 use Rattle.std.proofs.lemmas.List.Sums.{sum_by-cons}
 use Rattle.ffc_cert.specs.declared.entries.CertLine.{CertLine}
 use Rattle.ffc_cert.specs.declared.entries.CertLine.TheVariants.{Combine, Chain, Step, Split, Values, Close}
-use Rattle.ffc_ring.specs.Polynomial.{Terms, SamePolynomial, product, difference}
+use Rattle.ffc_ring.specs.Polynomial.{Terms, SamePolynomial, product}
 use Rattle.ffc_ring.proofs.PolynomialLemmas.{same_sums, same_products}
 use Rattle.ffc_uni.specs.Univariate.{Coefficients, indeterminate, product_of_roots, terms_in}
 use Rattle.ffc_uni.specs.Chains.{pair_count, digits_of}
-use Rattle.ffc_trees.specs.Normal.{normal, degree_of}
-use Rattle.ffc_trees.specs.TreeLines.{Limits, Multiple, Factor, line_at, is_there, are_there, products_in, is_written_within, written_degree, is_within, are_residues, sum_of_multiples, combined, combine_line, is_in, coefficients_of, is_same, are_below, factors_over, fermat_line, chain_line, step_line, root_line, case_lines, is_root_product, split_line, values_line, is_nonzero_constant, last_line, closes}
-use Rattle.ffc_trees.specs.Trees.{Power, Stage, Open, Within, with_line, with_power, kept, branch_read, step_read, Broken, next_read, read_from, tree_read}
+use Rattle.ffc_trees.specs.Normal.{normal}
+use Rattle.ffc_trees.specs.TreeLines.{Limits, Multiple, Factor, line_at, is_there, are_there, products_in, is_written_within, written_degree, is_within, are_residues, sum_of_multiples, combined, combine_line, is_in, coefficients_of, is_same, are_below, factors_over, fermat_line, chain_line, step_line, root_line, case_lines, is_root_product, split_line, values_line, last_line, closes}
+use Rattle.ffc_trees.specs.Trees.{Power, Stage, Open, Within, with_line, with_power, kept, branch_read, step_read, Broken, next_read, read_from}
 use Rattle.ffc_trees.specs.Same.{IsSameLine, AreSameLines, AreSameCases, IsSameStage}
 use Rattle.ffc_trees.proofs.NormalLemmas.{normal_same, normal_is_normal}
 use Rattle.ffc_trees.proofs.SameLemmas.{one_length, one_degree, one_is_in, one_coefficients, one_constant}
@@ -168,7 +168,7 @@ module _ (p : ℕ) (positive : 0 < p) where
     module _ (others more : List (List Terms)) (rest : AreSameCases p others more) where
       with_power-same : (x : ℕ) (f : Coefficients) (factors : List Factor) (r : Coefficients) → IsSameStage p (with_power p x f a others factors r) (with_power p x f b more factors r)
       unfolding fermat_line
-      with_power-same x f [] r = (same-push a b (fermat_line p x r) (fermat_line p x r) are (normal-same (difference p (terms_in x r) (terms_in x indeterminate)) (difference p (terms_in x r) (terms_in x indeterminate)) (λ m. refl)), rest)
+      with_power-same x f [] r = (same-push a b (fermat_line p x r) (fermat_line p x r) are (normal-same _ _ (λ m. refl)), rest)
       with_power-same x f (factor ∷ factors) r = (refl, are, rest)
 
       close-alike : (c d : Bool) → c ≡ d → Alike (IsSameStage p) (if c then Ok (Open others) else Err 8) (if d then Ok (Open more) else Err 8)

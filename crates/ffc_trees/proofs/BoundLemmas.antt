@@ -1,6 +1,6 @@
 -- The degree and the number of terms of a node's polynomial are at most the node's measures.
-use Rattle.std.proofs.Common.{◌≡◌, ◌≢◌, ℕ, zero, suc, ◌+◌, ◌-◌, ◌*◌, ◌^◌, ◌%◌, ◌<◌, ◌≤◌, max, List, [], ◌∷◌, ◌++◌, length, take, get_or, fold, sum_by, All, refl, sym, ap, ap₂, ◌∙◌, subst, inl, inr, arith, length-take, length-append, get_or-take, mul-one, add-mul}
-use Rattle.std.proofs.Math.Nat.{mul-le-mul, le_refl}
+use Rattle.std.proofs.Common.{◌≡◌, ℕ, zero, suc, ◌+◌, ◌-◌, ◌*◌, ◌^◌, ◌%◌, ◌<◌, ◌≤◌, max, List, [], ◌∷◌, ◌++◌, length, take, get_or, fold, sum_by, All, refl, sym, ap, ◌∙◌, subst, inl, inr, arith, length-take, length-append, get_or-take}
+use Rattle.std.proofs.Math.Nat.{mul-le-mul}
 use Rattle.std.proofs.lemmas.Bool.{cases_eq}
 use Rattle.std.proofs.lemmas.List.Elements.{All-head, All-tail}
 use Rattle.std.proofs.lemmas.List.Sums.{sum_by-cons}
@@ -9,9 +9,9 @@ use Rattle.ffc_ring.specs.Polynomial.{Terms, term_product, product, scaled}
 use Rattle.ffc_ring.proofs.MonomialLemmas.{degree-mono_mul}
 use Rattle.ffc_ring.proofs.PolynomialLemmas.{cases_monomial}
 use Rattle.ffc_term.specs.declared.node.Node.{Node}
-use Rattle.ffc_term.specs.declared.node.Node.TheVariants.{True, False, BoolConst, FieldConst, Num, Not, And, Or, Iff, Xor, IteBool, IteField, Eq, Add, Mul, Neg, Bitsum}
+use Rattle.ffc_term.specs.declared.node.Node.TheVariants.{True, FieldConst, Num, IteField, Add, Mul, Neg, Bitsum}
 use Rattle.ffc_term.specs.declared.node.Sort.TheVariants as sort
-use Rattle.ffc_term.specs.Nodes.{IsNodeAt, in_turn, sorts, sort_of_node, order_at, order_of_sort}
+use Rattle.ffc_term.specs.Nodes.{IsNodeAt, sorts, sort_of_node, order_at, order_of_sort}
 use Rattle.ffc_term.specs.Values.{product_by}
 use Rattle.ffc_term.specs.Tables.{Fits, IsFieldAt, IsTable}
 use Rattle.ffc_term.specs.Measuring.{greatest_by, number_in, degree_of_node, length_of_node, degrees, lengths, degree_at, length_at}

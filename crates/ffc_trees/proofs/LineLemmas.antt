@@ -1,23 +1,19 @@
 -- The value of what a sum adds, and of a line in one variable, at a point where the lines so far are 0.
 use Rattle.ffc_trees.proofs.RuleLemmas.{sum_from}
-use Rattle.std.proofs.Common.{◌≡◌, ℕ, zero, suc, ◌+◌, ◌-◌, ◌*◌, ◌%◌, ◌^◌, ◌<◌, ◌≤◌, Bool, true, false, not, ◌&&◌, ◌==◌, nat_lt, if◌then◌else◌, List, [], ◌∷◌, ◌++◌, length, All, Result, Ok, Err, refl, sym, ap, ap₂, ◌∙◌, inl, inr, arith, eqb-true, eq-eqb, mul_comm}
-use Rattle.std.proofs.Math.Nat.{zero-mod, mod-eq_of_lt, pow-zero, pow-succ', mul_assoc, mul-one}
-use Rattle.std.proofs.lemmas.Bool.{cases_lt, and_parts, and_from, not_from_true, ltb-false, le-ltb, cond-false, false≢true}
+use Rattle.std.proofs.Common.{◌≡◌, ℕ, zero, suc, ◌+◌, ◌*◌, ◌%◌, ◌^◌, true, List, [], ◌∷◌, length, Ok, refl, sym, ap, ap₂, ◌∙◌, inl, inr, arith, eqb-true, mul_comm}
+use Rattle.std.proofs.Math.Nat.{zero-mod, pow-zero, pow-succ', mul_assoc, mul-one}
+use Rattle.std.proofs.lemmas.Bool.{cases_lt, and_parts, false≢true}
 use Rattle.std.proofs.lemmas.List.{get_or_past}
-use Rattle.std.proofs.lemmas.List.Elements.{All-head, All-tail}
-use Rattle.std.specs.List.{list_all, range_with_len}
-use Rattle.ffc_field.specs.Modular.{add_mod, sub_mod, mul_mod}
-use Rattle.ffc_field.proofs.ModularLaws.{mul_mod-zero, sub_mod-self}
+use Rattle.ffc_field.specs.Modular.{add_mod, mul_mod}
+use Rattle.ffc_field.proofs.ModularLaws.{mul_mod-zero}
 use Rattle.ffc_ring.specs.Monomial.{Monomial, degree, mono_value}
-use Rattle.ffc_ring.specs.Polynomial.{Terms, product, difference, value_sum, poly_value}
-use Rattle.ffc_ring.proofs.PolynomialLemmas.{poly_value-append, poly_value-product, poly_value-difference}
-use Rattle.ffc_uni.specs.Univariate.{Coefficients, SameUnivariate, coefficient_at, indeterminate, plus, times, sum_at, value_of, product_of_roots, terms_in}
+use Rattle.ffc_ring.specs.Polynomial.{Terms, product, value_sum, poly_value}
+use Rattle.ffc_ring.proofs.PolynomialLemmas.{poly_value-append, poly_value-product}
+use Rattle.ffc_uni.specs.Univariate.{sum_at, value_of}
 use Rattle.ffc_uni.specs.Rows.{shifted}
-use Rattle.ffc_uni.specs.Chains.{pair_count}
 use Rattle.ffc_uni.proofs.ValueLemmas.{sum_at-plus}
-use Rattle.ffc_uni.proofs.RingLemmas.{value_in_ring}
 use Rattle.ffc_trees.specs.Laws.{AreZeroAt}
-use Rattle.ffc_trees.specs.TreeLines.{Limits, Multiple, line_at, is_there, are_there, is_written_within, is_within, are_residues, sum_of_multiples, combined, combine_line, is_power, is_in, coefficients_of, is_zero, is_same, are_below, Factor, times_factor, step_line, fermat_line, chain_line, root_line, case_lines, is_root_product, split_line, values_line, is_nonzero_constant, last_line, closes}
+use Rattle.ffc_trees.specs.TreeLines.{Limits, Multiple, line_at, sum_of_multiples, combined, combine_line, is_power, is_in, coefficients_of}
 use Rattle.ffc_trees.proofs.NormalLemmas.{poly_value-normal}
 
 -- ---- sums

@@ -1,16 +1,15 @@
 -- The value of a node's polynomial is the node's, and further nodes change no polynomial.
-use Rattle.std.proofs.Common.{◌≡◌, ℕ, zero, suc, ◌+◌, ◌-◌, ◌*◌, ◌^◌, ◌%◌, ◌<◌, ◌≤◌, List, [], ◌∷◌, ◌++◌, length, take, get_or, fold, sum_by, All, refl, sym, ap, ap₂, ◌∙◌, subst, arith, length-take, get_or-take, take_at, mul_assoc, one-mul, mul-one}
-use Rattle.std.proofs.Math.Nat.{zero-mod, mod-mod, mod-eq_of_lt, pow-suc, pow-zero}
+use Rattle.std.proofs.Common.{◌≡◌, ℕ, zero, suc, ◌+◌, ◌-◌, ◌*◌, ◌^◌, ◌%◌, ◌<◌, List, [], ◌∷◌, ◌++◌, length, take, get_or, fold, sum_by, All, refl, sym, ap, ap₂, ◌∙◌, subst, arith, length-take, get_or-take, take_at, mul_assoc, one-mul, mul-one}
+use Rattle.std.proofs.Math.Nat.{mod-mod, mod-eq_of_lt, pow-suc, pow-zero}
 use Rattle.std.proofs.lemmas.Nat.{mul-mod_first, mul-mod_second}
 use Rattle.std.proofs.lemmas.List.Elements.{All-head, All-tail}
 use Rattle.std.proofs.lemmas.List.Sums.{sum_by-cons}
 use Rattle.std.proofs.lemmas.Option.{slice_get_within}
 use Rattle.ffc_field.specs.Modular.{neg_mod}
-use Rattle.ffc_field.specs.Orders.{IsOrder}
-use Rattle.ffc_ring.specs.Polynomial.{Terms, product, scaled, value_sum, poly_value}
-use Rattle.ffc_ring.proofs.PolynomialLemmas.{sum_alike, times_alike, negated_mod, value_sum-append, value_sum-product, value_sum-term_product}
+use Rattle.ffc_ring.specs.Polynomial.{Terms, scaled, value_sum, poly_value}
+use Rattle.ffc_ring.proofs.PolynomialLemmas.{sum_alike, negated_mod, value_sum-append, value_sum-product, value_sum-term_product}
 use Rattle.ffc_term.specs.declared.node.Node.{Node}
-use Rattle.ffc_term.specs.declared.node.Node.TheVariants.{True, False, BoolConst, FieldConst, Num, Not, And, Or, Iff, Xor, IteBool, IteField, Eq, Add, Mul, Neg, Bitsum}
+use Rattle.ffc_term.specs.declared.node.Node.TheVariants.{True, FieldConst, Num, IteField, Add, Mul, Neg, Bitsum}
 use Rattle.ffc_term.specs.declared.node.Sort.TheVariants as sort
 use Rattle.ffc_term.specs.declared.value.Value.{Value}
 use Rattle.ffc_term.specs.declared.value.Value.TheVariants as value
@@ -23,7 +22,7 @@ use Rattle.ffc_term.proofs.NodeLemmas.{IsNodeAt-get_or}
 use Rattle.ffc_term.proofs.TableLemmas.{sort_at-is, sort_at-take, sort_at-append}
 use Rattle.ffc_term.proofs.ValueLemmas.{value_at-is, IsOrder-from_IsFieldAt, IsOrder-positive}
 use Rattle.ffc_term.proofs.LawLemmas.{value_at-of_sort}
-use Rattle.ffc_trees.specs.NodePolynomials.{variable, constant, poly_in, sum_of, product_of, bit_sum_of, expanded, poly_of_node, node_polys, poly_at}
+use Rattle.ffc_trees.specs.NodePolynomials.{variable, poly_in, sum_of, product_of, bit_sum_of, expanded, poly_of_node, node_polys, poly_at}
 use Rattle.ffc_trees.specs.Laws.{IsPointOf}
 use Rattle.ffc_trees.proofs.NormalLemmas.{poly_value-normal}
 

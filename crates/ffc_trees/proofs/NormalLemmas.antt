@@ -1,8 +1,8 @@
 -- The normal list of terms is the same polynomial, and it is normal.
-use Rattle.std.proofs.Common.{◌≡◌, ◌≢◌, ℕ, ◌+◌, ◌*◌, ◌%◌, ◌<◌, ◌==◌, Bool, true, false, [], ◌∷◌, refl, sym, ap, ap₂, ◌∙◌, inl, inr, eq-eqb, eqb-true, arith, add-mul}
+use Rattle.std.proofs.Common.{◌≡◌, ◌≢◌, ℕ, ◌+◌, ◌*◌, ◌%◌, ◌<◌, ◌==◌, [], ◌∷◌, refl, sym, ap, ◌∙◌, inl, inr, eq-eqb, eqb-true, arith, add-mul}
 use Rattle.std.proofs.Math.Nat.{mod-mod, mod-lt, zero-mod}
 use Rattle.std.proofs.lemmas.Bool.{cond-true, cond-false, cases_eq, false_from_ne_true}
-use Rattle.ffc_ring.specs.Monomial.{Monomial, mono_value, same_monomial}
+use Rattle.ffc_ring.specs.Monomial.{Monomial, mono_value}
 use Rattle.ffc_ring.specs.Polynomial.{Terms, SamePolynomial, IsNoneOf, poly_value}
 use Rattle.ffc_ring.proofs.PolynomialLemmas.{weighted, sum_alike, times_alike, cases_monomial, same_monomial-equal, same_monomial-other, value_sum-is_weighted, SamePolynomial-from_weighted}
 use Rattle.ffc_trees.specs.Normal.{term_before, with_term, normal, monomials_of, IsNormal}

@@ -1,8 +1,8 @@
 -- A tree that closes refutes that all its first lines are 0 at a point of residues.
 use Rattle.ffc_trees.proofs.RuleLemmas.{chain_from, split_from, values_from}
-use Rattle.std.proofs.Common.{◌≡◌, ℕ, zero, suc, ◌+◌, ◌-◌, ◌*◌, ◌%◌, ◌^◌, ◌<◌, ◌≤◌, Bool, true, List, [], ◌∷◌, ◌++◌, Ok, refl, sym, ap, ap₂, ◌∙◌, subst, inl, inr, ⊎_elim, arith}
+use Rattle.std.proofs.Common.{◌≡◌, ℕ, zero, suc, ◌+◌, ◌-◌, ◌*◌, ◌%◌, ◌^◌, ◌<◌, ◌≤◌, true, List, [], ◌∷◌, ◌++◌, Ok, sym, ap, ap₂, ◌∙◌, subst, inl, inr, ⊎_elim, arith}
 use Rattle.std.proofs.Math.Nat.{zero-mod, mod-eq_of_lt, mod_self, mod-lt}
-use Rattle.std.proofs.lemmas.Bool.{cases_eq, and_parts, ltb-true, false≢true}
+use Rattle.std.proofs.lemmas.Bool.{cases_eq, ltb-true, false≢true}
 use Rattle.std.proofs.lemmas.List.Elements.{All-head, All-tail, All-push}
 use Rattle.std.specs.List.{range_with_len}
 use Rattle.ffc_field.specs.Modular.{IsPrime, sub_mod, mul_mod}
@@ -14,13 +14,13 @@ use Rattle.ffc_cert.specs.declared.entries.CertLine.{CertLine}
 use Rattle.ffc_ring.specs.Polynomial.{Terms, difference, poly_value}
 use Rattle.ffc_ring.proofs.PolynomialLemmas.{poly_value-difference}
 use Rattle.ffc_uni.specs.Univariate.{Coefficients, indeterminate, value_of, product_of_roots, terms_in}
-use Rattle.ffc_uni.specs.Chains.{Pair, last_remainder}
+use Rattle.ffc_uni.specs.Chains.{last_remainder}
 use Rattle.ffc_uni.proofs.ValueLemmas.{value_of-times, one_value}
 use Rattle.ffc_uni.proofs.RingLemmas.{value_in_ring}
 use Rattle.ffc_uni.proofs.ChainLemmas.{zeros_of_chains}
 use Rattle.ffc_trees.specs.Laws.{AreZeroAt, IsPoint}
-use Rattle.ffc_trees.specs.TreeLines.{Limits, line_at, coefficients_of, is_in, is_same, is_root_product, fermat_line, root_line, case_lines, chain_line, split_line, values_line, is_nonzero_constant, last_line, closes}
-use Rattle.ffc_trees.specs.Closing.{Closes, CloseAll, IsChainIn}
+use Rattle.ffc_trees.specs.TreeLines.{Limits, line_at, coefficients_of, fermat_line, root_line, case_lines, split_line, is_nonzero_constant, last_line, closes}
+use Rattle.ffc_trees.specs.Closing.{Closes, CloseAll}
 use Rattle.ffc_trees.specs.Closing.Closes.{combine, chain, split, values, close}
 use Rattle.ffc_trees.specs.Closing.CloseAll.{no_cases, each}
 use Rattle.ffc_trees.proofs.NormalLemmas.{poly_value-normal}

@@ -1,7 +1,7 @@
 -- Where each rule of a line is kept: the tests, and what they say.
 use Rattle.std.proofs.Math.Nat.{zero-mod}
-use Rattle.std.proofs.Common.{◌≡◌, ℕ, zero, suc, ◌<◌, ◌≤◌, Bool, true, false, not, ◌&&◌, ◌==◌, nat_lt, if◌then◌else◌, List, [], ◌∷◌, length, get_or, All, Result, Ok, Err, refl, sym, ap, ◌∙◌, eqb-true, eq-eqb, ◌%◌, ap₂}
-use Rattle.std.specs.List.{list_all, range_with_len, AllPass}
+use Rattle.std.proofs.Common.{◌≡◌, ℕ, zero, suc, ◌<◌, ◌≤◌, Bool, true, false, not, ◌&&◌, ◌==◌, nat_lt, if◌then◌else◌, List, [], ◌∷◌, length, get_or, All, Result, Ok, Err, refl, sym, ap, ◌∙◌, eqb-true, eq-eqb, ◌%◌}
+use Rattle.std.specs.List.{list_all, range_with_len}
 use Rattle.std.proofs.lemmas.Bool.{and_parts, and_from, not-true, not_from_false, not_from_true, lt-ltb, ltb-true, ltb-false, le-ltb, cond-false}
 use Rattle.std.proofs.lemmas.List.Sums.{AllPass-from_list_all, list_all-from_AllPass}
 use Rattle.ffc_ring.specs.Polynomial.{Terms}
@@ -153,14 +153,16 @@ step_gives l p f factor r quotient remainder next h =
     let second = passed_not (nat_lt l.coefficients (length remainder)) 11 two next first.1 in
     let third = passed (are_below p quotient && are_below p remainder) 6 three next second.1 in
     let fourth = passed (is_same p (times_factor factor r) (plus (times quotient f) remainder)) 6 four next third.1 in
-    let both = and_parts (are_below p quotient) (are_below p remainder) third.0 in
-    (record {
-      short = ltb-false l.coefficients (length quotient) first.0;
-      small = ltb-false l.coefficients (length remainder) second.0;
-      residues = all_below-from p quotient both.0;
-      below = all_below-from p remainder both.1;
-      identity = is_same-same p (times_factor factor r) (plus (times quotient f) remainder) fourth.0;
-    }, same_ok four remainder next refl fourth.1)
+    let both = and_parts (are_below p quotient) (are_below p remainder) third.0 in (
+      record {
+        short = ltb-false l.coefficients (length quotient) first.0;
+        small = ltb-false l.coefficients (length remainder) second.0;
+        residues = all_below-from p quotient both.0;
+        below = all_below-from p remainder both.1;
+        identity = is_same-same p (times_factor factor r) (plus (times quotient f) remainder) fourth.0;
+      },
+      same_ok four remainder next refl fourth.1,
+    )
 
 pub step_from : (l : Limits) (p : ℕ) (f : Coefficients) (factor : Factor) (r quotient remainder : Coefficients) → step_line l p f factor r quotient remainder ≡ Ok remainder → IsStep l p f factor r quotient remainder
 step_from l p f factor r quotient remainder h = (step_gives l p f factor r quotient remainder remainder h).0

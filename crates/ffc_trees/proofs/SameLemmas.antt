@@ -1,11 +1,11 @@
 -- Two normal lists of one polynomial have the same terms, in some order: so the same number of them, the same degree and
 -- the same coefficients in one variable.
-use Rattle.std.proofs.Common.{◌≡◌, ◌≢◌, ℕ, zero, suc, ◌+◌, ◌%◌, ◌<◌, ◌≤◌, max, Bool, true, false, ◌&&◌, ◌==◌, nat_lt, List, [], ◌∷◌, length, fold, refl, sym, ap, ap₂, ◌∙◌, inl, inr, arith, eqb-true}
+use Rattle.std.proofs.Common.{◌≡◌, ◌≢◌, ℕ, suc, ◌+◌, ◌%◌, ◌<◌, max, Bool, true, false, ◌&&◌, ◌==◌, nat_lt, [], ◌∷◌, length, fold, refl, sym, ap, ap₂, ◌∙◌, inl, inr, arith, eqb-true}
 use Rattle.std.proofs.Math.Nat.{zero-mod, mod-eq_of_lt}
 use Rattle.std.proofs.lemmas.Bool.{cond-true, cond-false, false_from_ne_true}
 use Rattle.std.specs.List.{list_all}
 use Rattle.ffc_ring.specs.Monomial.{Monomial, degree}
-use Rattle.ffc_ring.specs.Polynomial.{Terms, SamePolynomial, IsNoneOf, written, coefficient}
+use Rattle.ffc_ring.specs.Polynomial.{Terms, SamePolynomial, IsNoneOf, written}
 use Rattle.ffc_ring.proofs.PolynomialLemmas.{without, written-at, written-off, cases_monomial, same_monomial-equal, same_monomial-other}
 use Rattle.ffc_uni.specs.Univariate.{Coefficients, plus}
 use Rattle.ffc_uni.specs.Rows.{shifted}

@@ -1,5 +1,5 @@
 -- What the monomials of a node's polynomial are made of.
-use Rattle.std.proofs.Common.{◌≡◌, ◌≢◌, ℕ, zero, suc, ◌+◌, ◌-◌, ◌^◌, ◌%◌, ◌<◌, ◌≤◌, ◌==◌, Bool, true, List, [], ◌∷◌, ◌++◌, length, take, get_or, All, Contains, refl, sym, ap, ◌∙◌, subst, inl, inr, ⊎_elim, arith, length-take, get_or-take}
+use Rattle.std.proofs.Common.{◌≡◌, ℕ, zero, suc, ◌+◌, ◌-◌, ◌^◌, ◌%◌, ◌<◌, true, List, [], ◌∷◌, ◌++◌, length, take, get_or, All, Contains, refl, sym, ap, ◌∙◌, subst, inl, inr, ⊎_elim, arith, length-take, get_or-take}
 use Rattle.std.proofs.lemmas.Bool.{cases_eq, cases_lt}
 use Rattle.std.proofs.lemmas.List.Elements.{All-head, All-tail, Contains-get_or, Contains-push_cases}
 use Rattle.ffc_ring.specs.Monomial.{Monomial, IsMonomial, with_power, joined, mono_mul}
@@ -7,10 +7,10 @@ use Rattle.ffc_ring.specs.Polynomial.{Terms, term_product, product, scaled}
 use Rattle.ffc_ring.proofs.MonomialLemmas.{IsMonomial-mono_mul, with_power-less, with_power-same, with_power-more}
 use Rattle.ffc_ring.proofs.PolynomialLemmas.{cases_monomial}
 use Rattle.ffc_term.specs.declared.node.Node.{Node}
-use Rattle.ffc_term.specs.declared.node.Node.TheVariants.{True, False, BoolConst, FieldConst, Num, Not, And, Or, Iff, Xor, IteBool, IteField, Eq, Add, Mul, Neg, Bitsum}
+use Rattle.ffc_term.specs.declared.node.Node.TheVariants.{True, FieldConst, Num, IteField, Add, Mul, Neg, Bitsum}
 use Rattle.ffc_term.specs.declared.node.Sort.TheVariants as sort
 use Rattle.ffc_term.specs.Nodes.{IsNodeAt, children, sorts, sort_of_node, order_at, order_of_sort}
-use Rattle.ffc_term.specs.Tables.{Fits, IsFieldAt, IsTable, AreOfOneField}
+use Rattle.ffc_term.specs.Tables.{Fits, IsFieldAt, IsTable}
 use Rattle.ffc_term.specs.Checks.{IsNodeOf}
 use Rattle.ffc_term.specs.Checks.IsNodeOf.{listed, child, first, second}
 use Rattle.ffc_term.proofs.ListLemmas.{nothing_in}
