@@ -1,7 +1,7 @@
 -- Where no literal of a lemma is true, its first lines are 0 at a point; so a lemma whose tree closes is true.
-use Rattle.std.proofs.Common.{◌≡◌, ℕ, suc, ◌+◌, ◌-◌, ◌*◌, ◌%◌, ◌<◌, Bool, true, false, not, ◌||◌, ◌==◌, nat_lt, if◌then◌else◌, List, [], ◌∷◌, length, get_or, All, Ok, refl, sym, ap, ap₂, ◌∙◌, subst, inl, inr, arith, eq-eqb, eqb-true}
+use Rattle.std.proofs.Common.{◌≡◌, ℕ, suc, ◌+◌, ◌-◌, ◌%◌, ◌<◌, Bool, true, false, ◌||◌, ◌==◌, nat_lt, if◌then◌else◌, List, [], ◌∷◌, length, get_or, All, Ok, refl, sym, ap, ap₂, ◌∙◌, subst, arith, eq-eqb, eqb-true}
 use Rattle.std.proofs.Math.Nat.{mod-lt, mod-eq_of_lt}
-use Rattle.std.proofs.lemmas.Bool.{cases_lt, cases_Bool, false≢true, not-false, true_from_ne_false, lt-ltb, le-ltb}
+use Rattle.std.proofs.lemmas.Bool.{false≢true, not-false, true_from_ne_false, lt-ltb, le-ltb}
 use Rattle.std.proofs.lemmas.List.Elements.{All-head, All-tail, All-cons, All-nil}
 use Rattle.std.proofs.lemmas.Option.{get_or_from_slice_get}
 use Rattle.ffc_cert.specs.declared.entries.CertLine.{CertLine}
@@ -15,14 +15,12 @@ use Rattle.ffc_term.specs.declared.node.Node.{Node}
 use Rattle.ffc_term.specs.declared.node.Node.TheVariants.{True, Eq}
 use Rattle.ffc_term.specs.declared.node.Sort.TheVariants as sort
 use Rattle.ffc_term.specs.declared.value.Value.{Value}
-use Rattle.ffc_term.specs.Nodes.{IsNodeAt, node_at, order_at, sort_at}
-use Rattle.ffc_term.specs.Values.{values, value_at, truth, residue, is_same_truth}
-use Rattle.ffc_term.specs.Tables.{IsTable, IsFieldAt, AreOfOneField, Fits}
+use Rattle.ffc_term.specs.Nodes.{IsNodeAt, node_at}
+use Rattle.ffc_term.specs.Values.{value_at, truth, residue}
+use Rattle.ffc_term.specs.Tables.{IsTable, IsFieldAt, AreOfOneField}
 use Rattle.ffc_term.proofs.TableLemmas.{sort_at-take}
 use Rattle.ffc_term.proofs.ValueLemmas.{value_at-is}
-use Rattle.std.proofs.lemmas.Option.{slice_get_within}
 use Rattle.std.proofs.Common.{take, length-take}
-use Rattle.ffc_trees.specs.Normal.{normal}
 use Rattle.ffc_trees.specs.NodePolynomials.{variable, constant, poly_at}
 use Rattle.ffc_trees.specs.TreeLines.{Limits}
 use Rattle.ffc_trees.specs.Trees.{tree_read}

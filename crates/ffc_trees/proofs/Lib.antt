@@ -5,3 +5,8 @@ pub mod ReadLemmas
 pub mod NodePolyLemmas
 pub mod FirstLineLemmas
 pub mod TakenLemmas
+pub mod VariableLemmas
+pub mod SameLemmas
+pub mod AlikeLemmas
+pub mod BoundLemmas
+pub mod RuleLemmas

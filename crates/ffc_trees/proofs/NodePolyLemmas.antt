@@ -1,16 +1,15 @@
 -- The value of a node's polynomial is the node's, and further nodes change no polynomial.
-use Rattle.std.proofs.Common.{◌≡◌, ℕ, zero, suc, ◌+◌, ◌-◌, ◌*◌, ◌^◌, ◌%◌, ◌<◌, ◌≤◌, List, [], ◌∷◌, ◌++◌, length, take, get_or, fold, sum_by, All, refl, sym, ap, ap₂, ◌∙◌, subst, arith, length-take, get_or-take, take_at, mul_assoc, one-mul, mul-one}
-use Rattle.std.proofs.Math.Nat.{zero-mod, mod-mod, mod-eq_of_lt, pow-suc, pow-zero}
+use Rattle.std.proofs.Common.{◌≡◌, ℕ, zero, suc, ◌+◌, ◌-◌, ◌*◌, ◌^◌, ◌%◌, ◌<◌, List, [], ◌∷◌, ◌++◌, length, take, get_or, fold, sum_by, All, refl, sym, ap, ap₂, ◌∙◌, subst, arith, length-take, get_or-take, take_at, mul_assoc, one-mul, mul-one}
+use Rattle.std.proofs.Math.Nat.{mod-mod, mod-eq_of_lt, pow-suc, pow-zero}
 use Rattle.std.proofs.lemmas.Nat.{mul-mod_first, mul-mod_second}
 use Rattle.std.proofs.lemmas.List.Elements.{All-head, All-tail}
 use Rattle.std.proofs.lemmas.List.Sums.{sum_by-cons}
 use Rattle.std.proofs.lemmas.Option.{slice_get_within}
 use Rattle.ffc_field.specs.Modular.{neg_mod}
-use Rattle.ffc_field.specs.Orders.{IsOrder}
-use Rattle.ffc_ring.specs.Polynomial.{Terms, product, scaled, value_sum, poly_value}
-use Rattle.ffc_ring.proofs.PolynomialLemmas.{sum_alike, times_alike, negated_mod, value_sum-append, value_sum-product, value_sum-term_product}
+use Rattle.ffc_ring.specs.Polynomial.{Terms, scaled, value_sum, poly_value}
+use Rattle.ffc_ring.proofs.PolynomialLemmas.{sum_alike, negated_mod, value_sum-append, value_sum-product, value_sum-term_product}
 use Rattle.ffc_term.specs.declared.node.Node.{Node}
-use Rattle.ffc_term.specs.declared.node.Node.TheVariants.{True, False, BoolConst, FieldConst, Num, Not, And, Or, Iff, Xor, IteBool, IteField, Eq, Add, Mul, Neg, Bitsum}
+use Rattle.ffc_term.specs.declared.node.Node.TheVariants.{True, FieldConst, Num, IteField, Add, Mul, Neg, Bitsum}
 use Rattle.ffc_term.specs.declared.node.Sort.TheVariants as sort
 use Rattle.ffc_term.specs.declared.value.Value.{Value}
 use Rattle.ffc_term.specs.declared.value.Value.TheVariants as value
@@ -23,15 +22,22 @@ use Rattle.ffc_term.proofs.NodeLemmas.{IsNodeAt-get_or}
 use Rattle.ffc_term.proofs.TableLemmas.{sort_at-is, sort_at-take, sort_at-append}
 use Rattle.ffc_term.proofs.ValueLemmas.{value_at-is, IsOrder-from_IsFieldAt, IsOrder-positive}
 use Rattle.ffc_term.proofs.LawLemmas.{value_at-of_sort}
-use Rattle.ffc_trees.specs.NodePolynomials.{variable, constant, poly_in, sum_of, product_of, bit_sum_of, expanded, poly_of_node, node_polys, poly_at}
+use Rattle.ffc_trees.specs.NodePolynomials.{variable, poly_in, sum_of, product_of, bit_sum_of, expanded, poly_of_node, node_polys, poly_at}
 use Rattle.ffc_trees.specs.Laws.{IsPointOf}
 use Rattle.ffc_trees.proofs.NormalLemmas.{poly_value-normal}
 
-boolean_field : (p : ℕ) → ¬ (sort.Bool ≡ sort.Field p)
+pub boolean_field : (p : ℕ) → ¬ (sort.Bool ≡ sort.Field p)
 boolean_field p e = cc
 
 same_field : (p q : ℕ) → sort.Field q ≡ sort.Field p → q ≡ p
 same_field p q e = cc
+
+-- the children of a node are of its order
+pub of_order : (before : List Node) (p : ℕ) (ids : List ℕ) → (fits : AreOfOneField before ids) → fits.order ≡ p → All (IsFieldAt before p) ids
+of_order before p ids fits e = subst (λ q. All (IsFieldAt before q) ids) e fits.each
+
+pub first_order : (before : List Node) (p : ℕ) (ids : List ℕ) (fits : AreOfOneField before ids) → sort_at before (get_or ids 0 0) ≡ sort.Field p → fits.order ≡ p
+first_order before p ids fits is = same_field p fits.order (sym (fits.each 0 0 fits.some).1 ∙ is)
 
 -- ---- one node
 
@@ -41,7 +47,7 @@ product_from f a (id ∷ ids) =
     product_from f (a * f id) ids ∙ mul_assoc a (f id) (product_by f ids)
     ∙ ap (λ n. a * n) (sym (product_from f (1 * f id) ids ∙ ap (λ n. n * product_by f ids) (one-mul (f id))))
 
-product_by-cons : (f : ℕ → ℕ) (id : ℕ) (ids : List ℕ) → product_by f (id ∷ ids) ≡ f id * product_by f ids
+pub product_by-cons : (f : ℕ → ℕ) (id : ℕ) (ids : List ℕ) → product_by f (id ∷ ids) ≡ f id * product_by f ids
 product_by-cons f id ids = product_from f (1 * f id) ids ∙ ap (λ n. n * product_by f ids) (one-mul (f id))
 
 products_alike : (p a b c d : ℕ) → a % p ≡ b % p → c % p ≡ d % p → (a * c) % p ≡ (b * d) % p
@@ -88,23 +94,16 @@ module _ (before : List Node) (A vs : List Value) (polys : List Terms) (p id : �
   negated_value c is =
       ap (λ n. n % p) (scaled_value (p - 1) (poly_in polys c)) ∙ negated_mod p (value_sum point (poly_in polys c)) positive ∙ ap (λ n. (p - n) % p) (told c is)
 
-  -- the children are of the node's order
-  of_order : (ids : List ℕ) → (fits : AreOfOneField before ids) → fits.order ≡ p → All (IsFieldAt before p) ids
-  of_order ids fits e = subst (λ q. All (IsFieldAt before q) ids) e fits.each
-
-  first_order : (ids : List ℕ) (fits : AreOfOneField before ids) → sort_at before (get_or ids 0 0) ≡ sort.Field p → fits.order ≡ p
-  first_order ids fits is = same_field p fits.order (sym (fits.each 0 0 fits.some).1 ∙ is)
-
   node_value : (n : Node) → Fits before n → sort_of_node (sorts before) n ≡ sort.Field p → point id ≡ residue (value_of_node p A vs n) → point id < p → poly_value p point (expanded p id polys n) ≡ residue (value_of_node p A vs n)
   node_value (FieldConst k q) fits is here below = variable_value p point id below ∙ here
   node_value (Num n q) fits is here below =
       let small : n < p = subst (λ r. n < r) (same_field p q is) fits.1 in
       ap (λ m. m % p) (let same : n * 1 + 0 ≡ n = omega arith in same) ∙ mod-eq_of_lt small
   node_value (IteField c a b) fits is here below = variable_value p point id below ∙ here
-  node_value (Add ids) fits is here below = sum_value ids (of_order ids fits (first_order ids fits is))
-  node_value (Mul ids) fits is here below = product_value ids (of_order ids fits (first_order ids fits is))
-  node_value (Neg a) fits is here below = negated_value a (of_order (a ∷ []) fits (first_order (a ∷ []) fits is) 0 0 (omega arith))
-  node_value (Bitsum ids) fits is here below = bit_sum_value 0 ids (of_order ids fits (first_order ids fits is))
+  node_value (Add ids) fits is here below = sum_value ids (of_order before p ids fits (first_order before p ids fits is))
+  node_value (Mul ids) fits is here below = product_value ids (of_order before p ids fits (first_order before p ids fits is))
+  node_value (Neg a) fits is here below = negated_value a (of_order before p (a ∷ []) fits (first_order before p (a ∷ []) fits is) 0 0 (omega arith))
+  node_value (Bitsum ids) fits is here below = bit_sum_value 0 ids (of_order before p ids fits (first_order before p ids fits is))
   node_value _ fits is here below = absurd (boolean_field p is)
 
 -- ---- all nodes

@@ -1,8 +1,8 @@
 -- The normal list of terms is the same polynomial, and it is normal.
-use Rattle.std.proofs.Common.{◌≡◌, ◌≢◌, ℕ, ◌+◌, ◌*◌, ◌%◌, ◌<◌, ◌==◌, Bool, true, false, [], ◌∷◌, refl, sym, ap, ap₂, ◌∙◌, inl, inr, eq-eqb, eqb-true, arith, add-mul}
+use Rattle.std.proofs.Common.{◌≡◌, ◌≢◌, ℕ, ◌+◌, ◌*◌, ◌%◌, ◌<◌, ◌==◌, [], ◌∷◌, refl, sym, ap, ◌∙◌, inl, inr, eq-eqb, eqb-true, arith, add-mul}
 use Rattle.std.proofs.Math.Nat.{mod-mod, mod-lt, zero-mod}
 use Rattle.std.proofs.lemmas.Bool.{cond-true, cond-false, cases_eq, false_from_ne_true}
-use Rattle.ffc_ring.specs.Monomial.{Monomial, mono_value, same_monomial}
+use Rattle.ffc_ring.specs.Monomial.{Monomial, mono_value}
 use Rattle.ffc_ring.specs.Polynomial.{Terms, SamePolynomial, IsNoneOf, poly_value}
 use Rattle.ffc_ring.proofs.PolynomialLemmas.{weighted, sum_alike, times_alike, cases_monomial, same_monomial-equal, same_monomial-other, value_sum-is_weighted, SamePolynomial-from_weighted}
 use Rattle.ffc_trees.specs.Normal.{term_before, with_term, normal, monomials_of, IsNormal}
@@ -13,16 +13,16 @@ zero_part p c k w none =
     ap (λ n. n % p) (let same : w ≡ 0 * k + w = omega arith in same)
     ∙ sum_alike p (0 * k) (c * k) w w (times_alike p 0 c k (zero-mod p ∙ sym none)) refl
 
-none_before : (p c : ℕ) (m : Monomial) (ts : Terms) → c % p ≡ 0 → term_before p c m ts ≡ ts
+pub none_before : (p c : ℕ) (m : Monomial) (ts : Terms) → c % p ≡ 0 → term_before p c m ts ≡ ts
 none_before p c m ts none = cond-true _ _ _ (eq-eqb (c % p) 0 none)
 
-some_before : (p c : ℕ) (m : Monomial) (ts : Terms) → (c % p ≡ 0 → ⊥) → term_before p c m ts ≡ (c % p, m) ∷ ts
+pub some_before : (p c : ℕ) (m : Monomial) (ts : Terms) → (c % p ≡ 0 → ⊥) → term_before p c m ts ≡ (c % p, m) ∷ ts
 some_before p c m ts some = cond-false _ _ _ (false_from_ne_true (c % p == 0) (λ e. some (eqb-true (c % p) 0 e)))
 
-met : (p c : ℕ) (m : Monomial) (t : ℕ × Monomial) (ts : Terms) → m ≡ t.1 → with_term p c m (t ∷ ts) ≡ term_before p (c + t.0) m ts
+pub met : (p c : ℕ) (m : Monomial) (t : ℕ × Monomial) (ts : Terms) → m ≡ t.1 → with_term p c m (t ∷ ts) ≡ term_before p (c + t.0) m ts
 met p c m t ts e = cond-true _ _ _ (same_monomial-equal m t.1 e)
 
-passed_by : (p c : ℕ) (m : Monomial) (t : ℕ × Monomial) (ts : Terms) → m ≢ t.1 → with_term p c m (t ∷ ts) ≡ t ∷ with_term p c m ts
+pub passed_by : (p c : ℕ) (m : Monomial) (t : ℕ × Monomial) (ts : Terms) → m ≢ t.1 → with_term p c m (t ∷ ts) ≡ t ∷ with_term p c m ts
 passed_by p c m t ts other = cond-false _ _ _ (same_monomial-other m t.1 other)
 
 weighted-term_before : (p : ℕ) (g : Monomial → ℕ) (c : ℕ) (m : Monomial) (ts : Terms) → weighted g (term_before p c m ts) % p ≡ (c * g m + weighted g ts) % p

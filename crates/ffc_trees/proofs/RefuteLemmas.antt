@@ -1,7 +1,8 @@
 -- A tree that closes refutes that all its first lines are 0 at a point of residues.
-use Rattle.std.proofs.Common.{◌≡◌, ℕ, zero, suc, ◌+◌, ◌-◌, ◌*◌, ◌%◌, ◌^◌, ◌<◌, ◌≤◌, Bool, true, List, [], ◌∷◌, ◌++◌, Ok, refl, sym, ap, ap₂, ◌∙◌, subst, inl, inr, ⊎_elim, arith}
+use Rattle.ffc_trees.proofs.RuleLemmas.{chain_from, split_from, values_from}
+use Rattle.std.proofs.Common.{◌≡◌, ℕ, zero, suc, ◌+◌, ◌-◌, ◌*◌, ◌%◌, ◌^◌, ◌<◌, ◌≤◌, true, List, [], ◌∷◌, ◌++◌, Ok, sym, ap, ap₂, ◌∙◌, subst, inl, inr, ⊎_elim, arith}
 use Rattle.std.proofs.Math.Nat.{zero-mod, mod-eq_of_lt, mod_self, mod-lt}
-use Rattle.std.proofs.lemmas.Bool.{cases_eq, and_parts, ltb-true, false≢true}
+use Rattle.std.proofs.lemmas.Bool.{cases_eq, ltb-true, false≢true}
 use Rattle.std.proofs.lemmas.List.Elements.{All-head, All-tail, All-push}
 use Rattle.std.specs.List.{range_with_len}
 use Rattle.ffc_field.specs.Modular.{IsPrime, sub_mod, mul_mod}
@@ -13,17 +14,17 @@ use Rattle.ffc_cert.specs.declared.entries.CertLine.{CertLine}
 use Rattle.ffc_ring.specs.Polynomial.{Terms, difference, poly_value}
 use Rattle.ffc_ring.proofs.PolynomialLemmas.{poly_value-difference}
 use Rattle.ffc_uni.specs.Univariate.{Coefficients, indeterminate, value_of, product_of_roots, terms_in}
-use Rattle.ffc_uni.specs.Chains.{Pair, last_remainder}
+use Rattle.ffc_uni.specs.Chains.{last_remainder}
 use Rattle.ffc_uni.proofs.ValueLemmas.{value_of-times, one_value}
 use Rattle.ffc_uni.proofs.RingLemmas.{value_in_ring}
 use Rattle.ffc_uni.proofs.ChainLemmas.{zeros_of_chains}
 use Rattle.ffc_trees.specs.Laws.{AreZeroAt, IsPoint}
-use Rattle.ffc_trees.specs.TreeLines.{Limits, line_at, coefficients_of, is_in, is_same, is_root_product, fermat_line, root_line, case_lines, chain_line, split_line, values_line, is_nonzero_constant, last_line, closes}
-use Rattle.ffc_trees.specs.Closing.{Closes, CloseAll, IsChainIn}
+use Rattle.ffc_trees.specs.TreeLines.{Limits, line_at, coefficients_of, fermat_line, root_line, case_lines, split_line, is_nonzero_constant, last_line, closes}
+use Rattle.ffc_trees.specs.Closing.{Closes, CloseAll}
 use Rattle.ffc_trees.specs.Closing.Closes.{combine, chain, split, values, close}
 use Rattle.ffc_trees.specs.Closing.CloseAll.{no_cases, each}
 use Rattle.ffc_trees.proofs.NormalLemmas.{poly_value-normal}
-use Rattle.ffc_trees.proofs.LineLemmas.{line_is_zero, combined_is_zero, value_of-coefficients, is_same-same, chain_line-ok, split_line-ok, values_line-ok}
+use Rattle.ffc_trees.proofs.LineLemmas.{line_is_zero, combined_is_zero, value_of-coefficients}
 
 value_of_indeterminate : (p x : ℕ) → x < p → value_of p x indeterminate ≡ x
 value_of_indeterminate p x below = ap (λ n. n % p) (let same : 0 + x * (1 + x * 0) ≡ x = omega arith in same) ∙ mod-eq_of_lt below
@@ -93,12 +94,11 @@ module _ (p : ℕ) (point : ℕ → ℕ) where
 
   split_refutes : (lines : List Terms) (k x : ℕ) (zeros : List ℕ) (cases : List (List Terms)) → IsPrime p → split_line p lines k x zeros ≡ Ok cases → AllRefuted cases → Refuted lines
   split_refutes lines k x zeros cases prime h refuted vanish =
-      let ok = split_line-ok p lines k x zeros cases h in
-      let both = and_parts (is_in x (line_at lines k)) (is_same p (coefficients_of (line_at lines k)) (product_of_roots p zeros)) ok.0 in
+      let ok = split_from p lines k x zeros cases h in
       let same : value_of p (point x) (coefficients_of (line_at lines k)) ≡ value_of p (point x) (product_of_roots p zeros) =
-      one_value p (point x) (coefficients_of (line_at lines k)) (product_of_roots p zeros) (is_same-same p (coefficients_of (line_at lines k)) (product_of_roots p zeros) both.1)
-      in roots_refute lines x zeros prime (subst AllRefuted (sym ok.1) refuted)
-      (sym same ∙ value_of-coefficients p point x (line_at lines k) both.0 ∙ line_is_zero p point lines k vanish) vanish
+      one_value p (point x) (coefficients_of (line_at lines k)) (product_of_roots p zeros) ok.product
+      in roots_refute lines x zeros prime (subst AllRefuted (sym ok.each) refuted)
+      (sym same ∙ value_of-coefficients p point x (line_at lines k) ok.alone ∙ line_is_zero p point lines k vanish) vanish
 
   fermat_is_zero : (x : ℕ) (r : Coefficients) → point x < p → value_of p (point x) r ≡ point x → poly_value p point (fermat_line p x r) ≡ 0
   unfolding fermat_line
@@ -114,13 +114,13 @@ module _ (p : ℕ) (point : ℕ → ℕ) where
       refutes lines _ _ (combine ms line h more) vanish =
           refutes (lines ++ line ∷ []) _ _ more (pushed lines line vanish (combined_is_zero l p point lines ms line h vanish))
       refutes lines _ _ (chain k x count f steps h front more) vanish =
-          let ok = chain_line-ok p lines k x count f h in
-          let none : value_of p (point x) f ≡ 0 = ap (value_of p (point x)) (sym ok.2) ∙ value_of-coefficients p point x (line_at lines k) ok.0 ∙ line_is_zero p point lines k vanish in
+          let ok = chain_from p lines k x count f h in
+          let none : value_of p (point x) f ≡ 0 = ap (value_of p (point x)) (sym ok.line) ∙ value_of-coefficients p point x (line_at lines k) ok.alone ∙ line_is_zero p point lines k vanish in
           let power : value_of p (point x) (last_remainder indeterminate steps) ≡ point x = zeros_of_chains p prime fits f steps (point x) (below x) front.chain none in
           refutes (lines ++ fermat_line p x (last_remainder indeterminate steps) ∷ []) _ _ more (pushed lines (fermat_line p x (last_remainder indeterminate steps)) vanish (fermat_is_zero x (last_remainder indeterminate steps) (below x) power))
       refutes lines _ _ (split k x zeros cases h all) vanish = split_refutes lines k x zeros cases prime h (all_refute cases _ _ all) vanish
       refutes lines _ _ (values x count cases h all) vanish =
-          values_refute lines x p 0 (subst AllRefuted (sym (values_line-ok p lines x count cases h)) (all_refute cases _ _ all)) (omega arith) (omega (arith, below x)) (omega arith) vanish
+          values_refute lines x p 0 (subst AllRefuted (sym (values_from p lines x count cases h).each) (all_refute cases _ _ all)) (omega arith) (omega (arith, below x)) (omega arith) vanish
       refutes lines _ _ (close is) vanish = close_refutes lines is vanish
 
       all_refute : (cases : List (List Terms)) (tree rest : List CertLine) → CloseAll l p cases tree rest → AllRefuted cases

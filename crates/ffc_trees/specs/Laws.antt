@@ -1,6 +1,7 @@
 -- The laws of polynomials of nodes and of case trees.
-use Rattle.std.specs.Prelude.{◌≡◌, ℕ, ◌<◌, true, false, List, ◌++◌, length, All, Ok}
+use Rattle.std.specs.Prelude.{◌≡◌, ℕ, ◌<◌, ◌≤◌, true, false, List, [], ◌∷◌, ◌++◌, length, All, Ok}
 use Rattle.ffc_field.specs.Orders.{IsOrder}
+use Rattle.ffc_ring.specs.Monomial.{IsMonomial}
 use Rattle.ffc_ring.specs.Polynomial.{Terms, SamePolynomial, poly_value}
 use Rattle.ffc_cert.specs.declared.entries.CertLine.{CertLine}
 use Rattle.ffc_cert.specs.Spelling.{is_clause}
@@ -10,8 +11,10 @@ use Rattle.ffc_term.specs.declared.value.Value.{Value}
 use Rattle.ffc_term.specs.Nodes.{IsNodeAt}
 use Rattle.ffc_term.specs.Values.{value_at, residue}
 use Rattle.ffc_term.specs.Tables.{IsTable, IsFieldAt}
-use Rattle.ffc_trees.specs.Normal.{normal, IsNormal}
-use Rattle.ffc_trees.specs.NodePolynomials.{poly_at}
+use Rattle.ffc_term.specs.Checks.{IsNodeOf}
+use Rattle.ffc_term.specs.Measuring.{degree_at, length_at}
+use Rattle.ffc_trees.specs.Normal.{normal, degree_of, IsNormal}
+use Rattle.ffc_trees.specs.NodePolynomials.{poly_at, EachMonomial, HasVariables, IsVariableAt}
 use Rattle.ffc_trees.specs.TreeLines.{Limits}
 use Rattle.ffc_trees.specs.Trees.{tree_read}
 use Rattle.ffc_trees.specs.Closing.{Closes}
@@ -41,6 +44,16 @@ PolynomialsKeepValues = (nodes : List Node) (assignment : List Value) (p : ℕ) 
 -- further nodes change no polynomial
 abbrev pub PolynomialsStay : Type 0
 PolynomialsStay = (nodes more : List Node) (id : ℕ) → id < length nodes → poly_at (nodes ++ more) id ≡ poly_at nodes id
+
+-- its monomials have increasing variables, and each variable is a constant or an `ite` of its order, below it
+abbrev pub PolynomialsHaveVariables : Type 0
+PolynomialsHaveVariables = (nodes : List Node) (p : ℕ) (id : ℕ) → IsTable nodes → IsFieldAt nodes p id
+    → EachMonomial (λ m. IsMonomial m × HasVariables (λ x. IsVariableAt nodes p x × IsNodeOf nodes (id ∷ []) x) m) (poly_at nodes id)
+
+-- its degree and its number of terms are at most the node's measures
+abbrev pub MeasuresBound : Type 0
+MeasuresBound = (nodes : List Node) (p : ℕ) (id : ℕ) → IsTable nodes → IsFieldAt nodes p id
+    → (degree_of (poly_at nodes id) ≤ degree_at nodes id) × (length (poly_at nodes id) ≤ length_at nodes id)
 
 -- all lines are 0 at a point
 abbrev pub AreZeroAt : ℕ → (ℕ → ℕ) → List Terms → Type 0

@@ -6,3 +6,5 @@ pub mod Closing
 pub mod FirstLines
 pub mod Laws
 pub mod Rows
+pub mod Same
+pub mod Rules

@@ -3,11 +3,13 @@
 --
 -- Numbers, sums, products, negations and sums of bits are expanded. A constant and an `ite` are variables, each numbered
 -- by its node. Another node has the polynomial 0.
-use Rattle.std.specs.Prelude.{ℕ, ◌+◌, ◌-◌, ◌^◌, List, [], ◌∷◌, ◌++◌, length, slice_index_or}
+use Rattle.std.specs.Prelude.{◌≡◌, ℕ, ◌+◌, ◌-◌, ◌^◌, Bool, true, false, List, [], ◌∷◌, ◌++◌, length, slice_index_or}
+use Rattle.ffc_ring.specs.Monomial.{Monomial}
 use Rattle.ffc_ring.specs.Polynomial.{Terms, product, scaled}
 use Rattle.ffc_term.specs.declared.node.Node.{Node}
 use Rattle.ffc_term.specs.declared.node.Node.TheVariants.{FieldConst, Num, IteField, Add, Mul, Neg, Bitsum}
-use Rattle.ffc_term.specs.Nodes.{in_turn, order_at}
+use Rattle.ffc_term.specs.Nodes.{in_turn, node_at, order_at}
+use Rattle.ffc_term.specs.Tables.{IsFieldAt}
 use Rattle.ffc_trees.specs.Normal.{normal}
 
 -- the variable of this number
@@ -56,3 +58,22 @@ node_polys nodes = in_turn (λ polys n. poly_of_node (order_at nodes (length pol
 -- the polynomial of the node numbered id
 abbrev pub poly_at : List Node → ℕ → Terms
 poly_at nodes id = poly_in (node_polys nodes) id
+
+-- what holds of each monomial of a list of terms
+abbrev pub EachMonomial : (Monomial → Type 0) → Terms → Type 0
+EachMonomial P [] = Unit {0}
+EachMonomial P (t ∷ ts) = P t.1 × EachMonomial P ts
+
+-- each variable of a monomial is one of these
+abbrev pub HasVariables : (ℕ → Type 0) → Monomial → Type 0
+HasVariables P [] = Unit {0}
+HasVariables P (f ∷ m) = P f.0 × HasVariables P m
+
+-- a node that is a variable: a constant or an `ite`, of the field of order p
+abbrev pub is_variable : Node → Bool
+is_variable (FieldConst k q) = true
+is_variable (IteField c a b) = true
+is_variable _ = false
+
+abbrev pub IsVariableAt : List Node → ℕ → ℕ → Type 0
+IsVariableAt nodes p x = IsFieldAt nodes p x × (is_variable (node_at nodes x) ≡ true)

@@ -172,6 +172,8 @@ pub record AreLimits : Type 0 where
   pub real : limits ≡ limits_of 4194304 1024 131072 1025
   pub products : Breaks (known_read (limits_of 4 2 4 9) four_products) 1 8
   pub products_passed : Breaks (known_read (limits_of 3 2 4 9) four_products) 0 11
+  -- terms count as they are written, also where a coefficient is 0
+  pub zero_counts : Breaks (known_read (limits_of 1 2 4 9) (one_sum ((0, []) ∷ []))) 0 11
   pub degree : Breaks (known_read (limits_of 4 2 4 9) four_products) 1 8
   pub degree_passed : Breaks (known_read (limits_of 4 1 4 9) four_products) 0 11
   pub terms_passed : Breaks (known_read (limits_of 4 2 3 9) four_products) 0 11
@@ -181,5 +183,7 @@ pub record AreLimits : Type 0 where
   pub two_terms_passed : Breaks (known_read (limits_of 4 2 1 9) two_terms) 0 11
   pub quotient : Breaks (known_read (limits_of 4 2 2 2) long_quotient) 2 8
   pub quotient_passed : Breaks (known_read (limits_of 4 2 2 1) long_quotient) 1 11
+  -- a step that is too long is judged so before its coefficients are looked at
+  pub too_long_first : Breaks (known_read (limits_of 4 2 2 1) (Chain 0 0 3 ∷ Step (6 ∷ 1 ∷ []) (1 ∷ []) ∷ Close ∷ [])) 1 11
   pub remainder : Breaks (cube_read (limits_of 4 2 2 3)) 2 8
   pub remainder_passed : Breaks (cube_read (limits_of 4 2 2 2)) 1 11

@@ -7,7 +7,7 @@
 --
 -- A function answers what the line adds, or the number of the first rule that it breaks: 12 where it refers to a line that
 -- is not there, 11 where it passes a limit, 5 for a sum, 6 for a chain, 7 for cases, 8 for an end that closes nothing.
-use Rattle.std.specs.Prelude.{ℕ, ◌+◌, ◌-◌, ◌*◌, ◌%◌, Bool, true, false, not, ◌&&◌, ◌==◌, nat_lt, if◌then◌else◌, List, [], ◌∷◌, ◌++◌, length, map, sum_by, slice_index_or, Result, Ok, Err}
+use Rattle.std.specs.Prelude.{ℕ, ◌-◌, ◌*◌, ◌%◌, Bool, true, false, not, ◌&&◌, ◌==◌, nat_lt, if◌then◌else◌, List, [], ◌∷◌, ◌++◌, length, map, sum_by, slice_index_or, Result, Ok, Err}
 use Rattle.std.specs.List.{list_all, range_with_len}
 use Rattle.ffc_term.specs.Measuring.{greatest_by}
 use Rattle.ffc_ring.specs.Monomial.{Monomial, degree}

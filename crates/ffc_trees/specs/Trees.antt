@@ -1,8 +1,8 @@
 -- A case tree is read off the front of the lines of a certificate, in their order, from the lines that hold at its root
 -- (Ozdemir, Kremer, Tinelli and Barrett, "Satisfiability Modulo Finite Fields", 2023; cases by roots as in their search).
 --
--- In a tree a case is a branch, and goes on from the lines before it. The first broken line is told by its number, from 0
--- at the tree's first line, with the number of the rule.
+-- In a tree a case is a branch, and goes on from the lines before it. The first broken line is given by its number, from 0
+-- at the tree's first line, and the number of the rule.
 use Rattle.std.specs.Prelude.{ℕ, suc, List, [], ◌∷◌, ◌++◌, if◌then◌else◌, Result, Ok, Err}
 use Rattle.ffc_cert.specs.declared.entries.CertLine.{CertLine}
 use Rattle.ffc_cert.specs.declared.entries.CertLine.TheVariants.{Combine, Chain, Step, Split, Values, Close}

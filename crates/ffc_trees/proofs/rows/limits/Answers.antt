@@ -10,4 +10,4 @@ use Rattle.ffc_trees.proofs.rows.limits.Goals as goal
 
 pub returns : goal.returns
 unfolding sorts digits_of normal node_polys combined combine_line fermat_line chain_line step_line root_line split_line values_line closes read_from first_line
-returns c = record { real = refl; products = refl; products_passed = refl; degree = refl; degree_passed = refl; terms_passed = refl; written = refl; written_passed = refl; terms = refl; two_terms_passed = refl; quotient = refl; quotient_passed = refl; remainder = refl; remainder_passed = refl }
+returns c = record { real = refl; products = refl; products_passed = refl; zero_counts = refl; degree = refl; degree_passed = refl; terms_passed = refl; written = refl; written_passed = refl; terms = refl; two_terms_passed = refl; quotient = refl; quotient_passed = refl; too_long_first = refl; remainder = refl; remainder_passed = refl }
