@@ -51,7 +51,7 @@ true_alike ns ids constants A B table are same all k d inside =
 
 -- lists with values, by recursion
 
-each_contained : (P : ℕ → Type 0) (ids : List ℕ) → ((id : ℕ) → Contains ids id → P id) → AllByRecursion P ids
+pub each_contained : (P : ℕ → Type 0) (ids : List ℕ) → ((id : ℕ) → Contains ids id → P id) → AllByRecursion P ids
 each_contained P [] all = tt
 each_contained P (id ∷ ids) all = (all id (0, omega arith, refl), each_contained P ids (λ i has. all i (Contains-append_right (id ∷ []) ids i has)))
 
@@ -83,7 +83,7 @@ apart_from_above : (x : ℕ) (xs : List ℕ) → AllByRecursion (λ y. x < y) xs
 apart_from_above x [] all = tt
 apart_from_above x (y ∷ xs) all = ((λ e. absurd (omega (arith, all.0, e))), apart_from_above x xs all.1)
 
-increasing_apart : (xs : List ℕ) → IsStrictlyIncreasing xs → AreApart xs
+pub increasing_apart : (xs : List ℕ) → IsStrictlyIncreasing xs → AreApart xs
 unfolding AreApart
 increasing_apart [] inc = tt
 increasing_apart (x ∷ xs) inc = (apart_from_above x xs (increasing_above x xs inc), increasing_apart xs (increasing_later x xs inc))
@@ -164,7 +164,7 @@ are_listed ns (id ∷ declared) (p ∷ pairs) line same e = by_test (p.0 == id &
     by_test false test is next = absurd (none-some line (sym is))
 
 -- a named node has its pair
-named_among : (declared : List ℕ) (pairs : List (ℕ × ℕ)) (id : ℕ) → map (λ p. p.0) pairs ≡ declared → Contains declared id → (n : ℕ) × Among (id, n) pairs
+pub named_among : (declared : List ℕ) (pairs : List (ℕ × ℕ)) (id : ℕ) → map (λ p. p.0) pairs ≡ declared → Contains declared id → (n : ℕ) × Among (id, n) pairs
 named_among declared pairs id e has = by_pairs pairs (subst (λ ids. Contains ids id) (sym e) has)
   where
     by_pairs : (ps : List (ℕ × ℕ)) → Contains (map (λ p. p.0) ps) id → (n : ℕ) × Among (id, n) ps
@@ -172,11 +172,11 @@ named_among declared pairs id e has = by_pairs pairs (subst (λ ids. Contains id
     by_pairs (p ∷ ps) (zero, inside, is) = (p.1, inl (λ i. (sym is i, p.1)))
     by_pairs (p ∷ ps) (suc k, inside, is) = let later = by_pairs ps (k, omega arith, is) in (later.0, inr later.1)
 
-named_each : (P : ℕ → Type 0) (pairs : List (ℕ × ℕ)) → AllByRecursion P (map (λ p. p.0) pairs) → AllByRecursion (λ p. P p.0) pairs
+pub named_each : (P : ℕ → Type 0) (pairs : List (ℕ × ℕ)) → AllByRecursion P (map (λ p. p.0) pairs) → AllByRecursion (λ p. P p.0) pairs
 named_each P [] all = tt
 named_each P (p ∷ pairs) all = (all.0, named_each P pairs all.1)
 
-named_apart : (pairs : List (ℕ × ℕ)) → AreApart (map (λ p. p.0) pairs) → AreDifferent pairs
+pub named_apart : (pairs : List (ℕ × ℕ)) → AreApart (map (λ p. p.0) pairs) → AreDifferent pairs
 unfolding AreApart
 named_apart [] apart = tt
 named_apart (p ∷ pairs) apart = (named_each (λ y. p.0 ≢ y) pairs apart.0, named_apart pairs apart.1)
@@ -186,10 +186,10 @@ abbrev pub GivesListed : List Node → List (ℕ × ℕ) → List Value → Type
 GivesListed ns pairs A = AllByRecursion (λ p. value_of_constant ns A p.0 ≡ value_of_number (node_at ns p.0) p.1) pairs
 
 module _ (ns : List Node) (declared ids : List ℕ) (order : ℕ) (valid : IsValidCheck ns declared ids order) (pairs : List (ℕ × ℕ)) (names : map (λ p. p.0) pairs ≡ declared) where
-  ids_within : All (λ id. id < length ns) ids
+  pub ids_within : All (λ id. id < length ns) ids
   ids_within k d inside = (valid.boolean k d inside).0
 
-  declared_each : AllByRecursion (IsConstantAt ns) declared
+  pub declared_each : AllByRecursion (IsConstantAt ns) declared
   declared_each = each_contained (IsConstantAt ns) declared (λ id has. All-contains (IsConstantAt ns) declared id valid.constants has)
 
   -- what holds with the listed values holds under each assignment that gives them

@@ -28,13 +28,13 @@ use Rattle.ffc_rules.proofs.StepLemmas.{TreesHoldNoClauses, no_steps}
 use Rattle.ffc_rules.proofs.ConeLemmas.{Contains-range}
 use Rattle.ffc_rules.proofs.CaseLemmas.{no_model, are_listed, listed_true}
 
-trees_hold_none : TreesHoldNoClauses
+pub trees_hold_none : TreesHoldNoClauses
 trees_hold_none l p known lines rest read =
     let t = tree_taken l p known lines rest read in
     (t.front, t.parts, recursion_from_All (λ x. is_clause x ≡ false) t.front t.in_tree)
 
 -- a choice between a fault and what follows is none where its test fails
-passed : {A : Type 0} (b : Bool) (x : A) (r : Option A) → cond b (Some x) r ≡ None → (b ≡ false) × (r ≡ None)
+pub passed : {A : Type 0} (b : Bool) (x : A) (r : Option A) → cond b (Some x) r ≡ None → (b ≡ false) × (r ≡ None)
 passed true x r e = absurd (none-some x (sym e))
 passed false x r e = (refl, e)
 

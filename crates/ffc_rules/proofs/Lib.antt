@@ -9,3 +9,4 @@ pub mod ReadingLemmas
 pub mod ScriptLemmas
 pub mod ListingLemmas
 pub mod BoundLemmas
+pub mod KeptLemmas

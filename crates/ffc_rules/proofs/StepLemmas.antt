@@ -95,7 +95,7 @@ given_rest : (given : Given) (clause : Clause) (rest : List CertLine) → ◌≡
 given_rest given clause rest e = nothing_taken rest given.rest (ap (λ g. g.rest) (sym (same_Ok _ _ e)))
 
 -- a line that gives a clause is one, and is followed by its tree
-taken_by_clause : TreesHoldNoClauses → (l : Limits) (c : NodeCheck) (clauses : List Clause) (line : ℕ) (x : CertLine) (rest : List CertLine) (given : Given) → clause_given l c clauses line x rest ≡ Ok given → (is_clause x ≡ true) × IsTaken rest given.rest
+pub taken_by_clause : TreesHoldNoClauses → (l : Limits) (c : NodeCheck) (clauses : List Clause) (line : ℕ) (x : CertLine) (rest : List CertLine) (given : Given) → clause_given l c clauses line x rest ≡ Ok given → (is_clause x ≡ true) × IsTaken rest given.rest
 unfolding clause_given is_clause lemma_given
 taken_by_clause trees l c clauses line (Assume k) rest given e = (refl, by_number (slice_get c.in_force k) e)
   where

@@ -20,9 +20,10 @@ use Rattle.ffc_smt.specs.CheckLaws.{CannotHoldAt}
 use Rattle.ffc_clause.specs.Clauses.{Clause}
 use Rattle.ffc_rules.specs.Clauses.{IsTrueClause, AreTrue}
 use Rattle.ffc_rules.specs.Schemes.{scheme_clause, all_schemes}
-use Rattle.ffc_rules.specs.Cones.{cone, cone_constants, span}
+use Rattle.ffc_rules.specs.Cones.{cone, cone_constants, span, work}
 use Rattle.ffc_rules.specs.Assignments.{value_of_constant, value_of_number, has_model_below}
 use Rattle.ffc_rules.specs.Entries.{NodeCheck, Limits, Broken, Given, clause_given, entry_fault_within}
+use Rattle.ffc_rules.specs.Refutations.{Refutes}
 use Rattle.ffc_rules.specs.Judging.{node_check, Accepts, checks_in}
 use Rattle.ffc_rules.specs.Cores.{core}
 
@@ -85,6 +86,21 @@ IsValid c = IsValidCheck c.nodes c.declared c.in_force c.first_order
 -- an entry that breaks no rule is true of its check
 abbrev pub EntriesAreTrue : Type 0
 EntriesAreTrue = (l : Limits) (c : NodeCheck) (entry : Entry) (line : ℕ) → IsValid c → entry_fault_within l c entry line ≡ None → IsTrueOf c entry
+
+-- Listed values break no rule where some assignment that agrees with them makes all true that is in force.
+abbrev pub ValuesAreKept : Type 0
+ValuesAreKept = (l : Limits) (c : NodeCheck) (pairs : List (ℕ × ℕ)) (line : ℕ) (assignment : List Value) → IsValid c
+    → AreValues c.nodes c.declared pairs → Agrees c.nodes pairs assignment → AreTrue c.nodes c.in_force assignment → entry_fault_within l c (Sat pairs) line ≡ None
+
+-- An entry by cases breaks no rule where the work is within the limit and no assignment makes all true that is in force.
+abbrev pub CasesAreKept : Type 0
+CasesAreKept = (l : Limits) (c : NodeCheck) (line : ℕ) → IsValid c → work c.nodes c.in_force ≤ l.work → HasNoModel c.nodes c.in_force
+    → entry_fault_within l c UnsatCases line ≡ None
+
+-- A list of lines breaks no rule exactly where its lines give clauses in turn that end with the empty one.
+abbrev pub RefutationsAreKept : Type 0
+RefutationsAreKept = (l : Limits) (c : NodeCheck) (lines : List CertLine) (line : ℕ)
+    → (entry_fault_within l c (UnsatSteps lines) line ≡ None) ↔ Refutes l c lines
 
 -- A broken line is one of the entry's, or the one after it where the entry ends within a tree.
 abbrev pub BrokenLinesAreNear : Type 0

@@ -3,6 +3,7 @@ pub mod Schemes
 pub mod Cones
 pub mod Assignments
 pub mod Entries
+pub mod Refutations
 pub mod Judging
 pub mod Causes
 pub mod Cores

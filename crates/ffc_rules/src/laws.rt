@@ -10,6 +10,9 @@ ghost use Rattle.ffc_rules.specs.Laws.{
   CoresAreSound,
   EntriesAreTrueOfChecks,
   AcceptanceIsSound,
+  ValuesAreKept,
+  CasesAreKept,
+  RefutationsAreKept,
 };
 
 /// The clause of each scheme is true under every assignment.
@@ -40,6 +43,21 @@ pub fn cases_are_all()
 /// An entry that breaks no rule is true of its check.
 pub fn entries_are_true()
     ensures { EntriesAreTrue }
+{}
+
+/// Listed values break no rule where some assignment that agrees with them makes all true.
+pub fn values_are_kept()
+    ensures { ValuesAreKept }
+{}
+
+/// An entry by cases breaks no rule where there are few enough and no assignment makes all true.
+pub fn cases_are_kept()
+    ensures { CasesAreKept }
+{}
+
+/// A list of lines breaks no rule exactly where its lines give clauses in turn that end with the empty one.
+pub fn refutations_are_kept()
+    ensures { RefutationsAreKept }
 {}
 
 /// A broken line is one of the entry's, or the one after it.
