@@ -20,7 +20,7 @@ use Rattle.ffc_solve.specs.Context.{constant_ids, constants_of, root_ids, HasCon
 use Rattle.ffc_solve.specs.declared.context.Constant.{Constant}
 use Rattle.ffc_solve.specs.declared.context.Known.{Known}
 use Rattle.ffc_solve.proofs.Placing.{node_at-is}
-use Rattle.ffc_solve.proofs.Terms.{three_is_order}
+use Rattle.ffc_solve.proofs.Terms.{two_is_order, three_is_order}
 
 -- the numbers of an increasing list are no smaller than their places
 place_below : (xs : List ℕ) → IsStrictlyIncreasing xs → (k : ℕ) → k < length xs → k ≤ get_or xs k 0
@@ -148,6 +148,17 @@ module _ (k : Known) (asserted : List Assertion) (nodes : List Node) (table : Is
     constants = each_constant k.constant known.constant;
     boolean = booleans;
     covered = λ id of is. known.covered id is;
+  }
+
+  -- for the rules of entries, which ask for no order here
+  pub is_judged : IsValidCheck nodes (constants_of k) (root_ids k.asserted) 2
+  is_judged = record {
+    table = is_valid.table;
+    order = two_is_order;
+    increasing = is_valid.increasing;
+    constants = is_valid.constants;
+    boolean = is_valid.boolean;
+    covered = is_valid.covered;
   }
 
   pub is_numbered : AreNumbered nodes (constants_of k)

@@ -25,7 +25,7 @@ use Rattle.ffc_solve.specs.declared.context.Known.{Known}
 use Rattle.ffc_solve.specs.declared.context.Constant.{Constant}
 use Rattle.ffc_solve.specs.declared.context.Step.{Step}
 use Rattle.ffc_solve.proofs.Sound.{entry_is}
-use Rattle.ffc_solve.proofs.Measured.{is_small, is_valid, is_numbered}
+use Rattle.ffc_solve.proofs.Measured.{is_small, is_valid, is_judged, is_numbered}
 use Rattle.ffc_solve.proofs.Commands.{none_counted, Took, took}
 use Rattle.ffc_solve.proofs.Underway.{underway_begins, underway_quiet, underway_checked, cut_in_entry, cut_in_verdict, cut_here}
 
@@ -174,7 +174,7 @@ module _ (text : List ℕ) (k : Known) (old new : List Node) (rest after_it : Li
     module _ (entry : Entry) (decided : IsDecided new (constants_of k) (root_ids k.asserted) entry) where
       entry_here : IsEntry before entry × IsTrueOf before entry
       entry_here =
-          entry_is k h.asserted old h.is_table.well_formed h.known entry (is_small_here text k old rest c d o p h)
+          entry_is k h.asserted old h.is_table.well_formed h.known (is_judged k h.asserted old h.is_table h.known) entry (is_small_here text k old rest c d o p h)
           (subst (λ t. IsDecided t (constants_of k) (root_ids k.asserted) entry) (sym same) decided)
 
       -- the command is a check, and is told

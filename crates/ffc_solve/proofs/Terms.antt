@@ -5,7 +5,7 @@ use Rattle.std.proofs.lemmas.Bool.{false≢true}
 use Rattle.std.proofs.lemmas.List.Elements.{All-nil, All-cons, All-head}
 use Rattle.std.proofs.lemmas.Option.{slice_get_within}
 use Rattle.ffc_field.specs.Orders.{IsOrder}
-use Rattle.ffc_field.specs.declared.id.FieldId.TheVariants.{F3}
+use Rattle.ffc_field.specs.declared.id.FieldId.TheVariants.{F2, F3}
 use Rattle.ffc_term.specs.declared.node.Node.{Node}
 use Rattle.ffc_term.specs.declared.node.Node.TheVariants as node
 use Rattle.ffc_term.specs.declared.node.Sort.TheVariants as sort
@@ -25,6 +25,9 @@ use Rattle.ffc_solve.specs.Reading.{literal_at, sort_at as sort_read, name_at, l
 use Rattle.ffc_solve.specs.Context.{known_of, HasConstant, IsMade, FindsTerm}
 use Rattle.ffc_solve.specs.declared.context.Known.{Known}
 use Rattle.ffc_solve.specs.declared.context.Constant.{Constant}
+
+pub two_is_order : IsOrder 2
+two_is_order = (F2, refl)
 
 pub three_is_order : IsOrder 3
 three_is_order = (F3, refl)
