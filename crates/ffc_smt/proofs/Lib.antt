@@ -24,3 +24,6 @@ pub mod ConeLemmas
 pub mod DeclaredLemmas
 pub mod CheckLemmas
 pub mod StepLemmas
+pub mod FaultLemmas
+pub mod PlaceLemmas
+pub mod ShapeLemmas

@@ -23,3 +23,5 @@ pub mod ScopedStates
 pub mod ScriptLaw
 pub mod CheckLaws
 pub mod StepLaws
+pub mod FaultLaws
+pub mod TreeShapes

@@ -1,0 +1,17 @@
+//! What holds of the reading of every form, for the crates above. Each function has an empty body: its contract is the law.
+ghost use Rattle.ffc_smt.specs.FaultLaws.{FaultsAreAtTokens, FirstFaultIsLeftmost, TreesAreInOrder};
+
+/// Every fault of a tree is at a token of it.
+pub fn faults_are_at_tokens()
+    ensures { FaultsAreAtTokens }
+{}
+
+/// The places of the tokens of a form's tree increase.
+pub fn trees_are_in_order()
+    ensures { TreesAreInOrder }
+{}
+
+/// The fault that is answered is the leftmost: of two lists, all of the one left of all of the other, the left one's.
+pub fn first_fault_is_leftmost()
+    ensures { FirstFaultIsLeftmost }
+{}
