@@ -4,15 +4,12 @@ use Rattle.std.proofs.lemmas.Bool.{cases_eq}
 use Rattle.std.proofs.lemmas.Bool.Decides.{nat_tests}
 use Rattle.std.proofs.lemmas.List.Elements.{All-cons, All-nil}
 use Rattle.std.proofs.lemmas.List.{map-append}
-use Rattle.ffc_lex.specs.declared.byte_classes.ByteClass.{ByteClass}
-use Rattle.ffc_lex.specs.declared.byte_classes.ByteClass.TheVariants as classes
 use Rattle.ffc_lex.specs.declared.tokens.TokenKind.{TokenKind}
 use Rattle.ffc_lex.specs.declared.tokens.TokenKind.TheVariants as kinds
 use Rattle.ffc_lex.specs.declared.tokens.Token.{Token}
 use Rattle.ffc_lex.specs.declared.tokens.Place.{Place}
 use Rattle.ffc_lex.specs.declared.TheConstants.{MAX_DEPTH}
-use Rattle.ffc_lex.specs.Bytes.{byte_class}
-use Rattle.ffc_lex.specs.Lexeme.{Lexeme, Skip, Token as Lexed, Bad, Unended, lexeme_at, comment_at, outside_at}
+use Rattle.ffc_lex.specs.Lexeme.{Lexeme, Skip, Token as Lexed, Bad, Unended, lexeme_at}
 use Rattle.ffc_lex.specs.Reading.{Open, Next, Halt, Move, Give, End, Reading, outside, past, origin, token_at, after_token, after_left, after_right, after_kind, after_lexeme, next_at, read, reading_of, forms_of, with_form}
 use Rattle.ffc_lex.proofs.DepthLemmas.{FitsDepth, LexemeFits, lexeme_fits}
 use Rattle.ffc_smt.specs.Trees.{Word, word_of, Tree, Leaf, Group, Inside, Ended, Items, Torn, with_item, opened_by, closed_by, before_inside, inside_of, whole, tree_of, form_tree}

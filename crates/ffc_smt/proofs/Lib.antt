@@ -27,3 +27,4 @@ pub mod StepLemmas
 pub mod FaultLemmas
 pub mod PlaceLemmas
 pub mod ShapeLemmas
+pub mod GoingOnLemmas

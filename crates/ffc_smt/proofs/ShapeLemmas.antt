@@ -1,5 +1,5 @@
 -- The tree of a form is proper, and read from its tokens from the left.
-use Rattle.std.proofs.Common.{◌≡◌, ℕ, Bool, true, false, List, [], ◌∷◌, ◌++◌, length, map, Option, Some, None, All, Contains, refl, sym, ap, ◌∙◌, subst, append_assoc, append-nil}
+use Rattle.std.proofs.Common.{◌≡◌, ℕ, false, List, [], ◌∷◌, ◌++◌, map, Option, Some, Contains, refl, sym, ap, ◌∙◌, subst, append_assoc}
 use Rattle.std.proofs.lemmas.List.Elements.{All-contains}
 use Rattle.ffc_lex.specs.declared.tokens.TokenKind.{TokenKind}
 use Rattle.ffc_lex.specs.declared.tokens.TokenKind.TheVariants as kinds
@@ -8,7 +8,7 @@ use Rattle.ffc_lex.specs.Order.{IsInOrder}
 use Rattle.ffc_lex.specs.Reading.{forms_of}
 use Rattle.ffc_lex.proofs.OrderLemmas.{forms_in_order}
 use Rattle.ffc_smt.specs.Trees.{Word, word_of, Tree, Leaf, Group, Trees, Empty, First, tokens_of, tokens_of_items, Inside, Ended, Items, Torn, with_item, opened_by, closed_by, before_inside, inside_of, whole, tree_of, form_tree}
-use Rattle.ffc_smt.specs.TreeShapes.{is_parenthesis, IsProper, AreProper, Part, with_tree, trees_onto, closed_part, tree_ends, part_closes, by_token, from_left}
+use Rattle.ffc_smt.specs.TreeShapes.{is_parenthesis, IsProper, AreProper, Part, with_tree, trees_onto, closed_part, by_token, from_left}
 
 -- Trees of forms are proper
 

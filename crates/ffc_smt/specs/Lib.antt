@@ -25,3 +25,4 @@ pub mod CheckLaws
 pub mod StepLaws
 pub mod FaultLaws
 pub mod TreeShapes
+pub mod GoingOn

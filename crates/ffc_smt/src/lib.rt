@@ -16,5 +16,8 @@ pub use laws::{
     scripts_keep_values, scripts_read_terms, sound_terms_make_tables, states_have_sorts,
     terms_are_made_once, terms_have_sorts, trees_keep_tokens, weight_bounds_nodes,
 };
-pub use reading_laws::{faults_are_at_tokens, first_fault_is_leftmost, trees_are_in_order};
+pub use reading_laws::{
+    faults_are_at_tokens, first_fault_is_leftmost, scripts_go_on, trees_are_determined,
+    trees_are_in_order,
+};
 pub use rows::{codes, first_faults, levels, nodes, places, texts, values};

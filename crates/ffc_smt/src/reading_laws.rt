@@ -1,5 +1,7 @@
 //! What holds of the reading of every form, for the crates above. Each function has an empty body: its contract is the law.
 ghost use Rattle.ffc_smt.specs.FaultLaws.{FaultsAreAtTokens, FirstFaultIsLeftmost, TreesAreInOrder};
+ghost use Rattle.ffc_smt.specs.GoingOn.{ReadingGoesOn};
+ghost use Rattle.ffc_smt.specs.TreeShapes.{TreesAreDetermined};
 
 /// Every fault of a tree is at a token of it.
 pub fn faults_are_at_tokens()
@@ -14,4 +16,14 @@ pub fn trees_are_in_order()
 /// The fault that is answered is the leftmost: of two lists, all of the one left of all of the other, the left one's.
 pub fn first_fault_is_leftmost()
     ensures { FirstFaultIsLeftmost }
+{}
+
+/// The tree of a form is determined by its tokens, and is read from them from the left.
+pub fn trees_are_determined()
+    ensures { TreesAreDetermined }
+{}
+
+/// What the forms of a text say stays where the text goes on, and the next ones are read from the state that they leave.
+pub fn scripts_go_on()
+    ensures { ReadingGoesOn }
 {}
