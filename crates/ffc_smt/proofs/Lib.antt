@@ -28,3 +28,5 @@ pub mod FaultLemmas
 pub mod PlaceLemmas
 pub mod ShapeLemmas
 pub mod GoingOnLemmas
+pub mod OrderLemmas
+pub mod EffectLemmas

@@ -26,3 +26,5 @@ pub mod StepLaws
 pub mod FaultLaws
 pub mod TreeShapes
 pub mod GoingOn
+pub mod OrderLaws
+pub mod Answering

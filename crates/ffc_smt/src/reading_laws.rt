@@ -1,6 +1,8 @@
 //! What holds of the reading of every form, for the crates above. Each function has an empty body: its contract is the law.
+ghost use Rattle.ffc_smt.specs.Answering.{KeepingEffectsKeep};
 ghost use Rattle.ffc_smt.specs.FaultLaws.{FaultsAreAtTokens, FirstFaultIsLeftmost, TreesAreInOrder};
 ghost use Rattle.ffc_smt.specs.GoingOn.{ReadingGoesOn};
+ghost use Rattle.ffc_smt.specs.OrderLaws.{OrdersAreTheEight};
 ghost use Rattle.ffc_smt.specs.TreeShapes.{TreesAreDetermined};
 
 /// Every fault of a tree is at a token of it.
@@ -26,4 +28,14 @@ pub fn trees_are_determined()
 /// What the forms of a text say stays where the text goes on, and the next ones are read from the state that they leave.
 pub fn scripts_go_on()
     ensures { ReadingGoesOn }
+{}
+
+/// The orders that a command names, and those that the tests take, are the eight.
+pub fn orders_are_the_eight()
+    ensures { OrdersAreTheEight }
+{}
+
+/// A command that keeps the model changes no level, no name, no assertion and no constant.
+pub fn keeping_effects_keep()
+    ensures { KeepingEffectsKeep }
 {}
