@@ -28,3 +28,4 @@ pub mod TreeShapes
 pub mod GoingOn
 pub mod OrderLaws
 pub mod Answering
+pub mod StateRows

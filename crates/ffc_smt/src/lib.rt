@@ -5,6 +5,7 @@ mod check_laws;
 mod laws;
 mod reading_laws;
 mod rows;
+mod state_rows;
 
 pub use check_laws::{
     commands_keep_scopes, scripts_keep_checks, scripts_keep_scopes, steps_keep_checks,
@@ -21,3 +22,4 @@ pub use reading_laws::{
     scripts_go_on, trees_are_determined, trees_are_in_order,
 };
 pub use rows::{codes, first_faults, levels, nodes, places, texts, values};
+pub use state_rows::{at_limits, commands, made_nodes, orders, scopes, tables};
