@@ -44,6 +44,13 @@ interned_there ns n id formed at =
     ap (placed ns n) found
     ∙ ap (λ k. record { nodes = ns; id = k }) (formed.single (position_or_len p ns) id n (IsNodeAt-from_position ns n (position_or_len p ns) found) at)
 
+-- and leaves the table as it was, whatever else stands there
+pub interned_present : (ns : List Node) (n : Node) (id : ℕ) → IsNodeAt ns id n → (interned ns n).nodes ≡ ns
+unfolding interned
+interned_present ns n id at =
+    let p = (by_parts.ghosts).eq n in
+    ap (λ o. (placed ns n o).nodes) (found_position p ns (list_any-from_Contains eq_laws.laws-law n ns (Contains-from_IsNodeAt ns id n at)))
+
 -- a result with another table
 abbrev pub again : List Node → Made → Made
 again new m = record { nodes = new; id = m.id }

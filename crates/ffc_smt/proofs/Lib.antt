@@ -30,3 +30,5 @@ pub mod ShapeLemmas
 pub mod GoingOnLemmas
 pub mod OrderLemmas
 pub mod EffectLemmas
+pub mod AskingLemmas
+pub mod ChoiceLemmas

@@ -28,4 +28,5 @@ pub mod TreeShapes
 pub mod GoingOn
 pub mod OrderLaws
 pub mod Answering
+pub mod Asking
 pub mod StateRows

@@ -1,4 +1,5 @@
 //! What holds of the checks of every script, for the crates above. Each function has an empty body: its contract is the law.
+ghost use Rattle.ffc_smt.specs.Asking.{MakingUpToTheLimit};
 ghost use Rattle.ffc_smt.specs.CheckLaws.{ScriptsKeepChecks, StepsKeepChecks};
 ghost use Rattle.ffc_smt.specs.ScopedStates.{CommandsKeepScopes, ScriptsKeepScopes};
 ghost use Rattle.ffc_smt.specs.StepLaws.{StepsKeepValues};
@@ -28,4 +29,9 @@ pub fn steps_keep_checks()
 /// So every check of a script.
 pub fn scripts_keep_checks()
     ensures { ScriptsKeepChecks }
+{}
+
+/// Each node that a function asks for fits the table so far, also where all of them are too many.
+pub fn making_up_to_the_limit()
+    ensures { MakingUpToTheLimit }
 {}
