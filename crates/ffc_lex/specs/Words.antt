@@ -35,13 +35,13 @@ is_symbol_word [] = false
 is_symbol_word (c ∷ cs) = if is_digit c then false else list_all is_word_byte (c ∷ cs)
 
 -- m and a numeral
-abbrev pub is_order : List ℕ → Bool
-is_order [] = false
-is_order (c ∷ cs) = if c == 109 then is_numeral cs else false
+abbrev pub is_order_part : List ℕ → Bool
+is_order_part [] = false
+is_order_part (c ∷ cs) = if c == 109 then is_numeral cs else false
 
 -- a numeral, m, and a numeral
 abbrev pub is_residue : List ℕ → Bool
-is_residue word = if is_numeral (digits word) then is_order (after_digits word) else false
+is_residue word = if is_numeral (digits word) then is_order_part (after_digits word) else false
 
 -- the same behind an optional minus sign
 abbrev pub is_signed_residue : List ℕ → Bool

@@ -32,3 +32,4 @@ pub mod OrderLemmas
 pub mod EffectLemmas
 pub mod AskingLemmas
 pub mod ChoiceLemmas
+pub mod OptionLemmas

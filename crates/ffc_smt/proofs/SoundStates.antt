@@ -22,7 +22,7 @@ use Rattle.ffc_smt.specs.Scopes.{Meant, AsConstant, AsTerm, AsMacro, Assertion, 
 use Rattle.ffc_smt.specs.Faults.{Sound, faulty}
 use Rattle.ffc_smt.specs.CommandReading.{Limits, negated, form_read, nodes_after, asked_made, command_weight, within, command_read}
 use Rattle.ffc_smt.specs.Scripts.{changed, labelled, after}
-use Rattle.ffc_smt.specs.Scripts.{definition_of as meant_by}
+use Rattle.ffc_smt.specs.Scripts.{meant_by}
 use Rattle.ffc_smt.specs.Sorting.{sorts_of_parameters}
 use Rattle.ffc_smt.specs.WellSorted.{IsSoundTerm}
 use Rattle.ffc_smt.specs.States.{IsTableWith, IsMadeTerm, IsSoundMeant, IsSoundSort, IsSoundScope, IsSoundAssertion, IsSoundLevel, IsSoundState}

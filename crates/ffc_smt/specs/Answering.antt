@@ -1,11 +1,11 @@
 -- What an answer needs of a command beside its terms: the text of a term that is asked for, and what the command does to
 -- the model that was found before. SMT-LIB 2.6, section 4.1.1 (modes of a solver).
-use Rattle.std.specs.Prelude.{◌≡◌, ℕ, List, [], ◌∷◌, ◌++◌}
+use Rattle.std.specs.Prelude.{◌≡◌, ℕ, Bool, List, [], ◌∷◌, ◌++◌}
 use Rattle.ffc_lex.specs.declared.tokens.TokenKind.{TokenKind}
 use Rattle.ffc_lex.specs.declared.tokens.TokenKind.TheVariants.{LeftParen, RightParen}
 use Rattle.ffc_smt.specs.Trees.{Word, tokens_of}
-use Rattle.ffc_smt.specs.Terms.{Asked, Command, Declare, DefineSort, Define, Assert, Push, Pop, ResetAssertions, Reset}
-use Rattle.ffc_smt.specs.Scopes.{State}
+use Rattle.ffc_smt.specs.Terms.{Asked, Setting, Command, Declare, DefineSort, Define, Assert, Push, Pop, ResetAssertions, Reset}
+use Rattle.ffc_smt.specs.Scopes.{Options, State, option_of, with_option}
 use Rattle.ffc_smt.specs.Scripts.{changed}
 
 -- The text of tokens: as written, a space between two of them, but none after `(` and none before `)`.
@@ -56,3 +56,8 @@ pub record KeepsScopes (c : Command) (s : State) : Type 0 where
 
 abbrev pub KeepingEffectsKeep : Type 0
 KeepingEffectsKeep = (c : Command) (s : State) → effect_of c ≡ Keeps → KeepsScopes c s
+
+-- The options by name: setting one gives it this value, and leaves the others.
+pub record OptionsAreSet : Type 0 where
+  pub set : (o : Options) (k : Setting) (b : Bool) → option_of (with_option o k b) k ≡ b
+  pub others : (o : Options) (k j : Setting) (b : Bool) → (j ≡ k → ⊥) → option_of (with_option o k b) j ≡ option_of o j

@@ -146,6 +146,6 @@ cleared s = record s {
   base = if s.options.global_declarations then record s.base { asserted = [] } else empty_level;
 }
 
--- as at the start, but for what is counted over the script
+-- as at the start, but for the constants, which are counted over the script
 abbrev pub restarted : State → State
-restarted s = record first_state { constants = s.constants; first_order = s.first_order; nodes = s.nodes }
+restarted s = record first_state { constants = s.constants }

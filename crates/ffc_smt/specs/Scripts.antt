@@ -49,9 +49,9 @@ first_named None (p ∷ ps) = Some p
 
 -- What a command changes
 
-abbrev pub definition_of : List Parameter → Sort → Term → Meant
-definition_of [] s t = AsTerm s t
-definition_of (p ∷ ps) s t = AsMacro (p ∷ ps) s t
+abbrev pub meant_by : List Parameter → Sort → Term → Meant
+meant_by [] s t = AsTerm s t
+meant_by (p ∷ ps) s t = AsMacro (p ∷ ps) s t
 
 -- the label of an assertion is a definition
 abbrev pub labelled : Option Name → Term → State → State
@@ -64,7 +64,7 @@ changed SetLogic s = record s { logic = true }
 changed (SetOption o b) s = record s { options = with_option s.options o b }
 changed (Declare name sort) s = record (with_name name (AsConstant (length s.constants) sort) s) { constants = s.constants ++ sort ∷ [] }
 changed (DefineSort name sort) s = with_sort name sort s
-changed (Define name parameters sort t) s = with_name name (definition_of parameters sort t) s
+changed (Define name parameters sort t) s = with_name name (meant_by parameters sort t) s
 changed (Assert label t) s = labelled label t (with_assertion (record { term = t; label = label }) s)
 changed (Push n) s = record s { levels = replicate n empty_level ++ s.levels }
 changed (Pop n) s = record s { levels = drop n s.levels }

@@ -1,5 +1,5 @@
 //! What holds of the reading of every form, for the crates above. Each function has an empty body: its contract is the law.
-ghost use Rattle.ffc_smt.specs.Answering.{KeepingEffectsKeep};
+ghost use Rattle.ffc_smt.specs.Answering.{KeepingEffectsKeep, OptionsAreSet};
 ghost use Rattle.ffc_smt.specs.FaultLaws.{FaultsAreAtTokens, FirstFaultIsLeftmost, TreesAreInOrder};
 ghost use Rattle.ffc_smt.specs.GoingOn.{ReadingGoesOn};
 ghost use Rattle.ffc_smt.specs.OrderLaws.{OrdersAreTheEight};
@@ -38,4 +38,9 @@ pub fn orders_are_the_eight()
 /// A command that keeps the model changes no level, no name, no assertion and no constant.
 pub fn keeping_effects_keep()
     ensures { KeepingEffectsKeep }
+{}
+
+/// Setting an option gives it this value, and leaves the others.
+pub fn options_are_set()
+    ensures { OptionsAreSet }
 {}
