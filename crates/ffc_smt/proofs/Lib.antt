@@ -33,3 +33,4 @@ pub mod EffectLemmas
 pub mod AskingLemmas
 pub mod ChoiceLemmas
 pub mod OptionLemmas
+pub mod LightLemmas

@@ -41,7 +41,7 @@ HasNodeOf ns t u = HasNode ns t × (sort_at ns (made [] ns t).id ≡ u)
 pub has_node : (cs : List Sort) (count : ℕ) (ns : List Node) (t : Term) (u : Sort) → IsTableWith cs count ns → IsMadeTerm cs ns t u → HasNodeOf ns t u
 has_node cs count ns t u table h =
     let formed = table.table.well_formed in
-    let same = made_nothing t ns h.1 formed in
+    let same = made_nothing t ns h.1 in
     let new = made_good cs count ns t [] u [] ns h.0 tt table (subst (λ ms. length ms ≤ most_nodes) (sym same) formed.within) in (
       record {
         there = same;
@@ -153,7 +153,7 @@ reads_terms s tree c h limit from t e =
             table = new.0.table;
             sort = new.1.1;
             means = λ A. made_kept A t.term [] [] s.nodes tt formed;
-            bound = made_bound t.term [] s.nodes defined formed;
+            bound = made_bound t.term [] s.nodes defined;
           },
     )
 

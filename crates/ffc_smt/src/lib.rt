@@ -8,8 +8,8 @@ mod rows;
 mod state_rows;
 
 pub use check_laws::{
-    commands_keep_scopes, making_up_to_the_limit, scripts_keep_checks, scripts_keep_scopes,
-    steps_keep_checks, steps_keep_values,
+    commands_keep_scopes, light_commands_fit, making_up_to_the_limit, scripts_keep_checks,
+    scripts_keep_scopes, steps_keep_checks, steps_keep_values,
 };
 pub use laws::{
     choosing_is_one, commands_keep_states, forms_are_trees, interning_is_one, nodes_keep_values,
