@@ -1,4 +1,4 @@
--- What is in force at a check has a node that means it.
+-- What is active at a check has a node that means it.
 use Rattle.std.proofs.Common.{◌≡◌, ℕ, ◌≤◌, true, List, [], length, map, flat_map, reverse, Some, All, sym, ap, ◌∙◌, subst, append-nil}
 use Rattle.std.proofs.lemmas.List.Elements.{All-nil, All-append, All-weaker, All-map}
 use Rattle.ffc_term.specs.declared.node.Node.{Node}
@@ -51,7 +51,7 @@ has_node cs count ns t u table h =
       subst (λ ms. sort_at ms (made [] ns t).id ≡ u) same new.1.1,
     )
 
--- What is in force is true exactly where its nodes are
+-- What is active is true exactly where its nodes are
 
 true_element : (e : Element) → sort_of e ≡ sort.Bool → value_of e ≡ value.Bool true → e ≡ TruthValue true
 true_element (TruthValue b) s v = let same : b ≡ true = cc in ap TruthValue same

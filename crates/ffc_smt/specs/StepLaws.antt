@@ -1,5 +1,5 @@
 -- What holds of one command that is read at a sound state: the same as of each command of a script, and what the terms
--- and constants that it brings make.
+-- and constants in it make.
 use Rattle.std.specs.Prelude.{◌≡◌, ◌+◌, ◌*◌, ◌≤◌, [], ◌∷◌, ◌++◌, length, Option}
 use Rattle.ffc_term.specs.declared.node.Sort.{Sort}
 use Rattle.ffc_term.specs.declared.node.Sort.TheVariants as sort

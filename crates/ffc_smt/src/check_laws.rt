@@ -15,7 +15,7 @@ pub fn scripts_keep_scopes()
     ensures { ScriptsKeepScopes }
 {}
 
-/// A command that is read at a sound state: what is in force, what is asked for and what is asserted, defined or declared
+/// A command that is read at a sound state: what is active, what is asked for and what is asserted, defined or declared
 /// has its node, which means it; and so has any other term that could be read there.
 pub fn steps_keep_values()
     ensures { StepsKeepValues }

@@ -1,5 +1,5 @@
 -- What holds of sorts, degrees and lengths in every table: they follow from those of the children, and stay when nodes
--- come behind. The field nodes among a node's children, and the two sides of an equality, are of one order.
+-- come after. The field nodes among a node's children, and the two sides of an equality, are of one order.
 use Rattle.std.specs.Prelude.{◌≡◌, ℕ, ◌<◌, List, [], ◌∷◌, ◌++◌, All, length}
 use Rattle.ffc_field.specs.Orders.{IsOrder}
 use Rattle.ffc_term.specs.declared.node.Node.{Node}
