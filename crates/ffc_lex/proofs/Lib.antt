@@ -8,3 +8,5 @@ pub mod StepLemmas
 pub mod BetweenLemmas
 pub mod KeptLemmas
 pub mod GoesOnLemmas
+pub mod DepthLemmas
+pub mod OrderLemmas

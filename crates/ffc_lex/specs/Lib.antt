@@ -7,3 +7,4 @@ pub mod GoingOn
 pub mod Scan
 pub mod Lexing
 pub mod Kept
+pub mod Order

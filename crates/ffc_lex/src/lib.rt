@@ -18,7 +18,7 @@ mod told;
 mod words;
 
 pub use faults::{LexFault, LexStop};
-pub use laws::reading_goes_on;
+pub use laws::{forms_are_in_order, reading_goes_on};
 pub use lexing::Lexer;
 pub use names::{is_reserved, is_theory_symbol, symbol_text};
 pub use texts::Text;

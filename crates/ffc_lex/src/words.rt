@@ -2,7 +2,7 @@
 ghost use Rattle.std.specs.Prelude.{◌≡◌, ℕ};
 ghost use Rattle.std.specs.List.{list_all, prefix_len};
 ghost use Rattle.ffc_lex.specs.Bytes.{is_digit, is_word_byte};
-ghost use Rattle.ffc_lex.specs.Words.{hash_kind, is_decimal, is_field_word, is_fraction, is_numeral, is_order, is_residue, is_signed_residue, is_symbol_word, keyword_kind, word_kind};
+ghost use Rattle.ffc_lex.specs.Words.{hash_kind, is_decimal, is_field_word, is_fraction, is_numeral, is_order_part, is_residue, is_signed_residue, is_symbol_word, keyword_kind, word_kind};
 
 use crate::byte_classes::is_word;
 use crate::tokens::TokenKind;
@@ -73,7 +73,7 @@ pub(crate) fn is_symbol(word: &[u8]) -> bool
 }
 
 fn is_order_part(word: &[u8]) -> bool
-    ensures { result ≡ is_order word.now }
+    ensures { result ≡ is_order_part word.now }
 {
     match word {
         [] => false,

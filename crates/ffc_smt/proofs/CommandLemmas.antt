@@ -13,7 +13,7 @@ use Rattle.ffc_smt.specs.Meaning.{Env, found}
 use Rattle.ffc_smt.specs.Scopes.{first_state, State, scope_of, level_of}
 use Rattle.ffc_smt.specs.Faults.{first_fault, Read, Sound, Faulty, faulty, read_map, both, behind, no_more, last, item}
 use Rattle.ffc_smt.specs.TermReading.{Sorted, term_read, term_named, is_sort, is_word, is_named, sort_read}
-use Rattle.ffc_smt.specs.CommandReading.{Limits, of_sort, term_of_sort, named_assertion, plain_assertion, assertion_read, truth_read, fresh_read, is_taken, is_taken_sort, none_read, at_most_one, each, some_item, list_read, negated, assumed, assumption_of, assumption_read, assumption_asked, asked_read, levels_read, string_read, logic_named, logic_read, option_of, option_read, is_too_late, keyword_read, options, infos, get_option, get_info, parameters_read, definition_of, Reader, one, alone, readers, read_by, moment_faults, by_head, form_read, nodes_after, command_weight, within, command_read}
+use Rattle.ffc_smt.specs.CommandReading.{Limits, of_sort, term_of_sort, named_assertion, plain_assertion, assertion_read, truth_read, fresh_read, is_taken, is_taken_sort, none_read, at_most_one, each, some_item, list_read, negated, assumed, assumption_of, assumption_read, assumption_asked, asked_read, levels_read, string_read, logic_named, logic_read, setting_read, option_read, is_too_late, keyword_read, options, infos, get_option, get_info, parameters_read, definition_of, Reader, one, alone, readers, read_by, moment_faults, by_head, form_read, nodes_after, command_weight, within, command_read}
 use Rattle.ffc_lex.specs.Reading.{reading_of}
 use Rattle.ffc_smt.specs.Scripts.{Step, Script, End, Done, after, ended, with_step, end_at, end_of_text, trees_of, script_from, reads_within}
 use Rattle.ffc_smt.specs.Sorting.{sorts_of_parameters}
@@ -170,14 +170,14 @@ module _
     logic_sorted : ReadsSorted (one logic_read)
     logic_sorted = one_sorted logic_read logic_read_sorted
 
-    option_of_sorted : (closing w : Word) (rest : List Tree) (o : Option Setting) → IfSound (option_of s closing w rest o) IsCommand
+    option_of_sorted : (closing w : Word) (rest : List Tree) (o : Option Setting) → IfSound (setting_read s closing w rest o) IsCommand
     option_of_sorted closing w rest None = unless_sound (no_more (drop 1 rest)) (Sound Unsupported) IsCommand (λ e. tt)
     option_of_sorted closing w rest (Some o) = either_sound (is_too_late s o) (faulty 7 w) _ IsCommand tt (plainly (λ p. SetOption o p.0) (item closing truth_read last rest) (λ a. tt))
 
     option_sorted : ReadsSorted (option_read s)
     option_sorted closing [] = tt
     option_sorted closing (k ∷ rest) =
-        behind_sound (keyword_read k) (λ w. option_of s closing w rest (found options w.bytes)) (λ w. Unit {0}) IsCommand (all_sound (keyword_read k) (λ w. Unit {0}) (λ w. tt))
+        behind_sound (keyword_read k) (λ w. setting_read s closing w rest (found options w.bytes)) (λ w. Unit {0}) IsCommand (all_sound (keyword_read k) (λ w. Unit {0}) (λ w. tt))
         (λ w g. option_of_sorted closing w rest (found options w.bytes))
 
     key_plain : (o : Option Setting) → IsCommand (get_option o)
@@ -291,7 +291,7 @@ module _
     head_sorted kinds.Quoted head closing items = tt
     head_sorted _ head closing items = tt
 
-    form_sorted : (t : Tree) → IfSound (form_read l s t) IsCommand
+    pub form_sorted : (t : Tree) → IfSound (form_read l s t) IsCommand
     unfolding form_read
     form_sorted (Leaf w) = tt
     form_sorted (Group opening Empty closing) = tt

@@ -14,9 +14,9 @@ use Rattle.ffc_smt.specs.Terms.{Name, Term, Parameter, Command, Setting, Info, S
 use Rattle.ffc_smt.specs.Meaning.{Env, found}
 use Rattle.ffc_smt.specs.Numbers.{number_of}
 use Rattle.ffc_smt.specs.Scopes.{State, scope_of, level_of}
-use Rattle.ffc_smt.specs.Faults.{Fault, fault_at, Read, Sound, Faulty, faults, faulty, read_map, both, no_more, last, item}
+use Rattle.ffc_smt.specs.Faults.{Fault, word_fault, Read, Sound, Faulty, faults, faulty, read_map, both, no_more, last, item}
 use Rattle.ffc_smt.specs.TermReading.{Sorted, sort_read, term_read, term_named, exactly, is_named, is_word, is_sort, variable_read, twice}
-use Rattle.ffc_smt.specs.CommandReading.{Limits, fresh, fresh_read, is_taken, is_taken_sort, nothing_in, none_read, each, of_sort, term_of_sort, asked_read, some_item, list_read, negated, assumed, assumption_of, assumption_read, assumption_asked, is_named_word, named_assertion, plain_assertion, assertion_read, ReadParameter, parameter_of, parameter_read, parameter_faults, parameter_names, sound_parameters, parameters_read, body_read, definition_of, keyword_read, options, infos, truth_named, truth_read, is_too_late, option_of, option_read, get_option, get_info, at_most_one, counted, count_read, levels_read, string_read, logic_named, logic_read, When, Always, BehindLogic, BeforeLogic, Reader, alone, one, readers, moment_faults, read_by, by_head, form_read, within, nodes_after, command_weight, command_read}
+use Rattle.ffc_smt.specs.CommandReading.{Limits, fresh, fresh_read, is_taken, is_taken_sort, nothing_in, none_read, each, of_sort, term_of_sort, asked_read, some_item, list_read, negated, assumed, assumption_of, assumption_read, assumption_asked, is_named_word, named_assertion, plain_assertion, assertion_read, ReadParameter, parameter_of, parameter_read, parameter_faults, parameter_names, sound_parameters, parameters_read, body_read, definition_of, keyword_read, options, infos, truth_named, truth_read, is_too_late, setting_read, option_read, get_option, get_info, at_most_one, counted, count_read, levels_read, string_read, logic_named, logic_read, When, Always, BehindLogic, BeforeLogic, Reader, alone, one, readers, moment_faults, read_by, by_head, form_read, within, nodes_after, command_weight, command_read}
 use Rattle.ffc_smt.specs.Scripts.{order_in, orders_in, orders_in_items, named_orders}
 use Rattle.ffc_smt.specs.Sorting.{sorts_of_parameters}
 use Rattle.ffc_smt.proofs.ReadLemmas.{both_none, all_sound}
@@ -391,7 +391,7 @@ module _ (P : Fault → Type 0) where
     after_first [] i = tt
     after_first (t ∷ ts) i = i.1
 
-    option_of_reads : (closing w : Word) (rest : List Tree) (o : Option Setting) → MayFail P closing → MayFail P w → EachIn (MayFail P) rest → ReadsAs P (IsQuiet Always) (option_of s closing w rest o)
+    option_of_reads : (closing w : Word) (rest : List Tree) (o : Option Setting) → MayFail P closing → MayFail P w → EachIn (MayFail P) rest → ReadsAs P (IsQuiet Always) (setting_read s closing w rest o)
     option_of_reads closing w rest None m n i =
         reads_unless P (IsQuiet Always) (no_more (drop 1 rest)) (Sound Unsupported) (no_more_at P Any (drop 1 rest) (after_first rest i)) (All-nil P) (λ e ts. (tt, tt))
     option_of_reads closing w rest (Some o) m n i =
@@ -402,7 +402,7 @@ module _ (P : Fault → Type 0) where
     option_reads closing [] m i = (one_fault P 5 closing m, tt)
     option_reads closing (k ∷ rest) m i =
         quiet_list Always (k ∷ rest) (option_read s closing (k ∷ rest))
-        (reads_behind P (λ w. MayFail P w) (IsQuiet Always) (keyword_read k) (λ w. option_of s closing w rest (found options w.bytes)) (keyword_reads k i.0) (λ w n. option_of_reads closing w rest (found options w.bytes) m n i.1))
+        (reads_behind P (λ w. MayFail P w) (IsQuiet Always) (keyword_read k) (λ w. setting_read s closing w rest (found options w.bytes)) (keyword_reads k i.0) (λ w n. option_of_reads closing w rest (found options w.bytes) m n i.1))
 
     key_quiet : (o : Option Setting) → IsQuiet Always (get_option o)
     key_quiet None ts = (tt, tt)
@@ -560,12 +560,12 @@ module _ (P : Fault → Type 0) where
     moment_at Always head h = All-nil P
     moment_at BehindLogic head h = by_test s.logic
       where
-        by_test : (b : Bool) → All P (if b then [] else fault_at 7 head ∷ [])
+        by_test : (b : Bool) → All P (if b then [] else word_fault 7 head ∷ [])
         by_test true = All-nil P
         by_test false = one_fault P 7 head h
     moment_at BeforeLogic head h = by_test s.logic
       where
-        by_test : (b : Bool) → All P (if b then fault_at 7 head ∷ [] else [])
+        by_test : (b : Bool) → All P (if b then word_fault 7 head ∷ [] else [])
         by_test true = one_fault P 7 head h
         by_test false = All-nil P
 
@@ -574,7 +574,7 @@ module _ (P : Fault → Type 0) where
     logic_there false f e = cc
 
     happens : (m : When) (head : Word) (c : Command) → moment_faults s m head ≡ [] → IsTimely m c → Happens c
-    happens m head (Push n) e h = logic_there s.logic (fault_at 7 head) (subst (λ x. moment_faults s x head ≡ []) h e)
+    happens m head (Push n) e h = logic_there s.logic (word_fault 7 head) (subst (λ x. moment_faults s x head ≡ []) h e)
     happens m head (SetOption o b) e h = h
     happens m head _ e h = tt
 

@@ -201,8 +201,8 @@ module _ (ns : List Node) where
     conjoined_covered m h further =
         interned_covered m.nodes (node.And m.ids) refl (h (extends_further m.nodes (conjoined m).nodes ns (interned_extends m.nodes (node.And m.ids)) further)) further
 
-    misfit_covered : (ms : List Node) → Extends (interned ms (node.And [])).nodes ns → IsCovered (interned ms (node.And [])).id
-    misfit_covered ms further = interned_covered ms (node.And []) refl (All-nil IsCovered) further
+    placeholder_covered : (ms : List Node) → Extends (interned ms (node.And [])).nodes ns → IsCovered (interned ms (node.And [])).id
+    placeholder_covered ms further = interned_covered ms (node.And []) refl (All-nil IsCovered) further
 
     applied_covered : (op : Operator) (ids : List ℕ) (ms : List Node) → All IsCovered ids → Extends (applied_made op ms ids).nodes ns → IsCovered (applied_made op ms ids).id
     unfolding applied_made
@@ -221,7 +221,7 @@ module _ (ns : List Node) where
     applied_covered Mul (a ∷ ids) ms g f = interned_covered ms (node.Mul (a ∷ ids)) refl g f
     applied_covered Neg (a ∷ []) ms g f = interned_covered ms (node.Neg a) refl g f
     applied_covered Bitsum (a ∷ ids) ms g f = interned_covered ms (node.Bitsum (a ∷ ids)) refl g f
-    applied_covered _ _ ms g f = misfit_covered ms f
+    applied_covered _ _ ms g f = placeholder_covered ms f
 
     -- Variables
 
@@ -240,7 +240,7 @@ module _ (ns : List Node) where
     zip_alone (name ∷ names) (id ∷ ids) h = (All-head IsCovered id ids h, zip_alone names ids (All-tail IsCovered id ids h))
 
     variable_covered : (env : Env ℕ) (name : Name) (ms : List Node) → AreCovered env → Extends (variable_made ms (found env name)).nodes ns → IsCovered (variable_made ms (found env name)).id
-    variable_covered [] name ms h f = misfit_covered ms f
+    variable_covered [] name ms h f = placeholder_covered ms f
     variable_covered (x ∷ xs) name ms h f = by_test (bytes_eq x.0 name) f (variable_covered xs name ms h.1)
       where
         by_test : (b : Bool) → Extends (variable_made ms (if b then Some x.1 else found xs name)).nodes ns → (Extends (variable_made ms (found xs name)).nodes ns → IsCovered (variable_made ms (found xs name)).id)

@@ -33,7 +33,7 @@ get_from_contains xs x h = slice_get-get_or xs h.0 x h.1 ∙ ap (λ y. Some y) h
 pub contains_map : {A B : Type 0} (f : A → B) (xs : List A) (x : A) → Contains xs x → Contains (map f xs) (f x)
 contains_map f xs x h = contains_from_get (map f xs) h.0 (f x) (slice_get-map f xs h.0 ∙ ap (λ o. option_map f o) (get_from_contains xs x h))
 
-in_front : {A : Type 0} (x : A) (xs : List A) (y : A) → Contains (x ∷ xs) y → (y ≡ x) ⊎ Contains xs y
+pub in_front : {A : Type 0} (x : A) (xs : List A) (y : A) → Contains (x ∷ xs) y → (y ≡ x) ⊎ Contains xs y
 in_front x xs y has = ⊎_elim (λ first. ⊎_elim (λ none. absurd (at_none none)) (λ e. inl (sym e)) (Contains-push_cases [] x y first)) (λ later. inr later) (Contains-append_cases (x ∷ []) xs y has)
   where
     at_none : Contains [] y → ⊥

@@ -4,16 +4,14 @@ use Rattle.std.proofs.lemmas.Bool.{cases_eq}
 use Rattle.std.proofs.lemmas.Bool.Decides.{nat_tests}
 use Rattle.std.proofs.lemmas.List.Elements.{All-cons, All-nil}
 use Rattle.std.proofs.lemmas.List.{map-append}
-use Rattle.ffc_lex.specs.declared.byte_classes.ByteClass.{ByteClass}
-use Rattle.ffc_lex.specs.declared.byte_classes.ByteClass.TheVariants as classes
 use Rattle.ffc_lex.specs.declared.tokens.TokenKind.{TokenKind}
 use Rattle.ffc_lex.specs.declared.tokens.TokenKind.TheVariants as kinds
 use Rattle.ffc_lex.specs.declared.tokens.Token.{Token}
 use Rattle.ffc_lex.specs.declared.tokens.Place.{Place}
 use Rattle.ffc_lex.specs.declared.TheConstants.{MAX_DEPTH}
-use Rattle.ffc_lex.specs.Bytes.{byte_class}
-use Rattle.ffc_lex.specs.Lexeme.{Lexeme, Skip, Token as Lexed, Bad, Unended, lexeme_at, comment_at, outside_at}
+use Rattle.ffc_lex.specs.Lexeme.{Lexeme, Skip, Token as Lexed, Bad, Unended, lexeme_at}
 use Rattle.ffc_lex.specs.Reading.{Open, Next, Halt, Move, Give, End, Reading, outside, past, origin, token_at, after_token, after_left, after_right, after_kind, after_lexeme, next_at, read, reading_of, forms_of, with_form}
+use Rattle.ffc_lex.proofs.DepthLemmas.{FitsDepth, LexemeFits, lexeme_fits}
 use Rattle.ffc_smt.specs.Trees.{Word, word_of, Tree, Leaf, Group, Inside, Ended, Items, Torn, with_item, opened_by, closed_by, before_inside, inside_of, whole, tree_of, form_tree}
 
 -- so many pairs of parentheses are closed
@@ -22,7 +20,7 @@ Nested Ended n = n ≡ 0
 Nested (Items items closing rest) n = (m : ℕ) × (n ≡ m + 1) × Nested rest m
 Nested Torn n = ⊥
 
--- A token that stands inside n pairs stands inside n pairs with what is behind it, but for a parenthesis.
+-- A token that stands inside n pairs stands inside n pairs with what is after it, but for a parenthesis.
 nested_item : (t : Tree) (i : Inside) (n : ℕ) → 0 < n → Nested i n → Nested (with_item t i) n
 nested_item t Ended n some h = absurd (omega arith)
 nested_item t (Items items closing rest) n some h = h
@@ -84,55 +82,6 @@ module _ (text : List ℕ) where
   IsGood (Halt e) = Unit {0}
   IsGood (Move n left) = IsOpen left
   IsGood (Give form) = HasTree form
-
-  -- a token other than a parenthesis stands inside one
-  abbrev FitsDepth : TokenKind → ℕ → Type 0
-  FitsDepth kinds.LeftParen depth = Unit {0}
-  FitsDepth kinds.RightParen depth = Unit {0}
-  FitsDepth _ depth = 0 < depth
-
-  abbrev LexemeFits : Lexeme → ℕ → Type 0
-  LexemeFits (Skip n) depth = Unit {0}
-  LexemeFits (Lexed kind n) depth = FitsDepth kind depth
-  LexemeFits (Bad n size) depth = Unit {0}
-  LexemeFits (Unended more) depth = Unit {0}
-
-  kind_inside : (k : TokenKind) (depth : ℕ) → 0 < depth → FitsDepth k depth
-  kind_inside kinds.LeftParen depth h = tt
-  kind_inside kinds.RightParen depth h = tt
-  kind_inside _ depth h = h
-
-  lexeme_inside : (l : Lexeme) (depth : ℕ) → 0 < depth → LexemeFits l depth
-  lexeme_inside (Skip n) depth h = tt
-  lexeme_inside (Lexed kind n) depth h = kind_inside kind depth h
-  lexeme_inside (Bad n size) depth h = tt
-  lexeme_inside (Unended more) depth h = tt
-
-  either_fits : (b : Bool) (l m : Lexeme) (depth : ℕ) → LexemeFits l depth → LexemeFits m depth → LexemeFits (if b then l else m) depth
-  either_fits true l m depth h g = h
-  either_fits false l m depth h g = g
-
-  comment_fits : (bytes : List ℕ) (depth : ℕ) → LexemeFits (comment_at bytes) depth
-  unfolding comment_at
-  comment_fits bytes depth = either_fits _ (Skip _) (Unended true) depth tt tt
-
-  outside_fits : (class : ByteClass) (cs : List ℕ) (depth : ℕ) → LexemeFits (outside_at class cs) depth
-  outside_fits classes.White cs depth = tt
-  outside_fits classes.Semicolon cs depth = comment_fits cs depth
-  outside_fits classes.LeftParen cs depth = tt
-  outside_fits classes.RightParen cs depth = tt
-  outside_fits classes.Bar cs depth = tt
-  outside_fits classes.Quote cs depth = tt
-  outside_fits classes.Colon cs depth = tt
-  outside_fits classes.Hash cs depth = tt
-  outside_fits classes.Word cs depth = tt
-  outside_fits classes.Other cs depth = tt
-
-  lexeme_fits : (depth : ℕ) (bytes : List ℕ) → LexemeFits (lexeme_at depth bytes) depth
-  unfolding lexeme_at
-  lexeme_fits zero [] = tt
-  lexeme_fits zero (c ∷ cs) = outside_fits (byte_class c) cs 0
-  lexeme_fits (suc d) bytes = lexeme_inside (lexeme_at (suc d) bytes) (suc d) (omega arith)
 
   halts_or : (b : Bool) (e : End) (next : Next) → IsGood next → IsGood (if b then Halt e else next)
   halts_or true e next h = tt

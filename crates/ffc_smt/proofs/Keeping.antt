@@ -11,7 +11,7 @@ use Rattle.ffc_term.specs.Nodes.{IsNodeAt, sort_at}
 use Rattle.ffc_term.specs.Tables.{IsWellFormed}
 use Rattle.ffc_smt.specs.Terms.{Name, Operator, Not, And, Or, Xor, Implies, Equal, Distinct, Ite, Add, Mul, Neg, Bitsum, Term, Truth, Number, Constant, Variable, Defined, Applied, Let, Called, Terms, NoTerm, AndTerm}
 use Rattle.ffc_smt.specs.Meaning.{Env, found, Element, TruthValue, truth, is_equal, are_neighbours_equal, are_distinct, exclusive_or, xor_left, implied, applied, constant_value, residue_of_number, val, vals}
-use Rattle.ffc_smt.specs.Making.{Made, AllMade, interned, misfit, constant_node, equality_of, equality, neighbours, difference, differences_from, differences, exclusive, implication, implications, choice, conjoined, applied_made, variable_made, truth_node, made, all_made}
+use Rattle.ffc_smt.specs.Making.{Made, AllMade, interned, placeholder, constant_node, equality_of, equality, neighbours, difference, differences_from, differences, exclusive, implication, implications, choice, conjoined, applied_made, variable_made, truth_node, made, all_made}
 use Rattle.ffc_smt.specs.Law.{Means, Agree}
 use Rattle.ffc_smt.proofs.Extends.{Extends, extends_further, means_stays, front_well_formed, interned_extends, interned_at, equality_extends, difference_extends, implication_extends, neighbours_extend, differences_from_extend, differences_extend, exclusive_extends, implications_extend, applied_extends, made_extends, all_made_extends}
 use Rattle.ffc_smt.proofs.NodeMeanings.{AllMean, true_means, false_means, bool_constant_means, field_constant_means, number_means, not_means, and_means, or_means, xor_means, equality_means, bool_ite_means, field_ite_means, add_means, mul_means, neg_means, bitsum_means}
@@ -39,15 +39,15 @@ module _ (A : List Value) where
   all_kept : (ns : List Node) (n : Node) (ids : List ℕ) (xs : List Element) → AllMean ns A ids xs → AllMean (interned ns n).nodes A ids xs
   all_kept ns n ids xs h = all_mean_stays ids xs ns (interned ns n).nodes (interned_extends ns n) h
 
-  -- no table has the node of a misfit
-  misfit_absurd : (ns : List Node) → IsWellFormed (misfit ns).nodes → ⊥
-  misfit_absurd ns formed = let none : 0 < 0 = (formed.fits (misfit ns).id (node.And []) (interned_at ns (node.And []))).some in omega arith
+  -- no table has the node of a placeholder
+  placeholder_absurd : (ns : List Node) → IsWellFormed (placeholder ns).nodes → ⊥
+  placeholder_absurd ns formed = let none : 0 < 0 = (formed.fits (placeholder ns).id (node.And []) (interned_at ns (node.And []))).some in omega arith
 
   abbrev pub MadeMeans : Made → Element → Type 0
   MadeMeans m x = Means m.nodes A m.id x
 
-  no_table : (ns : List Node) (x : Element) → IsWellFormed (misfit ns).nodes → MadeMeans (misfit ns) x
-  no_table ns x formed = absurd (misfit_absurd ns formed)
+  no_table : (ns : List Node) (x : Element) → IsWellFormed (placeholder ns).nodes → MadeMeans (placeholder ns) x
+  no_table ns x formed = absurd (placeholder_absurd ns formed)
 
   equality_kept : (ns : List Node) (a b : ℕ) (x y : Element) → Means ns A a x → Means ns A b y → IsWellFormed (equality ns a b).nodes → MadeMeans (equality ns a b) (TruthValue (is_equal x y))
   unfolding equality

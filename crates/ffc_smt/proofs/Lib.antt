@@ -24,3 +24,13 @@ pub mod ConeLemmas
 pub mod DeclaredLemmas
 pub mod CheckLemmas
 pub mod StepLemmas
+pub mod FaultLemmas
+pub mod PlaceLemmas
+pub mod ShapeLemmas
+pub mod GoingOnLemmas
+pub mod OrderLemmas
+pub mod EffectLemmas
+pub mod AskingLemmas
+pub mod ChoiceLemmas
+pub mod OptionLemmas
+pub mod LightLemmas

@@ -13,7 +13,7 @@ use Rattle.ffc_smt.specs.Faults.{Fault, Sound}
 use Rattle.ffc_smt.specs.TermReading.{sort_read, term_read, term_named}
 use Rattle.ffc_smt.specs.CommandReading.{Limits, negated, is_too_late, command_read}
 use Rattle.ffc_smt.specs.Scripts.{named_orders, first_named, changed, labelled, after, reads_within}
-use Rattle.ffc_smt.specs.Scripts.{definition_of as meant_by}
+use Rattle.ffc_smt.specs.Scripts.{meant_by}
 use Rattle.ffc_smt.specs.ScopedStates.{IsDeclaredIn, SpeaksOf, AreNumberedBelow, IsScopedLevel, names_from, AreScopedLevels, IsScopedState}
 use Rattle.ffc_smt.proofs.ReadLemmas.{IfSound, all_sound, weaker_sound}
 use Rattle.ffc_smt.proofs.SoundStates.{found_all, flat_all, all_reverse}
@@ -341,7 +341,7 @@ module _ (s : State) (h : HasParts s) where
   abbrev Names : Env Meant
   Names = (scope_of s).names
 
-  -- what a command brings speaks of the constants in scope
+  -- the terms in a command speak of the constants in scope
   abbrev Brings : Command → Type 0
   Brings c = IsCommandOf (λ locals t u. SpeaksOf Names t) (λ u. Unit {0}) c
 

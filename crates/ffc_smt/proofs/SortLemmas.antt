@@ -14,7 +14,7 @@ use Rattle.ffc_smt.specs.Terms.{Name, Operator, Not, And, Or, Xor, Implies, Equa
 use Rattle.ffc_smt.specs.Meaning.{Env, found, Element, TruthValue, FieldValue, order, truth, sort_of, applied, constant_value, val, vals}
 use Rattle.ffc_smt.specs.Numbers.{Signed, literal_order, literal_number}
 use Rattle.ffc_smt.specs.Scopes.{Meant, AsConstant, AsTerm, AsMacro, Scope}
-use Rattle.ffc_smt.specs.Faults.{Fault, fault_at, Read, Sound, Faulty, faults, faulty, read_map, behind, no_more}
+use Rattle.ffc_smt.specs.Faults.{Fault, word_fault, Read, Sound, Faulty, faults, faulty, read_map, behind, no_more}
 use Rattle.ffc_smt.specs.TermReading.{Sorted, Argument, Wanted, AnyField, Only, is_sort, is_field, is_wanted, same_as, misfit, misfits, own_faults, missing, surplus, first_place, terms_of, wanted, least, most, result_sort, argument_sort, operators, Head, LetHead, AsHead, Function, Macro, NoHead, head_meant, head_named, head_of, is_word, term_meant, term_named, number_term, number_read, literal_read, as_read, leaf_by_kind, Binding, binding_faults, variables, twice, values, Bound, some_binding, bound_read, locals_of, terms_of_bound, let_term, of_height, function_read, parameter_misfits, macro_read, term_read, arguments_read, let_read, bindings_read, binding_read}
 use Rattle.ffc_smt.specs.Sorting.{AreOfSorts, HasSort, sorts_of_parameters, IsSortedScope}
 use Rattle.ffc_smt.proofs.ReadLemmas.{IfSound, all_sound, unless_sound, map_sound, behind_sound, either_sound, both_none}
@@ -74,7 +74,7 @@ a_field (sort.Field p) e = (p, refl)
 pub no_misfit : (w : Wanted) (at : Word) (t : Sorted) → misfit w at (Sound t) ≡ [] → is_wanted w t.sort ≡ true
 no_misfit w at t e = by_test (is_wanted w t.sort) e
   where
-    by_test : (b : Bool) → (if b then [] else fault_at 10 at ∷ []) ≡ [] → b ≡ true
+    by_test : (b : Bool) → (if b then [] else word_fault 10 at ∷ []) ≡ [] → b ≡ true
     by_test true e = refl
     by_test false e = cc
 
@@ -222,7 +222,7 @@ module _ (locals : Env Sort) where
       let two = both_none all (missing (length ps) closing args) three.0 in
       let one = both_none (own_faults args) (parameter_misfits ps args) two.0 in
       well (zip (map (λ q. q.name) ps) (vals env A (terms_of args))) A
-      (parameters_sorted ps args env A h agree one.0 one.1 (long_enough (fault_at 5 closing) (length args) (length ps) two.1)))
+      (parameters_sorted ps args env A h agree one.0 one.1 (long_enough (word_fault 5 closing) (length args) (length ps) two.1)))
 
   -- Variables
 

@@ -16,7 +16,7 @@ use Rattle.ffc_smt.specs.Terms.{Name, Operator, Not, And, Or, Xor, Implies, Equa
 use Rattle.ffc_smt.specs.Meaning.{Env, found}
 use Rattle.ffc_smt.specs.Numbers.{number_of, is_order, Signed, literal_order, literal_number}
 use Rattle.ffc_smt.specs.Scopes.{Meant, AsConstant, AsTerm, AsMacro, Scope}
-use Rattle.ffc_smt.specs.Faults.{Fault, fault_at, Read, Sound, Faulty, faults, faulty, unless, read_map, behind, no_more, last, item}
+use Rattle.ffc_smt.specs.Faults.{Fault, word_fault, Read, Sound, Faulty, faults, faulty, unless, read_map, behind, no_more, last, item}
 use Rattle.ffc_smt.specs.TermReading.{Sorted, Argument, Wanted, AnySort, AnyField, Only, is_wanted, same_as, misfit, misfits, own_faults, missing, surplus, terms_of, wanted, least, most, result_sort, argument_sort, operators, Head, LetHead, AsHead, Function, Macro, NoHead, head_meant, head_named, head_of, is_word, is_named, exactly, is_numeral, order_read, named_sort, sort_read, constant_read, order_of_sort, field_read, term_meant, term_named, number_term, number_read, literal_read, as_read, leaf_by_kind, Binding, binding_faults, variables, twice, values, Bound, some_binding, bound_read, locals_of, terms_of_bound, let_term, of_height, function_read, parameter_misfits, macro_read, term_read, arguments_read, let_read, bindings_read, binding_read}
 use Rattle.ffc_smt.specs.Sorting.{sorts_of_parameters}
 use Rattle.ffc_smt.specs.WellSorted.{AreAll, IsField, Takes, IsSoundTerm, AreSoundTerms}
@@ -136,7 +136,7 @@ abbrev TakesPlaced : Operator → List Placed → Type 0
 TakesPlaced op xs = (closing : Word) → misfits (wanted op (argument_sort (arguments xs) 0) (argument_sort (arguments xs) 1)) 0 (arguments xs) ≡ [] → missing (least op) closing (arguments xs) ≡ []
     → surplus (most op) (arguments xs) ≡ [] → Takes op (sorts_at xs) (result_sort op (argument_sort (arguments xs) 0) (argument_sort (arguments xs) 1))
 
--- what stands behind the first argument
+-- what follows the first argument
 behind_first : (want : ℕ → Wanted) (x : Placed) (rest : List Placed) (s : Sort) → ((j : ℕ) → 1 ≤ j → want j ≡ Only s) → misfits want 0 (arguments (x ∷ rest)) ≡ [] → AreAll s (sorts_at rest)
 behind_first want x rest s h mis = all_only want s rest 1 h ((both_none (misfit (want 0) x.0 (Sound x.1)) (misfits want 1 (arguments rest)) mis).1)
 
@@ -256,7 +256,7 @@ module _ (cs : List Sort) (ns : List Node) where
         let three = both_none (all ++ missing (length ps) closing args) (surplus (Some (length ps)) args) e in
         let two = both_none all (missing (length ps) closing args) three.0 in
         let one = both_none (own_faults args) (parameter_misfits ps args) two.0 in
-        let long = long_enough (fault_at 5 closing) (length args) (length ps) two.1 in
+        let long = long_enough (word_fault 5 closing) (length args) (length ps) two.1 in
         let short = short_enough (length ps) args three.1 in
         let same = parameters_take ps xs one.1 (omega (arith, long, arguments_length xs)) (omega (arith, short, arguments_length xs)) in
         (sorts_at xs, placed_sound xs h, subst (λ env. IsSoundTerm cs ns env body s) (sym (ap (λ ss. zip (map (λ q. q.name) ps) ss) same ∙ zip_parameters ps)) well))
@@ -338,7 +338,7 @@ module _ (cs : List Sort) (ns : List Node) where
     word_sound locals w None = tt
     word_sound locals w (Some name) = named_sound locals w name
 
-    literal_of : (locals : Env Sort) (w : Word) (p : ℕ) (r : Read Signed) (b : Bool) → is_order p ≡ b → IsSoundRead locals (unless (if b then [] else fault_at 11 w ∷ []) (read_map (λ n. number_term n p) r))
+    literal_of : (locals : Env Sort) (w : Word) (p : ℕ) (r : Read Signed) (b : Bool) → is_order p ≡ b → IsSoundRead locals (unless (if b then [] else word_fault 11 w ∷ []) (read_map (λ n. number_term n p) r))
     literal_of locals w p r true e = map_sound (λ n. number_term n p) r (IsSound locals) (all_sound r (λ n. IsSound locals (number_term n p)) (λ n. (refl, order_good p e)))
     literal_of locals w p r false e = tt
 

@@ -22,7 +22,7 @@ use Rattle.ffc_smt.specs.Scopes.{Meant, AsConstant, AsTerm, AsMacro, Assertion, 
 use Rattle.ffc_smt.specs.Faults.{Sound, faulty}
 use Rattle.ffc_smt.specs.CommandReading.{Limits, negated, form_read, nodes_after, asked_made, command_weight, within, command_read}
 use Rattle.ffc_smt.specs.Scripts.{changed, labelled, after}
-use Rattle.ffc_smt.specs.Scripts.{definition_of as meant_by}
+use Rattle.ffc_smt.specs.Scripts.{meant_by}
 use Rattle.ffc_smt.specs.Sorting.{sorts_of_parameters}
 use Rattle.ffc_smt.specs.WellSorted.{IsSoundTerm}
 use Rattle.ffc_smt.specs.States.{IsTableWith, IsMadeTerm, IsSoundMeant, IsSoundSort, IsSoundScope, IsSoundAssertion, IsSoundLevel, IsSoundState}
@@ -337,7 +337,7 @@ module _ (s : State) (h : IsSoundState s) where
   after_is_sound tree (GetValue asked) g room = same_from tree (GetValue asked) refl (asked_extends asked s.nodes) ((asked_good asked s.nodes g h.nodes room).0) tt
   after_is_sound tree _ g room = still_from tree _ refl refl tt
 
-  negation_sound : (t : Term) → IsSoundHere [] t sort.Bool → IsSoundHere [] (negated t) sort.Bool
+  pub negation_sound : (t : Term) → IsSoundHere [] t sort.Bool → IsSoundHere [] (negated t) sort.Bool
   negation_sound t g = (sort.Bool ∷ [], (g, tt), (refl, refl))
 
   pub command_is_fine : (l : Limits) (t : Tree) → IfSound (command_read l s t) Fine

@@ -73,7 +73,7 @@ found_at (x ∷ xs) (y ∷ ys) ns name h =
     subst (λ n. FoundAt ns (found (x ∷ xs) name) (if bytes_eq n name then Some y.1 else found ys name)) h.0
     (found_test ns (bytes_eq x.0 name) x.1 y.1 (found xs name) (found ys name) h.1 (found_at xs ys ns name h.2))
 
-order_positive : (p : ℕ) → IsOrder p → 0 < p
+pub order_positive : (p : ℕ) → IsOrder p → 0 < p
 order_positive p (F2, e) = omega (arith, e)
 order_positive p (F3, e) = omega (arith, e)
 order_positive p (F5, e) = omega (arith, e)
@@ -83,7 +83,7 @@ order_positive p (BabyBear, e) = omega (arith, e)
 order_positive p (KoalaBear, e) = omega (arith, e)
 order_positive p (Goldilocks, e) = omega (arith, e)
 
-residue_below : (negative : Bool) (size p : ℕ) → 0 < p → residue_of_number negative size p < p
+pub residue_below : (negative : Bool) (size p : ℕ) → 0 < p → residue_of_number negative size p < p
 residue_below true size p some = mod-lt (p - size % p) some
 residue_below false size p some = mod-lt size some
 

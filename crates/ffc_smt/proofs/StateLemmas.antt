@@ -11,7 +11,7 @@ use Rattle.ffc_smt.specs.Faults.{Sound}
 use Rattle.ffc_smt.specs.TermReading.{sort_read}
 use Rattle.ffc_smt.specs.CommandReading.{Limits, negated, command_read}
 use Rattle.ffc_smt.specs.Scripts.{changed, labelled, after, reads_within}
-use Rattle.ffc_smt.specs.Scripts.{definition_of as meant_by}
+use Rattle.ffc_smt.specs.Scripts.{meant_by}
 use Rattle.ffc_smt.specs.Sorting.{HasSort, sorts_of_parameters, IsSortedMeant, IsSortedScope, AreSortedNames, AreSortedLevels, IsSortedState}
 use Rattle.ffc_smt.proofs.ReadLemmas.{IfSound, all_sound}
 use Rattle.ffc_smt.proofs.SortLemmas.{named_typed, term_typed}

@@ -43,7 +43,7 @@ EachAt ns (s ∷ ss) (a ∷ ids) = IsAt ns s a × EachAt ns ss ids
 pub at_stays : (old new : List Node) (s : Sort) (a : ℕ) → Extends old new → IsAt old s a → IsAt new s a
 at_stays old new s a further h = (let long = longer old new further in omega (arith, h.0), sort_stays old new a further h.0 ∙ h.1)
 
-all_at_stays : (ids : List ℕ) (old new : List Node) (s : Sort) → Extends old new → AllAt old s ids → AllAt new s ids
+pub all_at_stays : (ids : List ℕ) (old new : List Node) (s : Sort) → Extends old new → AllAt old s ids → AllAt new s ids
 all_at_stays [] old new s further h = tt
 all_at_stays (a ∷ ids) old new s further h = (at_stays old new s a further h.0, all_at_stays ids old new s further h.1)
 
@@ -51,7 +51,7 @@ all_at_append : (ids more : List ℕ) (ns : List Node) (s : Sort) → AllAt ns s
 all_at_append [] more ns s h g = g
 all_at_append (a ∷ ids) more ns s h g = (h.0, all_at_append ids more ns s h.1 g)
 
-each_all : (ss : List Sort) (ids : List ℕ) (ns : List Node) (s : Sort) → AreAll s ss → EachAt ns ss ids → AllAt ns s ids
+pub each_all : (ss : List Sort) (ids : List ℕ) (ns : List Node) (s : Sort) → AreAll s ss → EachAt ns ss ids → AllAt ns s ids
 each_all [] [] ns s h g = tt
 each_all [] (a ∷ ids) ns s h g = absurd g
 each_all (t ∷ ss) [] ns s h g = absurd g
@@ -61,10 +61,10 @@ all_from : (ids : List ℕ) (ns : List Node) (s : Sort) → AllAt ns s ids → A
 all_from [] ns s h = All-nil (IsAt ns s)
 all_from (a ∷ ids) ns s h = All-cons (IsAt ns s) a ids h.0 (all_from ids ns s h.1)
 
-booleans : (ids : List ℕ) (ns : List Node) → 0 < length ids → AllAt ns sort.Bool ids → AreBoolean ns ids
+pub booleans : (ids : List ℕ) (ns : List Node) → 0 < length ids → AllAt ns sort.Bool ids → AreBoolean ns ids
 booleans ids ns some h = record { some = some; each = all_from ids ns sort.Bool h }
 
-one_field : (ids : List ℕ) (ns : List Node) (p : ℕ) → 0 < length ids → AllAt ns (sort.Field p) ids → AreOfOneField ns ids
+pub one_field : (ids : List ℕ) (ns : List Node) (p : ℕ) → 0 < length ids → AllAt ns (sort.Field p) ids → AreOfOneField ns ids
 one_field ids ns p some h = record { some = some; order = p; each = all_from ids ns (sort.Field p) h }
 
 -- no constant, and no `ite` of field sort
@@ -74,7 +74,7 @@ IsPlain (node.FieldConst k p) = ⊥
 IsPlain (node.IteField c a b) = ⊥
 IsPlain _ = Unit {0}
 
-plain_numbered : (ns : List Node) (n : Node) → IsPlain n → IsNumbered ns n
+pub plain_numbered : (ns : List Node) (n : Node) → IsPlain n → IsNumbered ns n
 plain_numbered ns (node.BoolConst k) h = absurd h
 plain_numbered ns (node.FieldConst k p) h = absurd h
 plain_numbered ns (node.IteField c a b) h = absurd h
@@ -163,19 +163,19 @@ module _ (cs : List Sort) (count : ℕ) where
       let all = interned_good ns n good fits plain room in
       (all, child_sort ns m.nodes m.id a n s (interned_extends ns n) all.table.well_formed (interned_at ns n) child is h)
 
-  equality_by : (s : Sort) (ns : List Node) (a b : ℕ) → IsAt ns s a → IsAt ns s b → Good ns → Room (interned ns (equality_of s a b)).nodes → Makes (interned ns (equality_of s a b)) sort.Bool
+  pub equality_by : (s : Sort) (ns : List Node) (a b : ℕ) → IsAt ns s a → IsAt ns s b → Good ns → Room (interned ns (equality_of s a b)).nodes → Makes (interned ns (equality_of s a b)) sort.Bool
   equality_by sort.Bool ns a b g h good room = bool_made ns (node.Iff a b) (λ ss. refl) good (g, h) tt room
   equality_by (sort.Field p) ns a b g h good room = bool_made ns (node.Eq a b) (λ ss. refl) good (one_field (a ∷ b ∷ []) ns p (omega arith) (g, (h, tt))) tt room
 
-  equality_good : (ns : List Node) (a b : ℕ) (s : Sort) → IsAt ns s a → IsAt ns s b → Good ns → Room (equality ns a b).nodes → Makes (equality ns a b) sort.Bool
+  pub equality_good : (ns : List Node) (a b : ℕ) (s : Sort) → IsAt ns s a → IsAt ns s b → Good ns → Room (equality ns a b).nodes → Makes (equality ns a b) sort.Bool
   unfolding equality
   equality_good ns a b s g h good room =
       subst (λ t. Room (interned ns (equality_of t a b)).nodes → Makes (interned ns (equality_of t a b)) sort.Bool) (sym g.1) (λ short. equality_by s ns a b g h good short) room
 
-  not_good : (ns : List Node) (a : ℕ) → IsAt ns sort.Bool a → Good ns → Room (interned ns (node.Not a)).nodes → Makes (interned ns (node.Not a)) sort.Bool
+  pub not_good : (ns : List Node) (a : ℕ) → IsAt ns sort.Bool a → Good ns → Room (interned ns (node.Not a)).nodes → Makes (interned ns (node.Not a)) sort.Bool
   not_good ns a h good room = bool_made ns (node.Not a) (λ ss. refl) good h tt room
 
-  difference_good : (ns : List Node) (a b : ℕ) (s : Sort) → IsAt ns s a → IsAt ns s b → Good ns → Room (difference ns a b).nodes → Makes (difference ns a b) sort.Bool
+  pub difference_good : (ns : List Node) (a b : ℕ) (s : Sort) → IsAt ns s a → IsAt ns s b → Good ns → Room (difference ns a b).nodes → Makes (difference ns a b) sort.Bool
   unfolding difference
   difference_good ns a b s g h good room =
       let e = equality ns a b in
@@ -183,10 +183,10 @@ module _ (cs : List Sort) (count : ℕ) where
       not_good e.nodes e.id before.1 before.0 room
 
   -- the same of several nodes
-  abbrev AllMakes : AllMade → Sort → Type 0
+  abbrev pub AllMakes : AllMade → Sort → Type 0
   AllMakes m s = Good m.nodes × AllAt m.nodes s m.ids
 
-  neighbours_good : (ids : List ℕ) (ns : List Node) (a : ℕ) (s : Sort) → IsAt ns s a → AllAt ns s ids → Good ns → Room (neighbours ns a ids).nodes → AllMakes (neighbours ns a ids) sort.Bool
+  pub neighbours_good : (ids : List ℕ) (ns : List Node) (a : ℕ) (s : Sort) → IsAt ns s a → AllAt ns s ids → Good ns → Room (neighbours ns a ids).nodes → AllMakes (neighbours ns a ids) sort.Bool
   unfolding neighbours
   neighbours_good [] ns a s g h good room = (good, tt)
   neighbours_good (b ∷ rest) ns a s g h good room =
@@ -197,7 +197,7 @@ module _ (cs : List Sort) (count : ℕ) where
       let others = neighbours_good rest e.nodes b s (at_stays ns e.nodes s b step h.0) (all_at_stays rest ns e.nodes s step h.1) before.0 room in
       (others.0, (at_stays e.nodes (neighbours e.nodes b rest).nodes sort.Bool e.id more before.1, others.1))
 
-  differences_from_good : (ids : List ℕ) (ns : List Node) (a : ℕ) (s : Sort) → IsAt ns s a → AllAt ns s ids → Good ns → Room (differences_from ns a ids).nodes → AllMakes (differences_from ns a ids) sort.Bool
+  pub differences_from_good : (ids : List ℕ) (ns : List Node) (a : ℕ) (s : Sort) → IsAt ns s a → AllAt ns s ids → Good ns → Room (differences_from ns a ids).nodes → AllMakes (differences_from ns a ids) sort.Bool
   unfolding differences_from
   differences_from_good [] ns a s g h good room = (good, tt)
   differences_from_good (b ∷ rest) ns a s g h good room =
@@ -208,7 +208,7 @@ module _ (cs : List Sort) (count : ℕ) where
       let others = differences_from_good rest d.nodes a s (at_stays ns d.nodes s a step g) (all_at_stays rest ns d.nodes s step h.1) before.0 room in
       (others.0, (at_stays d.nodes (differences_from d.nodes a rest).nodes sort.Bool d.id more before.1, others.1))
 
-  differences_good : (ids : List ℕ) (ns : List Node) (s : Sort) → AllAt ns s ids → Good ns → Room (differences ns ids).nodes → AllMakes (differences ns ids) sort.Bool
+  pub differences_good : (ids : List ℕ) (ns : List Node) (s : Sort) → AllAt ns s ids → Good ns → Room (differences ns ids).nodes → AllMakes (differences ns ids) sort.Bool
   unfolding differences
   differences_good [] ns s h good room = (good, tt)
   differences_good (a ∷ rest) ns s h good room =
@@ -222,7 +222,7 @@ module _ (cs : List Sort) (count : ℕ) where
   conjoined_good : (m : AllMade) → 0 < length m.ids → AllMakes m sort.Bool → Room (conjoined m).nodes → Makes (conjoined m) sort.Bool
   conjoined_good m some h room = bool_made m.nodes (node.And m.ids) (λ ss. refl) h.0 (booleans m.ids m.nodes some h.1) tt room
 
-  exclusive_good : (ids : List ℕ) (ns : List Node) (a : ℕ) → IsAt ns sort.Bool a → AllAt ns sort.Bool ids → Good ns → Room (exclusive ns a ids).nodes → Makes (exclusive ns a ids) sort.Bool
+  pub exclusive_good : (ids : List ℕ) (ns : List Node) (a : ℕ) → IsAt ns sort.Bool a → AllAt ns sort.Bool ids → Good ns → Room (exclusive ns a ids).nodes → Makes (exclusive ns a ids) sort.Bool
   unfolding exclusive
   exclusive_good [] ns a g h good room = (good, g)
   exclusive_good (b ∷ rest) ns a g h good room =
@@ -230,7 +230,7 @@ module _ (cs : List Sort) (count : ℕ) where
       let before = bool_made ns (node.Xor a b) (λ ss. refl) good (g, h.0) tt (room_before x.nodes (exclusive x.nodes x.id rest).nodes (exclusive_extends rest x.nodes x.id) room) in
       exclusive_good rest x.nodes x.id before.1 (all_at_stays rest ns x.nodes sort.Bool (interned_extends ns (node.Xor a b)) h.1) before.0 room
 
-  implication_good : (ns : List Node) (a b : ℕ) → IsAt ns sort.Bool a → IsAt ns sort.Bool b → Good ns → Room (implication ns a b).nodes → Makes (implication ns a b) sort.Bool
+  pub implication_good : (ns : List Node) (a b : ℕ) → IsAt ns sort.Bool a → IsAt ns sort.Bool b → Good ns → Room (implication ns a b).nodes → Makes (implication ns a b) sort.Bool
   unfolding implication
   implication_good ns a b g h good room =
       let m = interned ns (node.Not a) in
@@ -239,7 +239,7 @@ module _ (cs : List Sort) (count : ℕ) where
       bool_made m.nodes o (λ ss. refl) before.0
       (booleans (m.id ∷ b ∷ []) m.nodes (omega arith) (before.1, (at_stays ns m.nodes sort.Bool b (interned_extends ns (node.Not a)) h, tt))) tt room
 
-  implications_good : (ids : List ℕ) (ns : List Node) (a : ℕ) → IsAt ns sort.Bool a → AllAt ns sort.Bool ids → Good ns → Room (implications ns a ids).nodes → Makes (implications ns a ids) sort.Bool
+  pub implications_good : (ids : List ℕ) (ns : List Node) (a : ℕ) → IsAt ns sort.Bool a → AllAt ns sort.Bool ids → Good ns → Room (implications ns a ids).nodes → Makes (implications ns a ids) sort.Bool
   unfolding implications
   implications_good [] ns a g h good room = (good, g)
   implications_good (b ∷ rest) ns a g h good room =
@@ -313,7 +313,7 @@ module _ (cs : List Sort) (count : ℕ) where
         child_sort ns new t a x (sort.Field p) (ite_nodes t c a b, refl) put.1.0 at (1, omega arith, refl) (λ ss. refl) h,
       )
 
-  choice_good : (s : Sort) (ns : List Node) (c a b : ℕ) → IsAt ns sort.Bool c → IsAt ns s a → IsAt ns s b → Good ns → Room (choice s ns c a b).nodes → Makes (choice s ns c a b) s
+  pub choice_good : (s : Sort) (ns : List Node) (c a b : ℕ) → IsAt ns sort.Bool c → IsAt ns s a → IsAt ns s b → Good ns → Room (choice s ns c a b).nodes → Makes (choice s ns c a b) s
   choice_good sort.Bool ns c a b f g h good room = bool_made ns (node.IteBool c a b) (λ ss. refl) good (f, g, h) tt room
   choice_good (sort.Field p) ns c a b f g h good room =
       ⊎_elim
@@ -372,7 +372,7 @@ module _ (cs : List Sort) (count : ℕ) where
       let all = each_all (x ∷ y ∷ ss) (a ∷ b ∷ ids) ns sort.Bool takes.0 each in
       of_sort _ s sort.Bool takes.1 (implications_good (b ∷ ids) ns a all.0 all.1 good room)
 
-  neighbours_some : (ids : List ℕ) (ns : List Node) (a b : ℕ) → 0 < length (neighbours ns a (b ∷ ids)).ids
+  pub neighbours_some : (ids : List ℕ) (ns : List Node) (a b : ℕ) → 0 < length (neighbours ns a (b ∷ ids)).ids
   unfolding neighbours
   neighbours_some ids ns a b = omega arith
 
@@ -390,7 +390,7 @@ module _ (cs : List Sort) (count : ℕ) where
       (conjoined_good m (neighbours_some (c ∷ ids) ns a b)
       (neighbours_good (b ∷ c ∷ ids) ns a x each.0 (each_all (y ∷ ss) (b ∷ c ∷ ids) ns x takes.0 each.1) good (room_before m.nodes (conjoined m).nodes (interned_extends m.nodes (node.And m.ids)) room)) room)
 
-  differences_some : (ids : List ℕ) (ns : List Node) (a b : ℕ) → 0 < length (differences ns (a ∷ b ∷ ids)).ids
+  pub differences_some : (ids : List ℕ) (ns : List Node) (a b : ℕ) → 0 < length (differences ns (a ∷ b ∷ ids)).ids
   unfolding differences differences_from
   differences_some ids ns a b = omega arith
 

@@ -15,7 +15,7 @@ use Rattle.ffc_smt.specs.Terms.{Name, Operator, Term, Terms, Variable, Applied, 
 use Rattle.ffc_smt.specs.Meaning.{Env, found}
 use Rattle.ffc_smt.specs.Numbers.{number_of, is_order, is_small, Signed, literal_order, literal_number, constant_of}
 use Rattle.ffc_smt.specs.Scopes.{Meant, AsConstant, AsTerm, AsMacro, Scope}
-use Rattle.ffc_smt.specs.Faults.{Fault, fault_at, Read, Sound, Faulty, faults, faulty, unless, read_map, behind, no_more, last, item}
+use Rattle.ffc_smt.specs.Faults.{Fault, word_fault, Read, Sound, Faulty, faults, faulty, unless, read_map, behind, no_more, last, item}
 use Rattle.ffc_smt.specs.TermReading.{Sorted, Argument, Wanted, Only, misfit, misfits, own_faults, missing, surplus, first_place, add_sound, terms_of, wanted, least, most, result_sort, argument_sort, is_wanted, operators, Head, LetHead, AsHead, Function, Macro, NoHead, head_meant, head_named, head_of, is_word, is_named, exactly, is_numeral, order_read, named_sort, sort_read, constant_read, order_of_sort, field_read, term_meant, term_named, number_term, number_read, literal_read, as_read, leaf_by_kind, Named, free_name, variable_read, is_among, Binding, binding_faults, add_named, variables, twice, values, Bound, some_binding, bound_read, locals_of, terms_of_bound, let_term, of_height, function_read, parameter_misfits, macro_read, term_read, arguments_read, let_read, bindings_read, binding_read}
 use Rattle.ffc_smt.specs.Scripts.{order_in}
 use Rattle.ffc_smt.specs.Constants.{ConstantsAre, AllConstantsAre, MeantConstantsAre}
@@ -165,9 +165,9 @@ module _ (P : Fault → Type 0) where
 
   pub twice_at : (before ns : List Named) → AllNamed ns → All P (twice before ns)
   twice_at before [] m = All-nil P
-  twice_at before (n ∷ ns) m = All-append P (if is_among n.name before then fault_at 9 n.at ∷ [] else []) (twice (n ∷ before) ns) (by_test (is_among n.name before)) (twice_at (n ∷ before) ns m.1)
+  twice_at before (n ∷ ns) m = All-append P (if is_among n.name before then word_fault 9 n.at ∷ [] else []) (twice (n ∷ before) ns) (by_test (is_among n.name before)) (twice_at (n ∷ before) ns m.1)
     where
-      by_test : (b : Bool) → All P (if b then fault_at 9 n.at ∷ [] else [])
+      by_test : (b : Bool) → All P (if b then word_fault 9 n.at ∷ [] else [])
       by_test true = one_fault P 9 n.at m.0
       by_test false = All-nil P
 
@@ -188,12 +188,12 @@ module _ (P : Fault → Type 0) where
         number = reads_number w (literal_number w.bytes) m
 
         by_test : (b : Bool) → is_order (literal_order w.bytes) ≡ b
-            → ReadsAs P (λ t. HasOrders w × SpeaksOf t) (unless (if b then [] else fault_at 11 w ∷ []) (read_map (λ n. number_term n (literal_order w.bytes)) (number_read w (literal_number w.bytes))))
+            → ReadsAs P (λ t. HasOrders w × SpeaksOf t) (unless (if b then [] else word_fault 11 w ∷ []) (read_map (λ n. number_term n (literal_order w.bytes)) (number_read w (literal_number w.bytes))))
         by_test true e =
             reads_map P (λ n. number_term n (literal_order w.bytes)) (λ t. HasOrders w × SpeaksOf t) (number_read w (literal_number w.bytes))
             (reads_weaker P (λ n. Unit {0}) (λ n. HasOrders w × Unit {0}) (number_read w (literal_number w.bytes)) (λ n u. (literal_orders w k e, tt)) number)
         by_test false e =
-            reads_unless P (λ t. HasOrders w × SpeaksOf t) (fault_at 11 w ∷ []) (read_map (λ n. number_term n (literal_order w.bytes)) (number_read w (literal_number w.bytes))) (one_fault P 11 w m)
+            reads_unless P (λ t. HasOrders w × SpeaksOf t) (word_fault 11 w ∷ []) (read_map (λ n. number_term n (literal_order w.bytes)) (number_read w (literal_number w.bytes))) (one_fault P 11 w m)
             (reads_map P (λ n. number_term n (literal_order w.bytes)) (λ t. Unit {0}) (number_read w (literal_number w.bytes)) number).0 (λ d. cc)
 
     -- Arguments
@@ -210,7 +210,7 @@ module _ (P : Fault → Type 0) where
     misfit_at want at (Faulty f fs) m = All-nil P
     misfit_at want at (Sound t) m = by_test (is_wanted want t.sort)
       where
-        by_test : (b : Bool) → All P (if b then [] else fault_at 10 at ∷ [])
+        by_test : (b : Bool) → All P (if b then [] else word_fault 10 at ∷ [])
         by_test true = All-nil P
         by_test false = one_fault P 10 at m
 
@@ -227,7 +227,7 @@ module _ (P : Fault → Type 0) where
     missing_at : (n : ℕ) (closing : Word) (args : List Argument) → MayFail P closing → All P (missing n closing args)
     missing_at n closing args m = by_test (nat_lt (length args) n)
       where
-        by_test : (b : Bool) → All P (if b then fault_at 5 closing ∷ [] else [])
+        by_test : (b : Bool) → All P (if b then word_fault 5 closing ∷ [] else [])
         by_test true = one_fault P 5 closing m
         by_test false = All-nil P
 
@@ -498,7 +498,7 @@ module _ (P : Fault → Type 0) where
           reads_weaker P (λ n. EachLeaf HasOrders x × MayFail P n.at) (λ n. MayFail P n.at) (variable_read x) (λ n h. h.1) (reads_variable x m.1.0),
           (one_fault P 5 c m.2, tt),
           λ e.
-              let two = both_none (faults (variable_read x)) (fault_at 5 c ∷ []) e in absurd (no_fault (fault_at 5 c) two.1),
+              let two = both_none (faults (variable_read x)) (word_fault 5 c ∷ []) e in absurd (no_fault (word_fault 5 c) two.1),
         )
         reads_binding (Group o (First x (First t rest)) c) locals m =
             let name = reads_variable x m.1.0 in

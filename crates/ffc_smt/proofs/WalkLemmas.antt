@@ -2,7 +2,7 @@
 use Rattle.std.proofs.Common.{◌≡◌, ℕ, Bool, true, false, List, [], ◌∷◌, All, if◌then◌else◌, refl}
 use Rattle.std.proofs.lemmas.List.Elements.{All-cons, All-nil, All-append}
 use Rattle.ffc_smt.specs.Trees.{Word, Tree, Leaf, Group, Trees, Empty, First, items_of, front}
-use Rattle.ffc_smt.specs.Faults.{Fault, fault_at, Read, Sound, Faulty, faults, faulty, unless, read_map, both, behind, no_more, last, item}
+use Rattle.ffc_smt.specs.Faults.{Fault, word_fault, Read, Sound, Faulty, faults, faulty, unless, read_map, both, behind, no_more, last, item}
 use Rattle.ffc_smt.proofs.ReadLemmas.{IfSound}
 
 -- Trees, token by token
@@ -70,10 +70,10 @@ module _ (M : Word → Type 0) where
 module _ (P : Fault → Type 0) where
   -- a fault may be at this word
   abbrev pub MayFail : Word → Type 0
-  MayFail w = (code : ℕ) → P (fault_at code w)
+  MayFail w = (code : ℕ) → P (word_fault code w)
 
-  pub one_fault : (code : ℕ) (w : Word) → MayFail w → All P (fault_at code w ∷ [])
-  one_fault code w m = All-cons P (fault_at code w) [] (m code) (All-nil P)
+  pub one_fault : (code : ℕ) (w : Word) → MayFail w → All P (word_fault code w ∷ [])
+  one_fault code w m = All-cons P (word_fault code w) [] (m code) (All-nil P)
 
   abbrev pub ReadsAs : {A : Type 0} → (A → Type 0) → Read A → Type 0
   ReadsAs Q r = All P (faults r) × IfSound r Q

@@ -13,7 +13,7 @@ use Rattle.ffc_smt.specs.Meaning.{Env, found}
 use Rattle.ffc_smt.specs.Making.{made, interned, constant_node}
 use Rattle.ffc_smt.specs.Numbers.{number_of}
 use Rattle.ffc_smt.specs.Scopes.{State, scope_of, level_of}
-use Rattle.ffc_smt.specs.Faults.{Fault, fault_at, Read, Sound, Faulty, faults, faulty, unless, read_map, both, behind, no_more, last, item}
+use Rattle.ffc_smt.specs.Faults.{Fault, word_fault, Read, Sound, Faulty, faults, faulty, unless, read_map, both, behind, no_more, last, item}
 use Rattle.ffc_smt.specs.TermReading.{Sorted, Named, sort_read, term_read, term_named, exactly, is_named, is_word, is_sort, variable_read, twice, add_named}
 
 pub record Limits : Type 0 where
@@ -72,7 +72,7 @@ asked_read l s t = read_map (λ x. record { tree = t; term = x.term }) (term_rea
 
 -- a list in parentheses, of one or more items, or also of none
 abbrev pub some_item : Word → List Tree → List Fault
-some_item closing [] = fault_at 5 closing ∷ []
+some_item closing [] = word_fault 5 closing ∷ []
 some_item closing (t ∷ ts) = []
 
 abbrev pub list_read : {A : Type 0} → Bool → (Tree → Read A) → Tree → Read (List A)
@@ -108,7 +108,7 @@ assumption_asked s t = read_map (λ x. record { tree = t; term = x }) (assumptio
 abbrev pub is_named_word : Word → Bool
 is_named_word w = elim w.kind [ Keyword ↦ bytes_eq w.bytes (codes ":named") | _ ↦ false ]
 
--- behind `(!`: a term, `:named` and a name
+-- after `(!`: a term, `:named` and a name
 abbrev pub named_assertion : Limits → State → Word → List Tree → Read Command
 named_assertion l s closing items =
     read_map (λ p. Assert (Some (p.1.1.0)) p.0)
@@ -200,14 +200,14 @@ abbrev pub is_too_late : State → Setting → Bool
 is_too_late s GlobalDeclarations = s.logic
 is_too_late s _ = false
 
-abbrev pub option_of : State → Word → Word → List Tree → Option Setting → Read Command
-option_of s closing w rest None = unless (no_more (drop 1 rest)) (Sound Unsupported)
-option_of s closing w rest (Some o) =
+abbrev pub setting_read : State → Word → Word → List Tree → Option Setting → Read Command
+setting_read s closing w rest None = unless (no_more (drop 1 rest)) (Sound Unsupported)
+setting_read s closing w rest (Some o) =
     if is_too_late s o then faulty 7 w else read_map (λ p. SetOption o p.0) (item closing truth_read last rest)
 
 abbrev pub option_read : State → Word → List Tree → Read Command
 option_read s closing [] = faulty 5 closing
-option_read s closing (k ∷ rest) = behind (keyword_read k) (λ w. option_of s closing w rest (found options w.bytes))
+option_read s closing (k ∷ rest) = behind (keyword_read k) (λ w. setting_read s closing w rest (found options w.bytes))
 
 abbrev pub get_option : Option Setting → Command
 get_option None = Unsupported
@@ -257,7 +257,7 @@ pub data When : Type 0 where
 
 pub record Reader : Type 0 where
   pub moment : When
-  -- from the parenthesis that closes the form, and the items behind the head
+  -- from the parenthesis that closes the form, and the items after the head
   pub read : Word → List Tree → Read Command
 
 abbrev pub alone : Command → Word → List Tree → Read Command
@@ -323,8 +323,8 @@ readers l s =
 -- code 7 at the head, whatever else is wrong
 abbrev pub moment_faults : State → When → Word → List Fault
 moment_faults s Always head = []
-moment_faults s BehindLogic head = if s.logic then [] else fault_at 7 head ∷ []
-moment_faults s BeforeLogic head = if s.logic then fault_at 7 head ∷ [] else []
+moment_faults s BehindLogic head = if s.logic then [] else word_fault 7 head ∷ []
+moment_faults s BeforeLogic head = if s.logic then word_fault 7 head ∷ [] else []
 
 abbrev pub read_by : State → Word → Word → List Tree → Option Reader → Read Command
 read_by s head closing items None = faulty 4 head

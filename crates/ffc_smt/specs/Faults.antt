@@ -15,7 +15,7 @@
 --
 -- Of all faults of a command the leftmost is answered, and of those at one place the one of the lowest code. Code 15
 -- counts only where the command has no other.
-use Rattle.std.specs.Prelude.{ℕ, ◌==◌, nat_lt, Bool, ◌&&◌, ◌||◌, List, [], ◌∷◌, ◌++◌, if◌then◌else◌, Option, Some, None}
+use Rattle.std.specs.Prelude.{ℕ, ◌==◌, nat_lt, Bool, ◌&&◌, ◌||◌, List, [], ◌∷◌, ◌++◌, if◌then◌else◌}
 use Rattle.ffc_smt.specs.Trees.{Word, Tree, front}
 
 pub record Fault : Type 0 where
@@ -23,8 +23,8 @@ pub record Fault : Type 0 where
   pub column : ℕ
   pub code : ℕ
 
-abbrev pub fault_at : ℕ → Word → Fault
-fault_at code w = record { line = w.line; column = w.column; code = code }
+abbrev pub word_fault : ℕ → Word → Fault
+word_fault code w = record { line = w.line; column = w.column; code = code }
 
 -- at a place to the left, or at the same place and of a lower code
 abbrev pub is_before : Fault → Fault → Bool
@@ -37,7 +37,16 @@ abbrev pub first_fault : Fault → List Fault → Fault
 first_fault f [] = f
 first_fault f (g ∷ gs) = first_fault (if is_before g f then g else f) gs
 
--- what a part of a form reads as: what it says, or all its faults, of which there is at least one
+-- What a part of a form reads as: what it says, or its faults, of which there is at least one. A fault may stand in the list
+-- twice, and these are left out:
+--
+--  * Code 10 or 14 of a term that holds a fault: it has no sort and no height, so it raises no second one.
+--  * The faults of what is read only where a part to the left of it has none, as the body of a `let`, which needs the
+--    variables, and that of a macro, which needs the parameters. They are to the right of the faults of that part, so none
+--    of them is the first.
+--  * Code 15, which counts only where there is no other.
+--
+-- So the first of the list is the fault of the form.
 pub data Read (A : Type 0) : Type 0 where
   Sound : A → Read A
   Faulty : Fault → List Fault → Read A
@@ -46,12 +55,8 @@ abbrev pub faults : {A : Type 0} → Read A → List Fault
 faults (Sound a) = []
 faults (Faulty f fs) = f ∷ fs
 
-abbrev pub sound : {A : Type 0} → Read A → Option A
-sound (Sound a) = Some a
-sound (Faulty f fs) = None
-
 abbrev pub faulty : {A : Type 0} → ℕ → Word → Read A
-faulty code w = Faulty (fault_at code w) []
+faulty code w = Faulty (word_fault code w) []
 
 -- what is said, unless there are these faults
 abbrev pub unless : {A : Type 0} → List Fault → Read A → Read A
@@ -76,7 +81,7 @@ behind (Faulty f fs) next = Faulty f fs
 -- no more items
 abbrev pub no_more : List Tree → List Fault
 no_more [] = []
-no_more (t ∷ ts) = fault_at 5 (front t) ∷ []
+no_more (t ∷ ts) = word_fault 5 (front t) ∷ []
 
 abbrev pub last : List Tree → Read (Unit {0})
 last ts = unless (no_more ts) (Sound tt)

@@ -23,3 +23,10 @@ pub mod ScopedStates
 pub mod ScriptLaw
 pub mod CheckLaws
 pub mod StepLaws
+pub mod FaultLaws
+pub mod TreeShapes
+pub mod GoingOn
+pub mod OrderLaws
+pub mod Answering
+pub mod Asking
+pub mod StateRows

@@ -26,13 +26,13 @@ abbrev pub placed : List Node → Node → Option ℕ → Made
 placed nodes n (Some id) = record { nodes = nodes; id = id }
 placed nodes n None = record { nodes = nodes ++ n ∷ []; id = length nodes }
 
--- the node n, where there is an equal one that one, else behind the others
+-- the node n, where there is an equal one that one, else after the others
 unfoldable pub interned : List Node → Node → Made
 interned nodes n = placed nodes n (position ((by_parts.ghosts).eq n) nodes)
 
--- what fits into no table: a term that is read makes none
-abbrev pub misfit : List Node → Made
-misfit nodes = interned nodes (node.And [])
+-- a node that fits into no table, where there is nothing to make: a term that is read makes none
+abbrev pub placeholder : List Node → Made
+placeholder nodes = interned nodes (node.And [])
 
 abbrev pub constant_node : ℕ → Sort → Node
 constant_node k sort.Bool = node.BoolConst k
@@ -109,11 +109,11 @@ applied_made Add nodes (a ∷ ids) = interned nodes (node.Add (a ∷ ids))
 applied_made Mul nodes (a ∷ ids) = interned nodes (node.Mul (a ∷ ids))
 applied_made Neg nodes (a ∷ []) = interned nodes (node.Neg a)
 applied_made Bitsum nodes (a ∷ ids) = interned nodes (node.Bitsum (a ∷ ids))
-applied_made _ nodes _ = misfit nodes
+applied_made _ nodes _ = placeholder nodes
 
 abbrev pub variable_made : List Node → Option ℕ → Made
 variable_made nodes (Some id) = record { nodes = nodes; id = id }
-variable_made nodes None = misfit nodes
+variable_made nodes None = placeholder nodes
 
 abbrev pub truth_node : Bool → Node
 truth_node true = node.True

@@ -1,4 +1,4 @@
--- What is in scope and in force: levels of assertions and names, SMT-LIB 2.6, sections 4.1.4 and 4.1.5.
+-- What is in scope and active: levels of assertions and names, SMT-LIB 2.6, sections 4.1.4 and 4.1.5.
 use Rattle.std.specs.Prelude.{ℕ, Bool, true, false, List, [], ◌∷◌, ◌++◌, length, flat_map, filter_map, reverse, if◌then◌else◌, Option, Some, None}
 use Rattle.ffc_term.specs.declared.node.Sort.{Sort}
 use Rattle.ffc_term.specs.declared.node.Node.{Node}
@@ -146,6 +146,6 @@ cleared s = record s {
   base = if s.options.global_declarations then record s.base { asserted = [] } else empty_level;
 }
 
--- as at the start, but for what is counted over the script
+-- as at the start, but for the constants, which are counted over the script
 abbrev pub restarted : State → State
-restarted s = record first_state { constants = s.constants; first_order = s.first_order; nodes = s.nodes }
+restarted s = record first_state { constants = s.constants }

@@ -12,7 +12,7 @@ use Rattle.ffc_smt.specs.Terms.{Name, Operator, Not, And, Or, Xor, Implies, Equa
 use Rattle.ffc_smt.specs.Meaning.{Env, found}
 use Rattle.ffc_smt.specs.Numbers.{number_of, is_order, Signed, is_small, constant_of, literal_number, literal_order}
 use Rattle.ffc_smt.specs.Scopes.{Meant, AsConstant, AsTerm, AsMacro, Scope}
-use Rattle.ffc_smt.specs.Faults.{Fault, fault_at, Read, Sound, Faulty, faults, faulty, unless, read_map, behind, no_more, last, item}
+use Rattle.ffc_smt.specs.Faults.{Fault, word_fault, Read, Sound, Faulty, faults, faulty, unless, read_map, behind, no_more, last, item}
 
 -- Sorts
 
@@ -142,7 +142,7 @@ result_sort _ first second = sort.Bool
 
 -- code 10 where a term has a sort, and not one that is wanted
 abbrev pub misfit : Wanted → Word → Read Sorted → List Fault
-misfit w at (Sound t) = if is_wanted w t.sort then [] else fault_at 10 at ∷ []
+misfit w at (Sound t) = if is_wanted w t.sort then [] else word_fault 10 at ∷ []
 misfit w at (Faulty f fs) = []
 
 abbrev pub misfits : (ℕ → Wanted) → ℕ → List Argument → List Fault
@@ -155,11 +155,11 @@ own_faults (a ∷ rest) = faults a.read ++ own_faults rest
 
 -- code 5 at the closing parenthesis where arguments are missing, and at the first that is too many
 abbrev pub missing : ℕ → Word → List Argument → List Fault
-missing n closing arguments = if nat_lt (length arguments) n then fault_at 5 closing ∷ [] else []
+missing n closing arguments = if nat_lt (length arguments) n then word_fault 5 closing ∷ [] else []
 
 abbrev pub first_place : List Argument → List Fault
 first_place [] = []
-first_place (a ∷ rest) = fault_at 5 a.at ∷ []
+first_place (a ∷ rest) = word_fault 5 a.at ∷ []
 
 abbrev pub surplus : Option ℕ → List Argument → List Fault
 surplus None arguments = []
@@ -240,7 +240,7 @@ number_read w (Some n) = if is_small n then Sound n else faulty 13 w
 -- `#fNmP`
 abbrev pub literal_read : Word → Read Sorted
 literal_read w =
-    unless (if is_order (literal_order w.bytes) then [] else fault_at 11 w ∷ [])
+    unless (if is_order (literal_order w.bytes) then [] else word_fault 11 w ∷ [])
     (read_map (λ n. number_term n (literal_order w.bytes)) (number_read w (literal_number w.bytes)))
 
 -- the W of `(as W S)`
@@ -256,7 +256,7 @@ order_of_sort w (sort.Field p) = Sound p
 abbrev pub field_read : Env Sort → Tree → Read ℕ
 field_read sorts t = behind (sort_read sorts t) (order_of_sort (front t))
 
--- behind `(as`
+-- after `(as`
 abbrev pub as_read : Scope → Word → List Tree → Read Sorted
 as_read scope closing items =
     read_map (λ parts. number_term parts.0 parts.1.0) (item closing constant_read (item closing (field_read scope.sorts) last) items)
@@ -286,7 +286,7 @@ is_among name ns = list_any (λ n. bytes_eq n.name name) ns
 -- code 9 at a name that stands in the list before
 abbrev pub twice : List Named → List Named → List Fault
 twice before [] = []
-twice before (n ∷ ns) = (if is_among n.name before then fault_at 9 n.at ∷ [] else []) ++ twice (n ∷ before) ns
+twice before (n ∷ ns) = (if is_among n.name before then word_fault 9 n.at ∷ [] else []) ++ twice (n ∷ before) ns
 
 -- a variable and its term
 pub record Binding : Type 0 where
@@ -315,7 +315,7 @@ pub record Bound : Type 0 where
   pub terms : List Sorted
 
 abbrev pub some_binding : Word → List Binding → List Fault
-some_binding closing [] = fault_at 5 closing ∷ []
+some_binding closing [] = word_fault 5 closing ∷ []
 some_binding closing (b ∷ bs) = []
 
 abbrev pub bound_read : Word → List Binding → Read Bound

@@ -9,3 +9,4 @@ pub mod IteLemmas
 pub mod MeasureLemmas
 pub mod LawLemmas
 pub mod MarkLemmas
+pub mod GrowthLemmas

@@ -7,3 +7,4 @@ pub mod Keeping
 pub mod Marking
 pub mod Laws
 pub mod Modular
+pub mod Growth

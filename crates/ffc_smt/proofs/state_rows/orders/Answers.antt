@@ -1,0 +1,18 @@
+use Rattle.std.proofs.Common.{refl}
+use Rattle.ffc_lex.specs.Bytes.{is_word_byte, is_line_end, is_text_byte, is_quoted_byte, byte_class}
+use Rattle.ffc_lex.specs.Words.{is_numeral, is_decimal, is_symbol_word, is_field_word, word_kind, keyword_kind, hash_kind}
+use Rattle.ffc_lex.specs.Lexeme.{lexeme_at, size_of, word_at, comment_at, quoted_at, string_at}
+use Rattle.ffc_lex.specs.Reading.{reading_of, read, next_at, after_lexeme}
+use Rattle.ffc_term.specs.Nodes.{sorts}
+use Rattle.ffc_smt.specs.Trees.{items_of, inside_of, tree_of}
+use Rattle.ffc_smt.specs.Terms.{height, weight}
+use Rattle.ffc_smt.specs.Meaning.{val}
+use Rattle.ffc_smt.specs.Making.{interned, equality, neighbours, difference, differences_from, differences, exclusive, implication, implications, applied_made, made}
+use Rattle.ffc_smt.specs.TermReading.{sort_read, term_read}
+use Rattle.ffc_smt.specs.CommandReading.{form_read, command_read, nodes_after, asked_made, command_weight}
+use Rattle.ffc_smt.specs.Scripts.{reads_within, script_from, after, named_orders, orders_in}
+use Rattle.ffc_smt.proofs.state_rows.orders.Goals as goal
+
+pub returns : goal.returns
+unfolding is_word_byte is_line_end is_text_byte is_quoted_byte byte_class is_numeral is_decimal is_symbol_word is_field_word word_kind keyword_kind hash_kind lexeme_at size_of word_at comment_at quoted_at string_at reading_of read next_at after_lexeme sorts items_of inside_of tree_of height weight val interned equality neighbours difference differences_from differences exclusive implication implications applied_made made sort_read term_read form_read command_read nodes_after asked_made command_weight reads_within script_from after named_orders orders_in
+returns c = record { asked = refl; asserted = refl; in_sort = refl; in_parameter = refl; first_of_two = refl; earlier = refl; unused = refl; great = refl }
