@@ -1,6 +1,6 @@
 -- Units taken one behind another.
-use Rattle.std.proofs.Common.{◌≡◌, ℕ, ◌+◌, ◌≤◌, sym, ap, ◌∙◌, arith, add_assoc, add-zero}
-use Rattle.ffc_base.specs.Metering.{Spending}
+use Rattle.std.proofs.Common.{◌≡◌, ℕ, ◌+◌, ◌≤◌, sym, ap, ◌∙◌, subst, arith, add_assoc, add-zero}
+use Rattle.ffc_base.specs.Metering.{Spending, total}
 use Rattle.ffc_uni.specs.declared.stop.UniStop.{UniStop}
 use Rattle.ffc_uni.specs.declared.stop.UniStop.TheVariants.{Spent, Memory}
 use Rattle.ffc_uni.specs.Units.{chained, IsStopped, IsAtMost}
@@ -32,3 +32,6 @@ at_most_more j k a b more some = (some.0, omega (arith, some.1), some.2)
 pub stopped_at_most : (k : ℕ) (a b : Spending) (stop : UniStop) → IsStopped k a b stop → IsAtMost k a b
 stopped_at_most k a b Spent stopped = (stopped.0, omega (arith, stopped.1), stopped.2)
 stopped_at_most k a b Memory stopped = (stopped.0, stopped.1, stopped.2)
+
+pub at_most_total : (k : ℕ) (a b : Spending) → IsAtMost k a b → total a ≤ total b
+at_most_total k a b some = subst (λ s. total a ≤ total s) (sym some.2) (omega arith)

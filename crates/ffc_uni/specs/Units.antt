@@ -21,3 +21,7 @@ IsCounted needed old new result =
 -- at most k were taken
 abbrev pub IsAtMost : ℕ → Spending → Spending → Type 0
 IsAtMost k old new = (n : ℕ) × (n ≤ k) × (new ≡ chained old n)
+
+-- units of the kind Chain were taken, and no others
+abbrev pub IsChained : Spending → Spending → Type 0
+IsChained old new = (n : ℕ) × (new ≡ chained old n)

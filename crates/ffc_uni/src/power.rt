@@ -1,5 +1,5 @@
 //! Powers of polynomials modulo one.
-ghost use Rattle.std.specs.Prelude.{◌≡◌, ◌≢◌, ◌<◌, ◌≤◌, [], ◌∷◌, length, IfOk, IsErrOf};
+ghost use Rattle.std.specs.Prelude.{◌≡◌, ◌≢◌, ◌<◌, ◌≤◌, [], ◌∷◌, length, IfOk, OnOk, IsErrOf};
 ghost use Rattle.ffc_base.specs.Metering.{total};
 ghost use Rattle.ffc_field.specs.Modular.{mul_mod};
 ghost use Rattle.ffc_uni.specs.declared.stop.UniStop.TheVariants as stops;
@@ -40,6 +40,7 @@ fn next_power<F: Field>(
         → IsRemainder F.ORDER f.now (with_factor base.now one_more a) r) }
     ensures lower { IfOk result (λ r. length r < length f.now) }
     ensures units { IsAtMost 2 meter.old meter.new }
+    ensures taken { OnOk result (total meter.old < total meter.new) }
     ensures full { IsErrOf result stops.Spent → total meter.new ≡ meter.new.budget }
 {
     let (_, square) = divided_product(power, power, f, inverse, meter)?;
@@ -67,6 +68,7 @@ pub fn pow_mod<F: Field>(
     ensures power { IfOk result (λ r. IsRemainder F.ORDER f.now (raised base.now exponent) r) }
     ensures lower { IfOk result (λ r. length r < length f.now) }
     ensures units { IsAtMost 128 meter.old meter.new }
+    ensures taken { OnOk result (0 < exponent → total meter.old < total meter.new) }
     ensures full { IsErrOf result stops.Spent → total meter.new ≡ meter.new.budget }
 {
     let inverse = f.leading_inverse();

@@ -153,6 +153,7 @@ pub fn quotient_and_remainder<F: Field>(
     requires inverse { mul_mod F.ORDER (leading (map F.value by.now)) (F.value inverse) ≡ 1 }
     ensures division { IfOk result (λ d. SameUnivariate F.ORDER (map F.value row.now) (plus (times (map F.value d.0.items) (map F.value by.now)) (map F.value d.1.items))) }
     ensures lower { IfOk result (λ d. length d.1.items < length by.now) }
+    ensures short { IfOk result (λ d. length d.0.items ≡ length row.now - (length by.now - 1)) }
 {
     let places = row.len().saturating_sub(by.len() - 1);
     let mut window = Vec::new(alloc);

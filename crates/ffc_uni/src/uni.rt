@@ -163,6 +163,7 @@ impl<F: Field> Uni<F> {
         requires { by.now ≢ [] }
         ensures division { IfOk result (λ d. SameUnivariate F.ORDER self.now (plus (times d.0 by.now) d.1)) }
         ensures lower { IfOk result (λ d. length d.1 < length by.now) }
+        ensures short { IfOk result (λ d. length d.0 ≤ length self.now - (length by.now - 1)) }
     {
         self.div_rem_with(by, by.leading_inverse())
     }
@@ -183,6 +184,7 @@ impl<F: Field> Uni<F> {
         requires inverse { mul_mod F.ORDER (leading by.now) (F.value inverse) ≡ 1 }
         ensures division { IfOk result (λ d. SameUnivariate F.ORDER self.now (plus (times d.0 by.now) d.1)) }
         ensures lower { IfOk result (λ d. length d.1 < length by.now) }
+        ensures short { IfOk result (λ d. length d.0 ≤ length self.now - (length by.now - 1)) }
     {
         let alloc = *self.coefs.allocator();
         let divisor = by.coefs();
