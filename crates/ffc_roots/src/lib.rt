@@ -3,12 +3,14 @@
 
 mod bezout;
 mod elements;
-mod roots;
+mod finding;
+mod found;
 mod split;
 mod stop;
 #[cfg(test)]
 mod tests;
 
 pub use elements::Elements;
-pub use roots::{Roots, roots};
+pub use finding::roots;
+pub use found::Roots;
 pub use stop::RootStop;

@@ -3,7 +3,7 @@
 ghost use Rattle.std.specs.Prelude.{◌≡◌, ◌+◌, ◌<◌, ◌≤◌, length, IfOk, IfSome, MatchOption, OnOk, OnErr, IsErrOf};
 ghost use Rattle.ffc_base.specs.Metering.{total};
 ghost use Rattle.ffc_uni.specs.Units.{IsChained};
-ghost use Rattle.ffc_roots.specs.Parts.{IsParted};
+ghost use Rattle.ffc_roots.specs.Parts.{IsParted, weight, weight_of};
 ghost use Rattle.ffc_roots.specs.declared.stop.RootStop.TheVariants as stops;
 
 use crate::bezout::{common_divisor, constant};
@@ -54,7 +54,7 @@ fn part_by<F: Field>(
     requires long { 3 ≤ length f.now }
     requires odd { 2 < F.ORDER }
     ensures parts { IfOk result (λ o. IfSome o (IsParted f.now)) }
-    ensures taken { IfOk result (λ o. MatchOption o (total meter.old < total meter.new) (λ _. total meter.old ≤ total meter.new)) }
+    ensures taken { IfOk result (λ o. MatchOption o ((total meter.old < total meter.new) × (total meter.new ≤ meter.new.budget)) (λ _. Unit {0})) }
     ensures full { IsErrOf result stops.Spent → total meter.new ≡ meter.new.budget }
     ensures chained { IsChained meter.old meter.new }
 {
@@ -98,6 +98,33 @@ fn linear_root<F: Field>(f: &Uni<F>) -> F {
     }
 }
 
+/// Takes a polynomial apart: its root where it has degree 1, and where it has a higher one two factors, to be taken apart
+/// later.
+fn take_apart<F: Field>(
+    alloc: Global,
+    f: &Uni<F>,
+    roots: &mut Vec<F>,
+    pending: &mut Vec<Uni<F>>,
+    meter: &mut Meter,
+) -> Result<(), RootStop>
+    requires { 2 < F.ORDER }
+    ensures fewer { OnOk result (weight_of pending.new.items < weight_of pending.old.items + weight (length f.now)) }
+    ensures full { IsErrOf result stops.Spent → total meter.new ≡ meter.new.budget }
+    ensures chained { IsChained meter.old meter.new }
+{
+    let length = f.coefs().len();
+    if length == 2 {
+        roots.push(linear_root(f))?;
+    }
+    if length <= 2 {
+        return Ok(());
+    }
+    let parts = part(alloc, f, meter)?;
+    pending.push(parts.first)?;
+    pending.push(parts.second)?;
+    Ok(())
+}
+
 /// The roots of a product of different factors X - root over a field of odd order, in any order.
 pub fn split<F: Field>(
     alloc: Global,
@@ -112,15 +139,7 @@ pub fn split<F: Field>(
     let mut pending = Vec::new(alloc);
     pending.push(product.clone()?)?;
     while let Some(f) = pending.pop() {
-        match f.coefs().len() {
-            0 | 1 => {}
-            2 => roots.push(linear_root(&f))?,
-            _ => {
-                let parts = part(alloc, &f, meter)?;
-                pending.push(parts.first)?;
-                pending.push(parts.second)?;
-            }
-        }
+        take_apart(alloc, &f, &mut roots, &mut pending, meter)?;
     }
     Ok(roots)
 }

@@ -1,7 +1,7 @@
 //! Why roots were not found.
 use ffc_base::Spent;
 use ffc_uni::UniStop;
-use std::alloc::AllocError;
+use std::alloc::{AllocError, AllocFailed};
 
 /// Why roots were not found.
 #[derive(Clone, Copy, Debug, PartialEq, Eq, Drop)]
@@ -19,6 +19,17 @@ impl From<AllocError> for RootStop {
     ghost from_gives = { λ _ stop. stop ≡ Memory };
 
     fn from(_: AllocError) -> RootStop {
+        RootStop::Memory
+    }
+}
+
+impl<T: Drop> From<AllocFailed<T>> for RootStop {
+    ghost use Rattle.std.specs.Prelude.{◌≡◌};
+    ghost use Rattle.ffc_roots.specs.declared.stop.RootStop.TheVariants.{Memory};
+
+    ghost from_gives = { λ _ stop. stop ≡ Memory };
+
+    fn from(_: AllocFailed<T>) -> RootStop {
         RootStop::Memory
     }
 }

@@ -41,6 +41,7 @@ fn next_power<F: Field>(
     ensures lower { IfOk result (λ r. length r < length f.now) }
     ensures units { IsAtMost 2 meter.old meter.new }
     ensures taken { OnOk result (total meter.old < total meter.new) }
+    ensures within { OnOk result (total meter.new ≤ meter.new.budget) }
     ensures full { IsErrOf result stops.Spent → total meter.new ≡ meter.new.budget }
 {
     let (_, square) = divided_product(power, power, f, inverse, meter)?;
@@ -69,6 +70,7 @@ pub fn pow_mod<F: Field>(
     ensures lower { IfOk result (λ r. length r < length f.now) }
     ensures units { IsAtMost 128 meter.old meter.new }
     ensures taken { OnOk result (0 < exponent → total meter.old < total meter.new) }
+    ensures within { OnOk result (0 < exponent → total meter.new ≤ meter.new.budget) }
     ensures full { IsErrOf result stops.Spent → total meter.new ≡ meter.new.budget }
 {
     let inverse = f.leading_inverse();

@@ -17,6 +17,7 @@ loop-place-init g c =
       lower = omega (arith, c.in_ok-power.ensures.short, c.requires);
       units = (0, omega arith, chained-none c.args.meter.now);
       taken = λ some. absurd (omega arith);
+      within = λ some. absurd (omega arith);
     }
 
 pub returns-in_err-power-2-clause-units : goal.returns-in_err-power-2-clause-units
@@ -40,6 +41,7 @@ loop-place-preserved-then-front-gt0 g c =
       units = at_most_more (2 * (64 - c.loop-place.place) + 2) (2 * (64 - i)) c.args.meter.now c.next_power.new.meter (omega arith)
           (at_most_later (2 * (64 - c.loop-place.place)) 2 c.args.meter.now c.loop-place.meter c.next_power.new.meter c.loop-place.invariant.units c.next_power.ensures.units);
       taken = λ some. omega (arith, c.in_ok-power-2.ensures.taken, at_most_total (2 * (64 - c.loop-place.place)) c.args.meter.now c.loop-place.meter c.loop-place.invariant.units);
+      within = λ _. c.in_ok-power-2.ensures.within;
     }
 
 pub loop-place-preserved : goal.loop-place-preserved
@@ -56,6 +58,7 @@ loop-place-preserved g c =
       lower = c.loop-place.invariant.lower;
       units = at_most_more (2 * (64 - c.loop-place.place)) (2 * (64 - i)) c.args.meter.now c.loop-place.meter (omega arith) c.loop-place.invariant.units;
       taken = λ some. absurd (omega (arith, c.if-front-gt0.false));
+      within = λ some. absurd (omega (arith, c.if-front-gt0.false));
     }
 
 pub returns-clause-taken : goal.returns-clause-taken
@@ -63,3 +66,9 @@ returns-clause-taken g c = λ some.
     let none : c.loop-place.place ≡ 0 = omega (arith, c.loop-place-test.false) in
     let whole : 0 < c.args.exponent / 2 ^ 0 = omega arith in
     c.loop-place.invariant.taken (subst (λ n. 0 < c.args.exponent / 2 ^ n) (sym none) whole)
+
+pub returns-clause-within : goal.returns-clause-within
+returns-clause-within g c = λ some.
+    let none : c.loop-place.place ≡ 0 = omega (arith, c.loop-place-test.false) in
+    let whole : 0 < c.args.exponent / 2 ^ 0 = omega arith in
+    c.loop-place.invariant.within (subst (λ n. 0 < c.args.exponent / 2 ^ n) (sym none) whole)

@@ -1,4 +1,4 @@
-use Rattle.std.proofs.Common.{◌*◌, ◌-◌, ◌^◌, ◌/◌, ◌<◌, length}
+use Rattle.std.proofs.Common.{◌*◌, ◌-◌, ◌^◌, ◌/◌, ◌<◌, ◌≤◌, length}
 use Rattle.ffc_base.specs.Metering.{total}
 use Rattle.ffc_uni.specs.Univariate.{IsRemainder, raised}
 use Rattle.ffc_uni.specs.Units.{IsAtMost}
@@ -10,4 +10,5 @@ invariant-loop-place g l = record {
   lower : length l.power < length l.f;
   units : IsAtMost (2 * (64 - l.place)) l.fn.meter l.meter;
   taken : 0 < l.exponent / 2 ^ l.place → total l.fn.meter < total l.meter;
+  within : 0 < l.exponent / 2 ^ l.place → total l.meter ≤ l.meter.budget;
 }
