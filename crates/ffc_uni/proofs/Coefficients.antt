@@ -119,3 +119,9 @@ product_end p n a b k =
 -- zeros are no summand
 pub zeros_added : (p : ℕ) (a b : Coefficients) → SameUnivariate p a [] → SameUnivariate p (plus a b) b
 zeros_added p a b e k = plus_alike p a [] b b e (λ j. refl) k
+
+-- once a polynomial is the polynomial
+pub multiple_by_one : (p c : ℕ) (a : Coefficients) → c % p ≡ 1 % p → SameUnivariate p (multiple c a) a
+multiple_by_one p c a e k =
+    factor_alike p c 1 a e k
+    ∙ ap (λ n. n % p) (coefficient_at-multiple 1 a k ∙ (let same : 1 * coefficient_at a k ≡ coefficient_at a k = omega arith in same))

@@ -14,7 +14,7 @@ abbrev pub spelled : ℕ → List Bool → ℕ
 spelled e [] = e
 spelled e (d ∷ ds) = spelled (2 * e + digit_value d) ds
 
-digit_value-test : (n : ℕ) → n < 2 → digit_value (n == 1) ≡ n
+pub digit_value-test : (n : ℕ) → n < 2 → digit_value (n == 1) ≡ n
 digit_value-test n below =
     elim (cases_eq n 1) [
       | inl one ↦ ap digit_value (eq-eqb n 1 one) ∙ sym one

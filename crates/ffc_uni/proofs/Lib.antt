@@ -1,8 +1,11 @@
 pub mod ChainLemmas
 pub mod Coefficients
 pub mod DigitLemmas
+pub mod EqualityLemmas
 pub mod Divisions
 pub mod Passes
+pub mod PowerLemmas
+pub mod Products
 pub mod ReachedLemmas
 pub mod RingLemmas
 pub mod Rows

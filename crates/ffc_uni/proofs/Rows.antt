@@ -95,3 +95,9 @@ pub zeros_only : {F : Type 0} (value : F → ℕ) (p n : ℕ) (x : F) → value 
 zeros_only value p zero x e k = refl
 zeros_only value p (suc n) x e zero = ap (λ m. m % p) e
 zeros_only value p (suc n) x e (suc k) = zeros_only value p n x e k
+
+-- nor do they matter at the end of a row
+pub padded : {F : Type 0} (value : F → ℕ) (p : ℕ) (xs : List F) (n : ℕ) (x : F) → value x ≡ 0 → SameUnivariate p (map value (xs ++ replicate n x)) (map value xs)
+padded value p [] n x e k = zeros_only value p n x e k
+padded value p (y ∷ ys) n x e zero = refl
+padded value p (y ∷ ys) n x e (suc k) = padded value p ys n x e k

@@ -17,7 +17,7 @@ last_remainder-push : (r : Coefficients) (steps : List Pair) (s : Pair) → last
 last_remainder-push r [] s = refl
 last_remainder-push r (t ∷ steps) s = last_remainder-push t.1 steps s
 
-same_last : (p : ℕ) (a b : Coefficients) (steps : List Pair) → SameUnivariate p a b → SameUnivariate p (last_remainder a steps) (last_remainder b steps)
+pub same_last : (p : ℕ) (a b : Coefficients) (steps : List Pair) → SameUnivariate p a b → SameUnivariate p (last_remainder a steps) (last_remainder b steps)
 same_last p a b [] same = same
 same_last p a b (s ∷ steps) same = λ k. refl
 

@@ -3,3 +3,4 @@ pub mod Laws
 pub mod Rows
 pub mod Units
 pub mod Univariate
+pub mod Equality

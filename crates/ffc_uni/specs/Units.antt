@@ -17,3 +17,11 @@ IsStopped needed old new Memory = (n : ℕ) × (n ≤ needed) × (new ≡ chaine
 abbrev pub IsCounted : {A : Type 0} → ℕ → Spending → Spending → Result A UniStop → Type 0
 IsCounted needed old new result =
     MatchResult result (λ _. (new ≡ chained old needed) × (total new ≤ new.budget)) (IsStopped needed old new)
+
+-- at most k were taken
+abbrev pub IsAtMost : ℕ → Spending → Spending → Type 0
+IsAtMost k old new = (n : ℕ) × (n ≤ k) × (new ≡ chained old n)
+
+-- units of the kind Chain were taken, and no others
+abbrev pub IsChained : Spending → Spending → Type 0
+IsChained old new = (n : ℕ) × (new ≡ chained old n)

@@ -3,7 +3,7 @@
 --
 -- A polynomial is written as the list of its coefficients from the lowest; a coefficient past the end is 0. Two lists
 -- are the same polynomial where they have the same coefficients modulo p.
-use Rattle.std.specs.Prelude.{◌≡◌, ◌≢◌, ℕ, zero, suc, ◌+◌, ◌-◌, ◌*◌, ◌%◌, ◌<◌, List, [], ◌∷◌, map}
+use Rattle.std.specs.Prelude.{◌≡◌, ◌≢◌, ℕ, zero, suc, ◌+◌, ◌-◌, ◌*◌, ◌%◌, ◌<◌, Bool, true, false, List, [], ◌∷◌, map}
 use Rattle.ffc_ring.specs.Monomial.{Monomial}
 use Rattle.ffc_ring.specs.Polynomial.{Terms}
 
@@ -41,10 +41,28 @@ plus (x ∷ a) (y ∷ b) = (x + y) ∷ plus a b
 abbrev pub multiple : ℕ → Coefficients → Coefficients
 multiple c a = map (λ x. c * x) a
 
+-- the difference
+abbrev pub minus : ℕ → Coefficients → Coefficients → Coefficients
+minus p a b = plus a (multiple (p - 1) b)
+
 -- the product: that with the lowest coefficient, and X times that with the rest
 abbrev pub times : Coefficients → Coefficients → Coefficients
 times [] b = []
 times (x ∷ a) b = plus (multiple x b) (0 ∷ times a b)
+
+-- the product of n factors a
+abbrev pub raised : Coefficients → ℕ → Coefficients
+raised a zero = 1 ∷ []
+raised a (suc n) = times a (raised a n)
+
+-- the square of a power, and where one more factor is wanted the product with it
+abbrev pub with_factor : Coefficients → Bool → Coefficients → Coefficients
+with_factor a false power = times power power
+with_factor a true power = times a (times power power)
+
+-- r is a modulo f: a is a multiple of f, and r
+abbrev pub IsRemainder : ℕ → Coefficients → Coefficients → Coefficients → Type 0
+IsRemainder p f a r = (q : Coefficients) × SameUnivariate p a (plus (times q f) r)
 
 -- the product of the X - a for residues a
 abbrev pub product_of_roots : ℕ → List ℕ → Coefficients

@@ -87,7 +87,7 @@ fn indeterminate<F: Field>(alloc: Global) -> Result<Uni<F>, AllocError>
 }
 
 /// The product of two polynomials, divided by f, whose leading coefficient has this inverse. One Chain is taken first.
-fn divided_product<F: Field>(
+pub(crate) fn divided_product<F: Field>(
     a: &Uni<F>,
     b: &Uni<F>,
     f: &Uni<F>,

@@ -3,6 +3,7 @@
 
 mod chain;
 pub mod laws;
+mod power;
 mod row;
 mod stop;
 #[cfg(test)]
@@ -10,5 +11,6 @@ mod tests;
 mod uni;
 
 pub use chain::{Chain, Steps, pow_mod_chain};
+pub use power::pow_mod;
 pub use stop::UniStop;
 pub use uni::Uni;

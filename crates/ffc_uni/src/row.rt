@@ -1,5 +1,5 @@
 //! Rows: slices of coefficients from the lowest.
-ghost use Rattle.std.specs.Prelude.{◌≡◌, ◌+◌, ◌-◌, ◌<◌, ◌≤◌, suc, [], ◌∷◌, ◌++◌, length, map, take, IfOk};
+ghost use Rattle.std.specs.Prelude.{◌≡◌, ◌+◌, ◌-◌, ◌<◌, ◌≤◌, suc, [], ◌∷◌, ◌++◌, length, map, max, take, IfOk};
 ghost use Rattle.ffc_field.specs.Modular.{mul_mod};
 ghost use Rattle.ffc_uni.specs.Univariate.{SameUnivariate, IsNormal, plus, multiple, times, product_of_roots, value_of};
 ghost use Rattle.ffc_uni.specs.Rows.{leading, shifted};
@@ -40,6 +40,18 @@ fn add_multiple<F: Field>(out: &mut [F], c: F, row: &[F])
     for (place, coef) in row.iter().enumerate() {
         out[place] = out[place].add(c.mul(*coef));
     }
+}
+
+/// a + c*b for a constant c, in one buffer.
+pub fn sum<F: Field>(alloc: Global, a: &[F], c: F, b: &[F]) -> Result<Vec<F>, AllocError>
+    ensures same { IfOk result (λ v. SameUnivariate F.ORDER (map F.value v.items) (plus (map F.value a.now) (multiple (F.value c) (map F.value b.now)))) }
+    ensures long { IfOk result (λ v. length v.items ≡ max (length a.now) (length b.now)) }
+{
+    let mut out = Vec::new(alloc);
+    out.extend_from_slice(a)?;
+    out.resize(a.len().max(b.len()), F::of(0))?;
+    add_multiple(out.as_mut_slice(), c, b);
+    Ok(out)
 }
 
 /// Adds c*X^place times a row.
@@ -141,6 +153,7 @@ pub fn quotient_and_remainder<F: Field>(
     requires inverse { mul_mod F.ORDER (leading (map F.value by.now)) (F.value inverse) ≡ 1 }
     ensures division { IfOk result (λ d. SameUnivariate F.ORDER (map F.value row.now) (plus (times (map F.value d.0.items) (map F.value by.now)) (map F.value d.1.items))) }
     ensures lower { IfOk result (λ d. length d.1.items < length by.now) }
+    ensures short { IfOk result (λ d. length d.0.items ≡ length row.now - (length by.now - 1)) }
 {
     let places = row.len().saturating_sub(by.len() - 1);
     let mut window = Vec::new(alloc);

@@ -1,8 +1,9 @@
 //! Polynomials in one variable.
-ghost use Rattle.std.specs.Prelude.{◌≡◌, ◌≢◌, ℕ, ◌<◌, ◌≤◌, ◌↔◌, [], length, map, IsTrue, IfOk};
+ghost use Rattle.std.specs.Prelude.{◌≡◌, ◌≢◌, ℕ, ◌<◌, ◌≤◌, ◌-◌, ◌↔◌, [], length, map, max, IsTrue, IfOk};
 ghost use Rattle.ffc_field.specs.Modular.{mul_mod};
+ghost use Rattle.ffc_uni.specs.Equality.{same_coefficients};
 ghost use Rattle.ffc_uni.specs.Rows.{leading};
-ghost use Rattle.ffc_uni.specs.Univariate.{SameUnivariate, IsNormal, plus, times, product_of_roots, value_of};
+ghost use Rattle.ffc_uni.specs.Univariate.{SameUnivariate, IsNormal, plus, minus, multiple, times, product_of_roots, value_of, IsRemainder};
 
 use crate::row;
 use ffc_field::Field;
@@ -26,10 +27,46 @@ impl<F: Field> Model for Uni<F> {
     ghost invariant = { λ u. IsNormal F.ORDER (map F.value u.coefs.items) };
 }
 
+impl<F: Field> Clone for Uni<F> {
+    ghost use Rattle.std.specs.Prelude.{◌≡◌};
+
+    ghost is_clone = { λ a b. b ≡ a };
+
+    fn clone(&self) -> Result<Self, AllocError> {
+        let mut coefs = Vec::new(*self.coefs.allocator());
+        coefs.extend_from_slice(self.coefs())?;
+        Ok(Uni { coefs })
+    }
+}
+
+impl<F: Field> PartialEq for Uni<F> {
+    ghost use Rattle.std.specs.Cmp.{partial_equiv_from_equiv};
+    ghost use Rattle.ffc_uni.specs.Equality.{same_coefficients, same_coefficients_equivalence};
+
+    ghost eq = { same_coefficients };
+
+    ghost laws = { partial_equiv_from_equiv same_coefficients_equivalence };
+
+    fn eq(&self, other: &Self) -> bool
+        ensures value { result ≡ same_coefficients self.now other.now }
+        ensures list { IsTrue result ↔ (self.now ≡ other.now) }
+        ensures polynomial { IsTrue result ↔ SameUnivariate F.ORDER self.now other.now }
+    {
+        self.coefs() == other.coefs()
+    }
+}
+
+impl<F: Field> Eq for Uni<F> {
+    ghost use Rattle.ffc_uni.specs.Equality.{same_coefficients_equivalence};
+
+    ghost laws = { same_coefficients_equivalence };
+}
+
 impl<F: Field> Uni<F> {
     /// The polynomial with these coefficients, from the lowest.
     pub fn from_coefs(alloc: Global, coefs: &[F]) -> Result<Self, AllocError>
-        ensures { IfOk result (λ r. SameUnivariate F.ORDER r (map F.value coefs.now)) }
+        ensures same { IfOk result (λ r. SameUnivariate F.ORDER r (map F.value coefs.now)) }
+        ensures short { IfOk result (λ r. length r ≤ length coefs.now) }
     {
         let length = row::length_without_zeros(coefs);
         let mut row = Vec::new(alloc);
@@ -62,6 +99,40 @@ impl<F: Field> Uni<F> {
         self.coefs().is_empty()
     }
 
+    /// The sum, in one pass.
+    pub fn add(&self, other: &Self) -> Result<Self, AllocError>
+        ensures sum { IfOk result (λ r. SameUnivariate F.ORDER r (plus self.now other.now)) }
+        ensures short { IfOk result (λ r. length r ≤ max (length self.now) (length other.now)) }
+    {
+        self.with_multiple(F::of(1), other)
+    }
+
+    /// The difference, in one pass.
+    pub fn sub(&self, other: &Self) -> Result<Self, AllocError>
+        ensures difference { IfOk result (λ r. SameUnivariate F.ORDER r (minus F.ORDER self.now other.now)) }
+        ensures short { IfOk result (λ r. length r ≤ max (length self.now) (length other.now)) }
+    {
+        self.with_multiple(F::of(1).neg(), other)
+    }
+
+    /// The sum with c times another one.
+    fn with_multiple(&self, c: F, other: &Self) -> Result<Self, AllocError>
+        ensures sum { IfOk result (λ r. SameUnivariate F.ORDER r (plus self.now (multiple (F.value c) other.now))) }
+        ensures short { IfOk result (λ r. length r ≤ max (length self.now) (length other.now)) }
+    {
+        let alloc = *self.coefs.allocator();
+        Ok(Self::from_row(row::sum(alloc, self.coefs(), c, other.coefs())?))
+    }
+
+    /// The product with a constant, in one pass.
+    pub fn scale(&self, c: F) -> Result<Self, AllocError>
+        ensures product { IfOk result (λ r. SameUnivariate F.ORDER r (multiple (F.value c) self.now)) }
+        ensures short { IfOk result (λ r. length r ≤ length self.now) }
+    {
+        let alloc = *self.coefs.allocator();
+        Ok(Self::from_row(row::sum(alloc, &[], c, self.coefs())?))
+    }
+
     /// The product: each pair of coefficients is multiplied once.
     pub fn mul(&self, other: &Self) -> Result<Self, AllocError>
         ensures product { IfOk result (λ r. SameUnivariate F.ORDER r (times self.now other.now)) }
@@ -92,8 +163,19 @@ impl<F: Field> Uni<F> {
         requires { by.now ≢ [] }
         ensures division { IfOk result (λ d. SameUnivariate F.ORDER self.now (plus (times d.0 by.now) d.1)) }
         ensures lower { IfOk result (λ d. length d.1 < length by.now) }
+        ensures short { IfOk result (λ d. length d.0 ≤ length self.now - (length by.now - 1)) }
     {
         self.div_rem_with(by, by.leading_inverse())
+    }
+
+    /// The remainder of the division by another polynomial.
+    pub fn rem(&self, by: &Self) -> Result<Self, AllocError>
+        requires { by.now ≢ [] }
+        ensures remainder { IfOk result (λ r. IsRemainder F.ORDER by.now self.now r) }
+        ensures lower { IfOk result (λ r. length r < length by.now) }
+    {
+        let (_, remainder) = self.div_rem(by)?;
+        Ok(remainder)
     }
 
     /// The same, with the inverse of the leading coefficient of `by` at hand, so that many divisions find it once.
@@ -102,6 +184,7 @@ impl<F: Field> Uni<F> {
         requires inverse { mul_mod F.ORDER (leading by.now) (F.value inverse) ≡ 1 }
         ensures division { IfOk result (λ d. SameUnivariate F.ORDER self.now (plus (times d.0 by.now) d.1)) }
         ensures lower { IfOk result (λ d. length d.1 < length by.now) }
+        ensures short { IfOk result (λ d. length d.0 ≤ length self.now - (length by.now - 1)) }
     {
         let alloc = *self.coefs.allocator();
         let divisor = by.coefs();

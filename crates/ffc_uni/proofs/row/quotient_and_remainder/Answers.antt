@@ -1,5 +1,5 @@
 use Rattle.std.proofs.Common.{◌≡◌, ◌∷◌, ◌%◌, [], length, map, drop, reverse, sym, ap, ap₂, ◌∙◌, arith}
-use Rattle.std.proofs.lemmas.List.{reverse-append}
+use Rattle.std.proofs.lemmas.List.{length-append, reverse-append}
 use Rattle.ffc_uni.specs.Univariate.{coefficient_at, SameUnivariate, plus, times, multiple}
 use Rattle.ffc_uni.proofs.Divisions.{division_step}
 use Rattle.ffc_uni.proofs.Rows.{left_before, written_back}
@@ -26,6 +26,7 @@ loop-place-preserved g c =
     let long : length new ≡ length old = c.divide_shifted.auto.window ∙ ap length c.as_mut_slice.ensures.value in
     record {
       lower = omega (arith, ap length kept, long, c.loop-place.invariant.lower);
+      short = omega (arith, ap length c.in_ok-push.ensures.items, length-append quotient (q ∷ []), c.loop-place.invariant.short);
       long = λ some. omega (arith, ap length kept, long, c.loop-place.invariant.long c.loop-place-test.true);
       so_far = λ k.
           ap (λ l. coefficient_at (map value l) k % p) left

@@ -1,0 +1,16 @@
+//! All roots in the field of a polynomial in one variable, with the identity that proves that there are no others.
+#![tactic(auto)]
+
+mod bezout;
+mod elements;
+mod finding;
+mod found;
+mod split;
+mod stop;
+#[cfg(test)]
+mod tests;
+
+pub use elements::Elements;
+pub use finding::roots;
+pub use found::Roots;
+pub use stop::RootStop;

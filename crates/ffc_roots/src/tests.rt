@@ -1,0 +1,129 @@
+use crate::{RootStop, roots};
+use ffc_base::Meter;
+use ffc_field::{BabyBear, F2, F3, F5, F17, F65537, Field, Goldilocks, KoalaBear};
+use ffc_uni::Uni;
+use std::alloc::Global;
+use std::process::Abort;
+use std::test::Fail;
+
+/// These elements.
+fn elements<F: Field>(alloc: Global, numbers: &[u64]) -> Result<Vec<F>, Fail> {
+    let mut row = Vec::new(alloc);
+    for number in numbers {
+        row.push(F::of(u128::from(*number)))?;
+    }
+    Ok(row)
+}
+
+/// Whether a polynomial has just these roots.
+fn has_roots<F: Field>(
+    rt: &impl Abort,
+    alloc: Global,
+    f: &Uni<F>,
+    wanted: &[u64],
+) -> Result<bool, Fail> {
+    assert!(rt; f.coefs().len() >= 2);
+    let mut meter = Meter::new(1_000_000);
+    match roots(alloc, f, &mut meter) {
+        Ok(found) => {
+            let zeros = found.zeros.as_slice();
+            let wanted = elements::<F>(alloc, wanted)?;
+            Ok(zeros == wanted.as_slice())
+        }
+        Err(_) => Ok(false),
+    }
+}
+
+/// Whether the product of a polynomial and the X - root has just the different ones of these as its roots.
+fn finds<F: Field>(
+    rt: &impl Abort,
+    alloc: Global,
+    factor: &[u64],
+    listed: &[u64],
+    wanted: &[u64],
+) -> Result<bool, Fail> {
+    let factor = Uni::from_coefs(alloc, elements::<F>(alloc, factor)?.as_slice())?;
+    let product = Uni::from_roots(alloc, elements::<F>(alloc, listed)?.as_slice())?;
+    has_roots::<F>(rt, alloc, &factor.mul(&product)?, wanted)
+}
+
+/// Roots that are listed, once or more, with 0 and the last residue among them, and a factor that has none: X^2 less a number
+/// that is no square, by Python's powers.
+#[test]
+fn listed_roots(rt: HostRuntime) -> Result<(), Fail> {
+    let alloc = rt.alloc();
+    assert!(rt; finds::<F2>(&rt, alloc, &[1, 1, 1], &[0, 1, 1], &[0, 1])?);
+    assert!(rt; finds::<F2>(&rt, alloc, &[1, 1, 1], &[], &[])?);
+    assert!(rt; finds::<F3>(&rt, alloc, &[1, 0, 1], &[2, 0, 0], &[0, 2])?);
+    assert!(rt; finds::<F5>(&rt, alloc, &[3, 0, 1], &[4, 1, 0, 4], &[0, 1, 4])?);
+    assert!(rt; finds::<F17>(&rt, alloc, &[14, 0, 1], &[16, 3, 5, 0], &[0, 3, 5, 16])?);
+    assert!(rt;
+        finds::<F65537>(
+            &rt,
+            alloc,
+            &[65534, 0, 1],
+            &[65536, 7, 7, 2],
+            &[2, 7, 65536]
+        )?
+    );
+    assert!(rt;
+        finds::<BabyBear>(
+            &rt,
+            alloc,
+            &[2013265910, 0, 1],
+            &[2013265920, 0, 9],
+            &[0, 9, 2013265920]
+        )?
+    );
+    assert!(rt; finds::<KoalaBear>(&rt, alloc, &[2130706430, 0, 1], &[5], &[5])?);
+    assert!(rt;
+        finds::<Goldilocks>(
+            &rt,
+            alloc,
+            &[18446744069414584314, 0, 1],
+            &[18446744069414584320, 1, 4294967296, 1, 0],
+            &[0, 1, 4294967296, 18446744069414584320]
+        )?
+    );
+    Ok(())
+}
+
+/// X^2 - X + 1 has the two primitive sixth roots of unity: the second is 1 less the first.
+#[test]
+fn sixth_roots_of_unity(rt: HostRuntime) -> Result<(), Fail> {
+    let f = elements::<Goldilocks>(rt.alloc(), &[1, 18446744069414584320, 1])?;
+    let f = Uni::from_coefs(rt.alloc(), f.as_slice())?;
+    assert!(rt; has_roots::<Goldilocks>(&rt, rt.alloc(), &f, &[4294967296, 18446744065119617026])?);
+    Ok(())
+}
+
+/// All residues of a small field, and 64 roots in a large one.
+#[test]
+fn many_roots(rt: HostRuntime) -> Result<(), Fail> {
+    let mut listed = Vec::new(rt.alloc());
+    for n in 0..64u64 {
+        listed.push(n)?;
+    }
+    assert!(rt; finds::<F17>(&rt, rt.alloc(), &[1], &listed[..17], &listed[..17])?);
+    assert!(rt; finds::<BabyBear>(&rt, rt.alloc(), &[1], &listed, &listed)?);
+    Ok(())
+}
+
+/// A chain over Goldilocks has 95 pairs, and more are needed to part two roots.
+#[test]
+fn few_units(rt: HostRuntime) -> Result<(), Fail> {
+    let f = Uni::from_roots(
+        rt.alloc(),
+        elements::<Goldilocks>(rt.alloc(), &[1, 7])?.as_slice(),
+    )?;
+    assert!(rt; f.coefs().len() >= 2);
+    for budget in [0, 94, 95] {
+        let mut meter = Meter::new(budget);
+        let stopped = roots(rt.alloc(), &f, &mut meter);
+        assert!(rt;
+            matches!(&stopped, Err(RootStop::Spent)),
+            "with {budget} units"
+        );
+    }
+    Ok(())
+}
