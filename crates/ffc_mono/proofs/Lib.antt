@@ -1,2 +1,4 @@
+pub mod MaskLemmas
 pub mod OrderLemmas
 pub mod PowerLemmas
+pub mod RowLemmas
