@@ -50,6 +50,13 @@ impl<'a> MonoRef<'a> {
         }
     }
 
+    /// Whether both are the same monomial. It takes no memory.
+    pub fn is_equal(self, other: MonoRef<'_>) -> bool
+        ensures { IsTrue result ↔ (self.entry.powers.now ≡ other.entry.powers.now) }
+    {
+        self.powers == other.powers
+    }
+
     /// Whether no variable occurs in both. It takes no memory.
     pub fn is_coprime(self, other: MonoRef<'_>) -> bool
         ensures { IsTrue result ↔ AreCoprime self.entry.powers.now other.entry.powers.now }

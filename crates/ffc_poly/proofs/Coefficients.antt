@@ -1,5 +1,5 @@
 -- What the list of an ordered polynomial says of its coefficients.
-use Rattle.std.proofs.Common.{◌≡◌, ◌≢◌, ℕ, suc, ◌+◌, ◌%◌, ◌<◌, ◌≤◌, cond, List, [], ◌∷◌, ◌++◌, length, refl, sym, ap, ◌∙◌, subst, inl, inr, arith, mod-eq_of_lt, Result, Ok, Err, IfErr, IsErrOf}
+use Rattle.std.proofs.Common.{◌≡◌, ◌≢◌, ℕ, zero, suc, get_or, ◌+◌, ◌%◌, ◌<◌, ◌≤◌, cond, List, [], ◌∷◌, ◌++◌, length, refl, sym, ap, ◌∙◌, subst, inl, inr, arith, mod-eq_of_lt, Result, Ok, Err, IfErr, IsErrOf}
 use Rattle.std.proofs.Math.Nat.{zero-mod}
 use Rattle.std.proofs.lemmas.Bool.{cond-true, cond-false}
 use Rattle.std.proofs.lemmas.Cmp.{tied_itself}
@@ -52,6 +52,16 @@ pub ProductFits-append : (limit : ℕ) (x y b : Terms) → ProductFits limit (x 
 ProductFits-append limit [] y b h = (tt, h)
 ProductFits-append limit (t ∷ x) y b h =
     let rest = ProductFits-append limit x y b h.1 in ((h.0, rest.0), rest.1)
+
+pub ProductFits-at : (limit : ℕ) (a b : Terms) (i : ℕ) → ProductFits limit a b → i < length a → RowFits limit (get_or a i (0, [])).1 b
+ProductFits-at limit [] b i h g = absurd (omega arith)
+ProductFits-at limit (t ∷ a) b zero h g = h.0
+ProductFits-at limit (t ∷ a) b (suc i) h g = ProductFits-at limit a b i h.1 (omega arith)
+
+pub IsOrdered-at : (p : ℕ) (cmp : Monomial → Monomial → Ordering) (limit : ℕ) (a : Terms) (i : ℕ) → IsOrdered p cmp limit a → i < length a → (0 < (get_or a i (0, [])).0) × ((get_or a i (0, [])).0 < p)
+IsOrdered-at p cmp limit [] i h g = absurd (omega arith)
+IsOrdered-at p cmp limit (t ∷ a) zero h g = (h.0, h.1)
+IsOrdered-at p cmp limit (t ∷ a) (suc i) h g = IsOrdered-at p cmp limit a i h.5 (omega arith)
 
 pub ProductFits-nothing : (limit : ℕ) (a : Terms) → ProductFits limit a []
 ProductFits-nothing limit [] = tt

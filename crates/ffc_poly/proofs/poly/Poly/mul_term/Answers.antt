@@ -1,12 +1,11 @@
-use Rattle.std.proofs.Common.{◌≡◌, [], ◌∷◌, ◌%◌, length, refl, sym, ap, ◌∙◌, subst, arith, inl, inr}
+use Rattle.std.proofs.Common.{◌≡◌, [], ◌∷◌, ◌%◌, length, refl, sym, ap, ap₂, ◌∙◌, subst, subst₂, arith, inl, inr}
 use Rattle.std.proofs.lemmas.Bool.{false≢true}
 use Rattle.ffc_ring.specs.Monomial.{degree}
 use Rattle.ffc_ring.specs.Polynomial.{written, PassesDegree}
 use Rattle.ffc_mono.specs.declared.mono.TheConstants.{DEGREE_LIMIT}
 use Rattle.ffc_poly.specs.Ordered.{residues, IsOrdered, RowFits, HasDegree, AreWithin, times}
 use Rattle.ffc_poly.proofs.Coefficients.{PassesDegree-within, PassesDegree-reached_term, RowFits-within}
-use Rattle.ffc_poly.proofs.Lists.{length-residues}
-use Rattle.ffc_poly.proofs.Products.{IsOrdered-times, SamePolynomial-times}
+use Rattle.ffc_poly.proofs.ProductLemmas.{IsOrdered-times, SamePolynomial-times}
 use Rattle.ffc_poly.proofs.Clauses.{nothing_times, value_of_term, no_degree_ok, no_degree_memory, length-times}
 use Rattle.ffc_poly.proofs.poly.Poly.mul_term.Goals as goal
 
@@ -25,11 +24,11 @@ returns-then-degree-greatest_degree-gt-DEGREE_LIMIT-clause-degree_over g c =
     let m = c.args.m.now in
     let now = c.args.self.now in
     let reached : HasDegree c.greatest_degree.result now = elim c.greatest_degree.ensures.reached [
-      | inl none ↦ absurd (false≢true (c.if-is_zero.ensures.1 (sym c.terms.ensures.value ∙ ap (residues value) none)))
-      | inr found ↦ subst (HasDegree c.greatest_degree.result) c.terms.ensures.value found
+      | inl none ↦ absurd (false≢true (c.if-is_zero.ensures.1 (sym c.listed.ensures.value ∙ none)))
+      | inr found ↦ subst (HasDegree c.greatest_degree.result) c.listed.ensures.value found
     ] in (
       λ _. PassesDegree-reached_term p cmp g.met.O.MonoOrder.laws DEGREE_LIMIT DEGREE_LIMIT k m c.greatest_degree.result now (λ e. c.if-residue-eq0.false (c.residue.ensures.value ∙ e)) (g.met.F.Field.below c.args.c)
-          c.terms.ensures.ordered reached (omega (arith, c.if-degree-greatest_degree-gt-DEGREE_LIMIT.true, c.degree.ensures.value)),
+          c.listed.ensures.ordered reached (omega (arith, c.if-degree-greatest_degree-gt-DEGREE_LIMIT.true, c.degree.ensures.value)),
       λ _. refl,
     )
 
@@ -41,8 +40,8 @@ times_term-requires g c =
     let k = value c.args.c in
     let m = c.args.m.now in
     let now = c.args.self.now in
-    subst (RowFits DEGREE_LIMIT m) (sym c.terms-2.ensures.value)
-    (RowFits-within DEGREE_LIMIT c.greatest_degree.result m now (subst (AreWithin c.greatest_degree.result) c.terms.ensures.value c.greatest_degree.ensures.within)
+    subst₂ (RowFits DEGREE_LIMIT) (sym c.as_ref.ensures) (sym c.listed-2.ensures.value)
+    (RowFits-within DEGREE_LIMIT c.greatest_degree.result m now (subst (AreWithin c.greatest_degree.result) c.listed.ensures.value c.greatest_degree.ensures.within)
     (omega (arith, c.if-degree-greatest_degree-gt-DEGREE_LIMIT.false, c.degree.ensures.value)))
 
 pub returns-in_err-terms-clause-degree_over : goal.returns-in_err-terms-clause-degree_over
@@ -54,7 +53,7 @@ returns-in_err-terms-clause-degree_over g c =
     let m = c.args.m.now in
     let now = c.args.self.now in
     let within : PassesDegree p DEGREE_LIMIT ((k, m) ∷ []) now → ⊥ =
-    PassesDegree-within p DEGREE_LIMIT (degree m) c.greatest_degree.result ((k, m) ∷ []) now (omega arith, tt) (subst (AreWithin c.greatest_degree.result) c.terms.ensures.value c.greatest_degree.ensures.within)
+    PassesDegree-within p DEGREE_LIMIT (degree m) c.greatest_degree.result ((k, m) ∷ []) now (omega arith, tt) (subst (AreWithin c.greatest_degree.result) c.listed.ensures.value c.greatest_degree.ensures.within)
     (omega (arith, c.if-degree-greatest_degree-gt-DEGREE_LIMIT.false, c.degree.ensures.value)) in
     (λ e. absurd (no_degree_memory c.from_residual.result c.from_residual.ensures.1 e), λ d. absurd (within d))
 
@@ -66,13 +65,13 @@ invariant_of-result g c =
     let k = value c.args.c in
     let m = c.args.m.now in
     let now = c.args.self.now in
-    let out : residues value c.in_ok-terms.terms.items ≡ times p k m now = c.in_ok-terms.ensures ∙ ap (times p k m) c.terms-2.ensures.value in
+    let out : c.in_ok-terms.terms ≡ times p k m now = c.in_ok-terms.ensures ∙ ap₂ (times p k) c.as_ref.ensures c.listed-2.ensures.value in
     let row : RowFits DEGREE_LIMIT m now =
-    RowFits-within DEGREE_LIMIT c.greatest_degree.result m now (subst (AreWithin c.greatest_degree.result) c.terms.ensures.value c.greatest_degree.ensures.within)
+    RowFits-within DEGREE_LIMIT c.greatest_degree.result m now (subst (AreWithin c.greatest_degree.result) c.listed.ensures.value c.greatest_degree.ensures.within)
     (omega (arith, c.if-degree-greatest_degree-gt-DEGREE_LIMIT.false, c.degree.ensures.value)) in (
       subst (IsOrdered p cmp DEGREE_LIMIT) (sym out)
-          (IsOrdered-times p g.met.F.Field.prime cmp g.met.O.MonoOrder.laws DEGREE_LIMIT k (λ e. c.if-residue-eq0.false (c.residue.ensures.value ∙ e)) (g.met.F.Field.below c.args.c) m c.degree.ensures.monomial now c.terms.ensures.ordered row),
-      omega (arith, length-residues value c.in_ok-terms.terms.items, ap length out, length-times p k m now, c.terms.ensures.fits),
+          (IsOrdered-times p g.met.F.Field.prime cmp g.met.O.MonoOrder.laws DEGREE_LIMIT k (λ e. c.if-residue-eq0.false (c.residue.ensures.value ∙ e)) (g.met.F.Field.below c.args.c) m c.degree.ensures.monomial now c.listed.ensures.ordered row),
+      omega (arith, ap length out, length-times p k m now, c.listed.ensures.fits),
     )
 
 pub returns-clause-product : goal.returns-clause-product
@@ -83,7 +82,7 @@ returns-clause-product g c =
     let k = value c.args.c in
     let m = c.args.m.now in
     let now = c.args.self.now in
-    let out : residues value c.in_ok-terms.terms.items ≡ times p k m now = c.in_ok-terms.ensures ∙ ap (times p k m) c.terms-2.ensures.value in
+    let out : c.in_ok-terms.terms ≡ times p k m now = c.in_ok-terms.ensures ∙ ap₂ (times p k) c.as_ref.ensures c.listed-2.ensures.value in
     λ n. ap (λ w. written w n % p) out ∙ SamePolynomial-times p k m now n
 
 pub returns-clause-value : goal.returns-clause-value
@@ -94,8 +93,8 @@ returns-clause-value g c =
     let k = value c.args.c in
     let m = c.args.m.now in
     let now = c.args.self.now in
-    let out : residues value c.in_ok-terms.terms.items ≡ times p k m now = c.in_ok-terms.ensures ∙ ap (times p k m) c.terms-2.ensures.value in
-    value_of_term p k m (residues value c.in_ok-terms.terms.items) now (λ n. ap (λ w. written w n % p) out ∙ SamePolynomial-times p k m now n)
+    let out : c.in_ok-terms.terms ≡ times p k m now = c.in_ok-terms.ensures ∙ ap₂ (times p k) c.as_ref.ensures c.listed-2.ensures.value in
+    value_of_term p k m (c.in_ok-terms.terms) now (λ n. ap (λ w. written w n % p) out ∙ SamePolynomial-times p k m now n)
 
 pub returns-clause-degree_over : goal.returns-clause-degree_over
 returns-clause-degree_over g c =
@@ -106,6 +105,6 @@ returns-clause-degree_over g c =
     let m = c.args.m.now in
     let now = c.args.self.now in
     let within : PassesDegree p DEGREE_LIMIT ((k, m) ∷ []) now → ⊥ =
-    PassesDegree-within p DEGREE_LIMIT (degree m) c.greatest_degree.result ((k, m) ∷ []) now (omega arith, tt) (subst (AreWithin c.greatest_degree.result) c.terms.ensures.value c.greatest_degree.ensures.within)
+    PassesDegree-within p DEGREE_LIMIT (degree m) c.greatest_degree.result ((k, m) ∷ []) now (omega arith, tt) (subst (AreWithin c.greatest_degree.result) c.listed.ensures.value c.greatest_degree.ensures.within)
     (omega (arith, c.if-degree-greatest_degree-gt-DEGREE_LIMIT.false, c.degree.ensures.value)) in
     (λ e. absurd (no_degree_ok _ e), λ d. absurd (within d))
