@@ -4,7 +4,7 @@ use Rattle.std.proofs.lemmas.Nat.{mul-mod_second}
 use Rattle.ffc_field.specs.Modular.{add_mod, sub_mod, mul_mod, neg_mod}
 use Rattle.ffc_ring.specs.Monomial.{Monomial, mono_value, mono_mul}
 use Rattle.ffc_ring.specs.Polynomial.{Terms, written, coefficient, SamePolynomial, term_product, product, scaled, difference, value_sum, poly_value, PassesDegree}
-use Rattle.ffc_ring.proofs.PolynomialLemmas.{weighted, weighted-term_product, SamePolynomial-from_weighted, one_value, poly_value-append, poly_value-product, poly_value-difference, value_sum-term_product, same_sums, cases_monomial, written-at, written-off}
+use Rattle.ffc_ring.proofs.PolynomialLemmas.{weighted, weighted-term_product, SamePolynomial-from_weighted, one_value, poly_value-append, poly_value-product, poly_value-difference, value_sum-term_product, same_sums, coefficient-scaled, cases_monomial, written-at, written-off}
 use Rattle.ffc_poly.specs.declared.stop.PolyStop.{PolyStop}
 use Rattle.ffc_poly.specs.declared.stop.PolyStop.TheVariants.{DegreeOver, TermsOver, Memory}
 use Rattle.ffc_poly.specs.Ordered.{residues, multiplied, times}
@@ -106,3 +106,12 @@ pub SamePolynomial-multiplied : (p c : ℕ) (ts : Terms) → SamePolynomial p (m
 SamePolynomial-multiplied p c ts =
     SamePolynomial-from_weighted p (multiplied p c ts) (scaled c ts)
     (λ g. weighted-multiplied p c g ts ∙ ap (λ k. k % p) (sym (weighted-term_product g c [] ts)))
+
+pub length-term_product : (c : ℕ) (m : Monomial) (ts : Terms) → length (term_product c m ts) ≡ length ts
+length-term_product c m [] = refl
+length-term_product c m (t ∷ ts) = ap suc (length-term_product c m ts)
+
+pub same_differences : (p : ℕ) (a b c : Terms) → SamePolynomial p b c → SamePolynomial p (difference p a b) (difference p a c)
+same_differences p a b c same =
+    same_sums p a a (scaled (p - 1) b) (scaled (p - 1) c) (λ m. refl)
+    (λ m. coefficient-scaled p (p - 1) b m ∙ ap (mul_mod p (p - 1)) (same m) ∙ sym (coefficient-scaled p (p - 1) c m))

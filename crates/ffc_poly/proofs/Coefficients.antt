@@ -131,6 +131,23 @@ removed_behind p all t ts (n ∷ ns) into d =
           ((λ e. into n d.0 (coefficient-other p t ts n (λ k. there (sym k)) ∙ e)), IsNoneOf-removed t.1 n ns d.1, removed_behind p all t ts ns into d.2)
     ]
 
+-- so many different monomials with coefficients need as many terms
+monomials_no_more : (p : ℕ) (all ts : Terms) (ns : List Monomial) → ((m : Monomial) → coefficient p all m ≢ 0 → coefficient p ts m ≢ 0) → AreItsMonomials p all ns → length ns ≤ length ts
+monomials_no_more p all [] [] into d = omega arith
+monomials_no_more p all [] (n ∷ ns) into d = absurd (into n d.0 (coefficient-none p n))
+monomials_no_more p all (t ∷ ts) ns into d =
+    omega (arith, length-removed p all t.1 ns d, monomials_no_more p ts ts (removed t.1 ns) (λ m h. h) (removed_behind p all t ts ns into d))
+
+pub PassesTerms-length : (p limit : ℕ) (ts : Terms) → length ts ≤ limit → PassesTerms p limit ts → ⊥
+PassesTerms-length p limit ts h (ms, long, d) = omega (arith, monomials_no_more p ts ts ms (λ m k. k) d)
+
+AreItsMonomials-same : (p : ℕ) (ts us : Terms) → SamePolynomial p ts us → (ms : List Monomial) → AreItsMonomials p ts ms → AreItsMonomials p us ms
+AreItsMonomials-same p ts us same [] d = tt
+AreItsMonomials-same p ts us same (m ∷ ms) d = ((λ e. d.0 (same m ∙ e)), d.1, AreItsMonomials-same p ts us same ms d.2)
+
+pub PassesTerms-same : (p limit : ℕ) (ts us : Terms) → SamePolynomial p ts us → PassesTerms p limit ts → PassesTerms p limit us
+PassesTerms-same p limit ts us same (ms, long, d) = (ms, long, AreItsMonomials-same p ts us same ms d)
+
 module _ (p : ℕ) (cmp : Monomial → Monomial → Ordering) (laws : IsMonomialOrder cmp) (limit : ℕ) where
   pub not_itself : (m n : Monomial) → cmp m n ≡ Greater → m ≢ n
   not_itself m n e same =

@@ -1,12 +1,12 @@
 -- Coefficients and monomials side by side, as lists of terms.
-use Rattle.std.proofs.Common.{◌≡◌, ℕ, zero, suc, ◌+◌, ◌-◌, ◌<◌, ◌≤◌, List, [], ◌∷◌, ◌++◌, map, length, get_or, take, drop, refl, sym, ap, ap₂, ◌∙◌, arith, min, take_all, length-append, length-drop}
+use Rattle.std.proofs.Common.{◌≡◌, ℕ, zero, suc, ◌+◌, ◌-◌, ◌<◌, ◌≤◌, List, [], ◌∷◌, ◌++◌, map, length, get_or, take, drop, refl, sym, ap, ap₂, ◌∙◌, arith, min, take_all, append_assoc, length-append, length-drop}
 use Rattle.std.proofs.Math.Seq.{take-add, drop-nil}
 use Rattle.std.proofs.lemmas.List.{length-take, drop_more}
 use Rattle.std.specs.Prelude.{slice_range}
 use Rattle.ffc_field.specs.Modular.{mul_mod}
 use Rattle.ffc_ring.specs.Monomial.{Monomial}
 use Rattle.ffc_ring.specs.Polynomial.{Terms}
-use Rattle.ffc_poly.specs.Ordered.{zipped, values_of, multiplied}
+use Rattle.ffc_poly.specs.Ordered.{sum_of, zipped, values_of, multiplied}
 
 module _ {F : Type 0} (value : F → ℕ) where
   pub length-zipped : (cs : List F) (ms : List Monomial) → length cs ≡ length ms → length (zipped value cs ms) ≡ length ms
@@ -110,3 +110,7 @@ whole_range xs n e = take_all (n - 0) xs (omega arith)
 pub first_and_rest : (ts : Terms) → 0 < length ts → get_or ts 0 (0, []) ∷ drop 1 ts ≡ ts
 first_and_rest [] h = absurd (omega arith)
 first_and_rest (t ∷ ts) h = refl
+
+pub sum_of-append : (xs ys : List Terms) → sum_of (xs ++ ys) ≡ sum_of xs ++ sum_of ys
+sum_of-append [] ys = refl
+sum_of-append (ts ∷ xs) ys = ap (λ k. ts ++ k) (sum_of-append xs ys) ∙ sym (append_assoc ts (sum_of xs) (sum_of ys))

@@ -1,5 +1,5 @@
 -- Polynomials as lists of terms in strictly decreasing order (Cox, Little and O'Shea, chapter 2, section 2).
-use Rattle.std.specs.Prelude.{◌≡◌, ◌≢◌, ℕ, zero, suc, ◌+◌, ◌<◌, ◌≤◌, ◌⊎◌, List, [], ◌∷◌, map, ◌==◌, if◌then◌else◌}
+use Rattle.std.specs.Prelude.{◌≡◌, ◌≢◌, ℕ, zero, suc, ◌+◌, ◌<◌, ◌≤◌, ◌⊎◌, List, [], ◌∷◌, ◌++◌, map, ◌==◌, if◌then◌else◌}
 use Rattle.std.specs.declared.cmp.Ordering.{Ordering}
 use Rattle.std.specs.declared.cmp.Ordering.TheVariants.{Greater}
 use Rattle.ffc_field.specs.Modular.{mul_mod}
@@ -10,6 +10,11 @@ use Rattle.ffc_ring.specs.Polynomial.{Terms, coefficient, SamePolynomial, Passes
 abbrev pub residues : {F : Type 0} → (F → ℕ) → List (F × Monomial) → Terms
 residues value [] = []
 residues value (t ∷ ts) = (value t.0, t.1) ∷ residues value ts
+
+-- the sum of polynomials: one list of terms after another
+abbrev pub sum_of : List Terms → Terms
+sum_of [] = []
+sum_of (ts ∷ tss) = ts ++ sum_of tss
 
 -- coefficients and monomials side by side
 abbrev pub zipped : {F : Type 0} → (F → ℕ) → List F → List Monomial → Terms

@@ -1,9 +1,9 @@
 //! Polynomials.
-ghost use Rattle.std.specs.Prelude.{◌≡◌, ◌≢◌, ℕ, ◌*◌, ◌<◌, ◌≤◌, ◌↔◌, List, [], ◌∷◌, ◌++◌, length, get_or, IsTrue, IsOk, IsNone, IfOk, IfSome, OnOk, IsErrOf, IfErr};
+ghost use Rattle.std.specs.Prelude.{◌≡◌, ◌≢◌, ℕ, ◌+◌, ◌*◌, ◌<◌, ◌≤◌, ◌↔◌, List, [], ◌∷◌, ◌++◌, length, get_or, IsTrue, IsOk, IsNone, IfOk, IfSome, OnOk, IsErrOf, IfErr};
 ghost use Rattle.ffc_field.specs.Modular.{add_mod, sub_mod, mul_mod};
 ghost use Rattle.ffc_ring.specs.Monomial.{mono_value};
 ghost use Rattle.ffc_ring.specs.Polynomial.{SamePolynomial, term_product, product, scaled, difference, poly_value, PassesDegree, PassesTerms};
-ghost use Rattle.ffc_poly.specs.Ordered.{residues, IsOrdered, IsLeading, IsConstant, IsWithinTerms, IsOverTerms, point_of};
+ghost use Rattle.ffc_poly.specs.Ordered.{residues, sum_of, IsOrdered, IsLeading, IsConstant, IsWithinTerms, IsOverTerms, point_of};
 
 use crate::stop::PolyStop;
 use crate::products;
@@ -112,9 +112,39 @@ impl<F: Field, O: MonoOrder> Poly<F, O> {
         ensures sum { IfOk result (λ r. SamePolynomial F.ORDER r (residues F.value terms.now)) }
         ensures fits { OnOk result (PassesTerms F.ORDER TERM_LIMIT (residues F.value terms.now) → ⊥) }
         ensures terms_over { IsErrOf result PolyStop.TermsOver → PassesTerms F.ORDER TERM_LIMIT (residues F.value terms.now) }
+        ensures short { length terms.now ≤ TERM_LIMIT → IsErrOf result PolyStop.TermsOver → ⊥ }
         ensures no_product { IsErrOf result PolyStop.DegreeOver → ⊥ }
     {
         Self::within(sums::sum_of::<F, O>(alloc, terms)?)
+    }
+
+    /// The sum of any polynomials, merged by halves. With n terms in k of them it takes at most n comparisons for each
+    /// halving of k.
+    pub fn sum(alloc: Global, parts: &[Self]) -> Result<Self, PolyStop>
+        ensures sum { IfOk result (λ r. SamePolynomial F.ORDER r (sum_of parts.now)) }
+        ensures fits { OnOk result (PassesTerms F.ORDER TERM_LIMIT (sum_of parts.now) → ⊥) }
+        ensures terms_over { IsErrOf result PolyStop.TermsOver → PassesTerms F.ORDER TERM_LIMIT (sum_of parts.now) }
+        ensures short { length (sum_of parts.now) ≤ TERM_LIMIT → IsErrOf result PolyStop.TermsOver → ⊥ }
+        ensures no_product { IsErrOf result PolyStop.DegreeOver → ⊥ }
+    {
+        Self::within(Self::merged(alloc, parts)?)
+    }
+
+    /// The terms of the sum.
+    fn merged(alloc: Global, parts: &[Self]) -> Result<TermList<F>, AllocError>
+        ensures ordered { IfOk result (λ v. IsOrdered F.ORDER O.cmp DEGREE_LIMIT v) }
+        ensures same { IfOk result (λ v. SamePolynomial F.ORDER v (sum_of parts.now)) }
+    {
+        match parts {
+            [] => Ok(TermList::new(alloc)),
+            [part] => part.listed().clone(),
+            _ => {
+                let (front, back) = parts.split_at(parts.len() / 2);
+                let front = Self::merged(alloc, front)?;
+                let back = Self::merged(alloc, back)?;
+                sums::combined::<F, O>(alloc, &front, F::of(1), &back)
+            }
+        }
     }
 
     /// The terms, in strictly decreasing order.
@@ -171,6 +201,7 @@ impl<F: Field, O: MonoOrder> Poly<F, O> {
             ≡ add_mod F.ORDER (poly_value F.ORDER point self.now) (poly_value F.ORDER point other.now)) }
         ensures fits { OnOk result (PassesTerms F.ORDER TERM_LIMIT (self.now ++ other.now) → ⊥) }
         ensures terms_over { IsErrOf result PolyStop.TermsOver → PassesTerms F.ORDER TERM_LIMIT (self.now ++ other.now) }
+        ensures short { length self.now + length other.now ≤ TERM_LIMIT → IsErrOf result PolyStop.TermsOver → ⊥ }
         ensures no_product { IsErrOf result PolyStop.DegreeOver → ⊥ }
     {
         self.plus_times(F::of(1), other)
@@ -183,9 +214,38 @@ impl<F: Field, O: MonoOrder> Poly<F, O> {
             ≡ sub_mod F.ORDER (poly_value F.ORDER point self.now) (poly_value F.ORDER point other.now)) }
         ensures fits { OnOk result (PassesTerms F.ORDER TERM_LIMIT (difference F.ORDER self.now other.now) → ⊥) }
         ensures terms_over { IsErrOf result PolyStop.TermsOver → PassesTerms F.ORDER TERM_LIMIT (difference F.ORDER self.now other.now) }
+        ensures short { length self.now + length other.now ≤ TERM_LIMIT → IsErrOf result PolyStop.TermsOver → ⊥ }
         ensures no_product { IsErrOf result PolyStop.DegreeOver → ⊥ }
     {
         self.plus_times(F::of(1).neg(), other)
+    }
+
+    /// self + c*m*other. The multiple is made in one pass, and merged in another.
+    pub fn add_multiple(&self, c: F, m: MonoRef<'_>, other: &Self) -> Result<Self, PolyStop>
+        ensures sum { IfOk result (λ r. SamePolynomial F.ORDER r (self.now ++ term_product (F.value c) m.entry.powers.now other.now)) }
+        ensures fits { OnOk result (PassesTerms F.ORDER TERM_LIMIT (self.now ++ term_product (F.value c) m.entry.powers.now other.now) → ⊥) }
+        ensures terms_over { IsErrOf result PolyStop.TermsOver
+            → PassesTerms F.ORDER TERM_LIMIT (self.now ++ term_product (F.value c) m.entry.powers.now other.now) }
+        ensures short { length self.now + length other.now ≤ TERM_LIMIT → IsErrOf result PolyStop.TermsOver → ⊥ }
+        ensures degree_over { IsErrOf result PolyStop.DegreeOver ↔ PassesDegree F.ORDER DEGREE_LIMIT ((F.value c, m.entry.powers.now) ∷ []) other.now }
+    {
+        let multiple = other.times(c, m)?;
+        self.add(&multiple)
+    }
+
+    /// self - c*m*other. The multiple is made in one pass, and merged in another.
+    pub fn sub_multiple(&self, c: F, m: MonoRef<'_>, other: &Self) -> Result<Self, PolyStop>
+        ensures difference { IfOk result (λ r. SamePolynomial F.ORDER r
+            (difference F.ORDER self.now (term_product (F.value c) m.entry.powers.now other.now))) }
+        ensures fits { OnOk result (PassesTerms F.ORDER TERM_LIMIT
+            (difference F.ORDER self.now (term_product (F.value c) m.entry.powers.now other.now)) → ⊥) }
+        ensures terms_over { IsErrOf result PolyStop.TermsOver
+            → PassesTerms F.ORDER TERM_LIMIT (difference F.ORDER self.now (term_product (F.value c) m.entry.powers.now other.now)) }
+        ensures short { length self.now + length other.now ≤ TERM_LIMIT → IsErrOf result PolyStop.TermsOver → ⊥ }
+        ensures degree_over { IsErrOf result PolyStop.DegreeOver ↔ PassesDegree F.ORDER DEGREE_LIMIT ((F.value c, m.entry.powers.now) ∷ []) other.now }
+    {
+        let multiple = other.times(c, m)?;
+        self.sub(&multiple)
     }
 
     /// The product. Whether a product of two terms has too high a degree is seen before. Then the rows, which are the
@@ -223,6 +283,18 @@ impl<F: Field, O: MonoOrder> Poly<F, O> {
         ensures no_more_terms { IsErrOf result PolyStop.TermsOver → ⊥ }
         ensures degree_over { IsErrOf result PolyStop.DegreeOver ↔ PassesDegree F.ORDER DEGREE_LIMIT ((F.value c, m.now) ∷ []) self.now }
     {
+        self.times(c, m.as_ref())
+    }
+
+    /// The product with c and a borrowed monomial, in one pass.
+    pub fn times(&self, c: F, m: MonoRef<'_>) -> Result<Self, PolyStop>
+        ensures product { IfOk result (λ r. SamePolynomial F.ORDER r (term_product (F.value c) m.entry.powers.now self.now)) }
+        ensures value { IfOk result (λ r. (point : ℕ → ℕ) → poly_value F.ORDER point r
+            ≡ mul_mod F.ORDER (F.value c * mono_value point m.entry.powers.now) (poly_value F.ORDER point self.now)) }
+        ensures no_longer { IfOk result (λ r. length r ≤ length self.now) }
+        ensures no_more_terms { IsErrOf result PolyStop.TermsOver → ⊥ }
+        ensures degree_over { IsErrOf result PolyStop.DegreeOver ↔ PassesDegree F.ORDER DEGREE_LIMIT ((F.value c, m.entry.powers.now) ∷ []) self.now }
+    {
         let alloc = self.terms.allocator();
         if c.residue() == 0 {
             return Ok(Self::zero(alloc));
@@ -233,7 +305,7 @@ impl<F: Field, O: MonoOrder> Poly<F, O> {
         if m.degree() + products::greatest_degree(self.listed()) > DEGREE_LIMIT {
             return Err(PolyStop::DegreeOver);
         }
-        let terms = products::times_term(alloc, c, m.as_ref(), self.listed())?;
+        let terms = products::times_term(alloc, c, m, self.listed())?;
         Ok(Poly {
             terms,
             order: PhantomData,

@@ -1,4 +1,4 @@
-use Rattle.std.proofs.Common.{◌≡◌, [], ◌∷◌, ◌%◌, length, refl, sym, ap, ap₂, ◌∙◌, subst, subst₂, arith, inl, inr}
+use Rattle.std.proofs.Common.{◌≡◌, [], ◌∷◌, ◌%◌, length, refl, sym, ap, ◌∙◌, subst, arith, inl, inr}
 use Rattle.std.proofs.lemmas.Bool.{false≢true}
 use Rattle.ffc_ring.specs.Monomial.{degree}
 use Rattle.ffc_ring.specs.Polynomial.{written, PassesDegree}
@@ -7,13 +7,13 @@ use Rattle.ffc_poly.specs.Ordered.{residues, IsOrdered, RowFits, HasDegree, AreW
 use Rattle.ffc_poly.proofs.Coefficients.{PassesDegree-within, PassesDegree-reached_term, RowFits-within}
 use Rattle.ffc_poly.proofs.ProductLemmas.{IsOrdered-times, SamePolynomial-times}
 use Rattle.ffc_poly.proofs.Clauses.{nothing_times, value_of_term, no_degree_ok, no_degree_memory, length-times}
-use Rattle.ffc_poly.proofs.poly.Poly.mul_term.Goals as goal
+use Rattle.ffc_poly.proofs.poly.Poly.times.Goals as goal
 
 pub returns-then-residue-eq0-clause-product : goal.returns-then-residue-eq0-clause-product
 returns-then-residue-eq0-clause-product g c =
     let p = g.F.Field.ORDER in
     let nothing : g.F.Field.value c.args.c ≡ 0 = sym c.residue.ensures.value ∙ c.if-residue-eq0.true in
-    λ n. ap (λ k. written k n % p) c.zero.ensures ∙ nothing_times p (g.F.Field.value c.args.c) c.args.m.now c.args.self.now nothing n
+    λ n. ap (λ k. written k n % p) c.zero.ensures ∙ nothing_times p (g.F.Field.value c.args.c) c.args.m.powers.now c.args.self.now nothing n
 
 pub returns-then-degree-greatest_degree-gt-DEGREE_LIMIT-clause-degree_over : goal.returns-then-degree-greatest_degree-gt-DEGREE_LIMIT-clause-degree_over
 returns-then-degree-greatest_degree-gt-DEGREE_LIMIT-clause-degree_over g c =
@@ -21,7 +21,7 @@ returns-then-degree-greatest_degree-gt-DEGREE_LIMIT-clause-degree_over g c =
     let p = g.F.Field.ORDER in
     let cmp = g.O.MonoOrder.cmp in
     let k = value c.args.c in
-    let m = c.args.m.now in
+    let m = c.args.m.powers.now in
     let now = c.args.self.now in
     let reached : HasDegree c.greatest_degree.result now = elim c.greatest_degree.ensures.reached [
       | inl none ↦ absurd (false≢true (c.if-is_zero.ensures.1 (sym c.listed.ensures.value ∙ none)))
@@ -38,9 +38,9 @@ times_term-requires g c =
     let p = g.F.Field.ORDER in
     let cmp = g.O.MonoOrder.cmp in
     let k = value c.args.c in
-    let m = c.args.m.now in
+    let m = c.args.m.powers.now in
     let now = c.args.self.now in
-    subst₂ (RowFits DEGREE_LIMIT) (sym c.as_ref.ensures) (sym c.listed-2.ensures.value)
+    subst (RowFits DEGREE_LIMIT m) (sym c.listed-2.ensures.value)
     (RowFits-within DEGREE_LIMIT c.greatest_degree.result m now (subst (AreWithin c.greatest_degree.result) c.listed.ensures.value c.greatest_degree.ensures.within)
     (omega (arith, c.if-degree-greatest_degree-gt-DEGREE_LIMIT.false, c.degree.ensures.value)))
 
@@ -50,7 +50,7 @@ returns-in_err-terms-clause-degree_over g c =
     let p = g.F.Field.ORDER in
     let cmp = g.O.MonoOrder.cmp in
     let k = value c.args.c in
-    let m = c.args.m.now in
+    let m = c.args.m.powers.now in
     let now = c.args.self.now in
     let within : PassesDegree p DEGREE_LIMIT ((k, m) ∷ []) now → ⊥ =
     PassesDegree-within p DEGREE_LIMIT (degree m) c.greatest_degree.result ((k, m) ∷ []) now (omega arith, tt) (subst (AreWithin c.greatest_degree.result) c.listed.ensures.value c.greatest_degree.ensures.within)
@@ -63,14 +63,14 @@ invariant_of-result g c =
     let p = g.F.Field.ORDER in
     let cmp = g.O.MonoOrder.cmp in
     let k = value c.args.c in
-    let m = c.args.m.now in
+    let m = c.args.m.powers.now in
     let now = c.args.self.now in
-    let out : c.in_ok-terms.terms ≡ times p k m now = c.in_ok-terms.ensures ∙ ap₂ (times p k) c.as_ref.ensures c.listed-2.ensures.value in
+    let out : c.in_ok-terms.terms ≡ times p k m now = c.in_ok-terms.ensures ∙ ap (times p k m) c.listed-2.ensures.value in
     let row : RowFits DEGREE_LIMIT m now =
     RowFits-within DEGREE_LIMIT c.greatest_degree.result m now (subst (AreWithin c.greatest_degree.result) c.listed.ensures.value c.greatest_degree.ensures.within)
     (omega (arith, c.if-degree-greatest_degree-gt-DEGREE_LIMIT.false, c.degree.ensures.value)) in (
       subst (IsOrdered p cmp DEGREE_LIMIT) (sym out)
-          (IsOrdered-times p g.met.F.Field.prime cmp g.met.O.MonoOrder.laws DEGREE_LIMIT k (λ e. c.if-residue-eq0.false (c.residue.ensures.value ∙ e)) (g.met.F.Field.below c.args.c) m c.degree.ensures.monomial now c.listed.ensures.ordered row),
+          (IsOrdered-times p g.met.F.Field.prime cmp g.met.O.MonoOrder.laws DEGREE_LIMIT k (λ e. c.if-residue-eq0.false (c.residue.ensures.value ∙ e)) (g.met.F.Field.below c.args.c) m c.args.m.is_monomial now c.listed.ensures.ordered row),
       omega (arith, ap length out, length-times p k m now, c.listed.ensures.fits),
     )
 
@@ -80,9 +80,9 @@ returns-clause-product g c =
     let p = g.F.Field.ORDER in
     let cmp = g.O.MonoOrder.cmp in
     let k = value c.args.c in
-    let m = c.args.m.now in
+    let m = c.args.m.powers.now in
     let now = c.args.self.now in
-    let out : c.in_ok-terms.terms ≡ times p k m now = c.in_ok-terms.ensures ∙ ap₂ (times p k) c.as_ref.ensures c.listed-2.ensures.value in
+    let out : c.in_ok-terms.terms ≡ times p k m now = c.in_ok-terms.ensures ∙ ap (times p k m) c.listed-2.ensures.value in
     λ n. ap (λ w. written w n % p) out ∙ SamePolynomial-times p k m now n
 
 pub returns-clause-value : goal.returns-clause-value
@@ -91,9 +91,9 @@ returns-clause-value g c =
     let p = g.F.Field.ORDER in
     let cmp = g.O.MonoOrder.cmp in
     let k = value c.args.c in
-    let m = c.args.m.now in
+    let m = c.args.m.powers.now in
     let now = c.args.self.now in
-    let out : c.in_ok-terms.terms ≡ times p k m now = c.in_ok-terms.ensures ∙ ap₂ (times p k) c.as_ref.ensures c.listed-2.ensures.value in
+    let out : c.in_ok-terms.terms ≡ times p k m now = c.in_ok-terms.ensures ∙ ap (times p k m) c.listed-2.ensures.value in
     value_of_term p k m (c.in_ok-terms.terms) now (λ n. ap (λ w. written w n % p) out ∙ SamePolynomial-times p k m now n)
 
 pub returns-clause-degree_over : goal.returns-clause-degree_over
@@ -102,9 +102,19 @@ returns-clause-degree_over g c =
     let p = g.F.Field.ORDER in
     let cmp = g.O.MonoOrder.cmp in
     let k = value c.args.c in
-    let m = c.args.m.now in
+    let m = c.args.m.powers.now in
     let now = c.args.self.now in
     let within : PassesDegree p DEGREE_LIMIT ((k, m) ∷ []) now → ⊥ =
     PassesDegree-within p DEGREE_LIMIT (degree m) c.greatest_degree.result ((k, m) ∷ []) now (omega arith, tt) (subst (AreWithin c.greatest_degree.result) c.listed.ensures.value c.greatest_degree.ensures.within)
     (omega (arith, c.if-degree-greatest_degree-gt-DEGREE_LIMIT.false, c.degree.ensures.value)) in
     (λ e. absurd (no_degree_ok _ e), λ d. absurd (within d))
+
+pub returns-clause-no_longer : goal.returns-clause-no_longer
+returns-clause-no_longer g c =
+    let value = g.F.Field.value in
+    let p = g.F.Field.ORDER in
+    let k = value c.args.c in
+    let m = c.args.m.powers.now in
+    let now = c.args.self.now in
+    let out : c.in_ok-terms.terms ≡ times p k m now = c.in_ok-terms.ensures ∙ ap (times p k m) c.listed-2.ensures.value in
+    omega (arith, ap length out, length-times p k m now)
