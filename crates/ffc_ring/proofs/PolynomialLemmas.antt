@@ -2,13 +2,13 @@
 -- monomial, depends modulo p on the polynomial alone, and not on the list of terms that it is written as.
 -- A coefficient and a value at a point are such sums.
 use Rattle.std.proofs.Common.{◌≡◌, ◌≢◌, ◌⊎◌, ℕ, zero, suc, ◌+◌, ◌-◌, ◌*◌, ◌%◌, ◌<◌, ◌≤◌, Bool, true, false, cond, [], ◌∷◌, ◌++◌, length, refl, sym, ap, ap₂, ◌∙◌, inl, inr, eq-eqb, eqb-true, arith, mul_assoc, mul_left_comm, mul_comm, one-mul, mul-one, mul-add, add-mul, append_assoc, add_assoc}
-use Rattle.std.proofs.Math.Nat.{add-mod, add-mod-mod, mul-mod_right, mod-mod, mod-lt, add-mod_right, mod_self}
+use Rattle.std.proofs.Math.Nat.{add-mod, add-mod-mod, mul-mod_right, mod-mod, mod-lt, add-mod_right, mod_self, zero-mod}
 use Rattle.std.proofs.lemmas.Nat.{mul-mod_first, mul-mod_second, mul-mod}
 use Rattle.std.proofs.lemmas.Bool.{cond-true, cond-false, cases_Bool, and_parts, and_from, false≢true}
 use Rattle.ffc_field.specs.Modular.{add_mod, sub_mod, mul_mod}
 use Rattle.ffc_ring.specs.Monomial.{Monomial, IsMonomial, mono_mul, mono_value, same_monomial}
 use Rattle.ffc_ring.specs.Polynomial.{Terms, AreTerms, written, coefficient, SamePolynomial, term_product, product, scaled, difference, value_sum, poly_value}
-use Rattle.ffc_ring.proofs.MonomialLemmas.{mono_value-mono_mul, mono_mul_comm, mono_mul_assoc}
+use Rattle.ffc_ring.proofs.MonomialLemmas.{mono_value-mono_mul, mono_mul_comm, mono_mul_assoc, mono_mul_cancel}
 
 -- ---- the test for equality
 
@@ -365,3 +365,47 @@ pub product_with_one : (p : ℕ) (a : Terms) → SamePolynomial p (product ((1, 
 product_with_one p a =
     SamePolynomial-from_weighted p (product ((1, []) ∷ []) a) a
     (λ g. ap (λ k. k % p) (weighted-product g ((1, []) ∷ []) a ∙ omega (arith, one-mul (weighted g a))))
+
+-- ---- multiples by a term
+
+-- the shifted monomial weighs as the monomial did
+shifted_one : (m n k : Monomial) → IsMonomial m → IsMonomial n → IsMonomial k → one_at (mono_mul m n) (mono_mul m k) ≡ one_at n k
+shifted_one m n k v w u =
+    elim (cases_monomial k n) [
+      | inl same ↦
+          cond-true _ _ _ (same_monomial-equal (mono_mul m k) (mono_mul m n) (ap (mono_mul m) same))
+          ∙ sym (cond-true _ _ _ (same_monomial-equal k n same))
+      | inr other ↦
+          cond-false _ _ _ (same_monomial-other (mono_mul m k) (mono_mul m n) (λ e. other (mono_mul_cancel m k n v u w e)))
+          ∙ sym (cond-false _ _ _ (same_monomial-other k n other))
+    ]
+
+pub coefficient-term_product : (p c : ℕ) (m n : Monomial) (a : Terms) → IsMonomial m → IsMonomial n → AreTerms a → coefficient p (term_product c m a) (mono_mul m n) ≡ mul_mod p c (coefficient p a n)
+coefficient-term_product p c m n a v w u =
+    ap (λ k. k % p)
+    (written-is_weighted (term_product c m a) (mono_mul m n) ∙ weighted-term_product (one_at (mono_mul m n)) c m a
+    ∙ ap (λ k. c * k) (weighted-alike (λ k. one_at (mono_mul m n) (mono_mul m k)) (one_at n) a u (λ k x. shifted_one m n k v w x) ∙ sym (written-is_weighted a n)))
+    ∙ sym (mul-mod_second c (written a n) p)
+
+-- a monomial of the terms behind the first, whose product is another
+behind_first : (p : ℕ) (m k : Monomial) (t : ℕ × Monomial) (a : Terms) → IsMonomial t.1 × AreTerms a → mono_mul m t.1 ≢ k → (n : Monomial) × IsMonomial n × (coefficient p a n ≢ 0) × (k ≡ mono_mul m n) → (n : Monomial) × IsMonomial n × (coefficient p (t ∷ a) n ≢ 0) × (k ≡ mono_mul m n)
+behind_first p m k t a u there (n, w, some, e) =
+    (n, w, (λ none. some (sym (ap (λ x. x % p) (written-off n t a (λ same. there (ap (mono_mul m) same ∙ sym e)))) ∙ none)), e)
+
+pub shifted_monomial : (p c : ℕ) (m k : Monomial) (a : Terms) → IsMonomial m → AreTerms a → coefficient p (term_product c m a) k ≢ 0 → (n : Monomial) × IsMonomial n × (coefficient p a n ≢ 0) × (k ≡ mono_mul m n)
+shifted_monomial p c m k [] v u some = absurd (some (zero-mod p))
+shifted_monomial p c m k (t ∷ a) v u some =
+    elim (cases_monomial (mono_mul m t.1) k) [
+      | inl here ↦ (
+        t.1,
+        u.0,
+        (λ none.
+            some
+            (ap (coefficient p (term_product c m (t ∷ a))) (sym here) ∙ coefficient-term_product p c m t.1 (t ∷ a) v u.0 u ∙ ap (λ x. mul_mod p c x) none
+            ∙ ap (λ x. x % p) (omega arith) ∙ zero-mod p)),
+        sym here,
+      )
+      | inr there ↦
+          behind_first p m k t a u there
+          (shifted_monomial p c m k a v u.1 (λ none. some (ap (λ x. x % p) (written-off k (c * t.0, mono_mul m t.1) (term_product c m a) there) ∙ none)))
+    ]

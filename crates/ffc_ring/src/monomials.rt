@@ -1,5 +1,5 @@
 //! The laws of monomials.
-ghost use Rattle.ffc_ring.specs.MonomialLaws.{OneMonomial, ProductIsMonomial, ProductAddsExponents, LcmIsMonomial, LcmTakesGreater, ProductAddsDegrees, ProductCommutes, ProductAssociates, ProductWithOne, ProductCancels, DividesProduct, DivisorIsNoHigher, QuotientIsMonomial, QuotientTimesDivisor, ProductOfValues};
+ghost use Rattle.ffc_ring.specs.MonomialLaws.{OneMonomial, ProductIsMonomial, ProductAddsExponents, LcmIsMonomial, LcmTakesGreater, ProductAddsDegrees, ProductCommutes, ProductAssociates, ProductWithOne, ProductCancels, DividesProduct, DivisorIsNoHigher, QuotientIsMonomial, QuotientTimesDivisor, QuotientSubtractsExponents, QuotientSubtractsDegrees, DividesItself, DividesThrough, MutualDivisorsAreEqual, FirstDividesLcm, SecondDividesLcm, LcmDividesCommonMultiples, CoprimeLcmIsProduct, ProductOfValues};
 
 /// Monomials with equal exponents are equal.
 pub fn equal_exponents()
@@ -18,6 +18,10 @@ pub fn product()
 pub fn least_common_multiple()
     ensures monomial { LcmIsMonomial }
     ensures exponents { LcmTakesGreater }
+    ensures of_first { FirstDividesLcm }
+    ensures of_second { SecondDividesLcm }
+    ensures least { LcmDividesCommonMultiples }
+    ensures coprime { CoprimeLcmIsProduct }
 {}
 
 /// Products are those of a commutative monoid in which factors cancel.
@@ -34,4 +38,9 @@ pub fn divisibility()
     ensures degree { DivisorIsNoHigher }
     ensures quotient_monomial { QuotientIsMonomial }
     ensures quotient { QuotientTimesDivisor }
+    ensures quotient_exponents { QuotientSubtractsExponents }
+    ensures quotient_degree { QuotientSubtractsDegrees }
+    ensures itself { DividesItself }
+    ensures through { DividesThrough }
+    ensures mutual { MutualDivisorsAreEqual }
 {}
