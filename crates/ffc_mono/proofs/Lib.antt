@@ -1,3 +1,4 @@
+pub mod LeadingLemmas
 pub mod MaskLemmas
 pub mod OrderLemmas
 pub mod PowerLemmas

@@ -1,5 +1,7 @@
 pub mod EqualityLaws
+pub mod Graded
 pub mod Joining
+pub mod Leading
 pub mod Masks
 pub mod MonomialOrder
 pub mod OneProof

@@ -9,7 +9,8 @@ use Rattle.ffc_ring.specs.Monomial.{Monomial, IsMonomial, degree, same_monomial}
 use Rattle.ffc_ring.specs.Polynomial.{Terms, AreTerms, written, coefficient, SamePolynomial, PassesDegree, IsNoneOf, AreItsMonomials, PassesTerms}
 use Rattle.ffc_ring.proofs.PolynomialLemmas.{written-at, written-off, cases_monomial, same_monomial-equal, same_monomial-other}
 use Rattle.ffc_mono.specs.MonomialOrder.{IsMonomialOrder}
-use Rattle.ffc_poly.specs.Ordered.{IsAbove, IsOrdered, IsLeading, IsConstant, AreWithin, HasDegree, RowFits, ProductFits}
+use Rattle.ffc_mono.specs.Leading.{IsLeading}
+use Rattle.ffc_poly.specs.Ordered.{IsAbove, IsOrdered, IsConstant, AreWithin, HasDegree, RowFits, ProductFits}
 
 pub AreTerms-ordered : (p : ℕ) (cmp : Monomial → Monomial → Ordering) (limit : ℕ) (ts : Terms) → IsOrdered p cmp limit ts → AreTerms ts
 AreTerms-ordered p cmp limit [] h = tt

@@ -38,11 +38,6 @@ IsOrdered p cmp limit [] = Unit {0}
 IsOrdered p cmp limit (t ∷ ts) =
     (0 < t.0) × (t.0 < p) × IsMonomial t.1 × (degree t.1 ≤ limit) × IsAbove cmp t.1 ts × IsOrdered p cmp limit ts
 
--- c is the coefficient of m, which is above each other monomial with a coefficient other than 0
-abbrev pub IsLeading : ℕ → (Monomial → Monomial → Ordering) → Terms → ℕ → Monomial → Type 0
-IsLeading p cmp ts c m =
-    (coefficient p ts m ≡ c) × (c ≢ 0) × ((n : Monomial) → coefficient p ts n ≢ 0 → n ≢ m → cmp m n ≡ Greater)
-
 -- no monomial but 1 has a coefficient other than 0
 abbrev pub IsConstant : ℕ → Terms → Type 0
 IsConstant p ts = (m : Monomial) → coefficient p ts m ≢ 0 → m ≡ []

@@ -3,7 +3,8 @@ ghost use Rattle.std.specs.Prelude.{◌≡◌, ◌≢◌, ℕ, ◌+◌, ◌*◌,
 ghost use Rattle.ffc_field.specs.Modular.{add_mod, sub_mod, mul_mod};
 ghost use Rattle.ffc_ring.specs.Monomial.{mono_value};
 ghost use Rattle.ffc_ring.specs.Polynomial.{SamePolynomial, term_product, product, scaled, difference, poly_value, PassesDegree, PassesTerms};
-ghost use Rattle.ffc_poly.specs.Ordered.{residues, sum_of, IsOrdered, IsLeading, IsConstant, IsWithinTerms, IsOverTerms, point_of};
+ghost use Rattle.ffc_mono.specs.Leading.{IsLeading};
+ghost use Rattle.ffc_poly.specs.Ordered.{residues, sum_of, IsOrdered, IsConstant, IsWithinTerms, IsOverTerms, point_of};
 
 use crate::stop::PolyStop;
 use crate::products;

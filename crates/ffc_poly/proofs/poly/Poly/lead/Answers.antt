@@ -2,7 +2,8 @@ use Rattle.std.proofs.Common.{◌≡◌, ℕ, ◌<◌, ◌∷◌, [], get_or, le
 use Rattle.ffc_ring.specs.Monomial.{Monomial}
 use Rattle.ffc_ring.specs.Polynomial.{Terms}
 use Rattle.ffc_mono.specs.declared.mono.TheConstants.{DEGREE_LIMIT}
-use Rattle.ffc_poly.specs.Ordered.{IsOrdered, IsLeading}
+use Rattle.ffc_mono.specs.Leading.{IsLeading}
+use Rattle.ffc_poly.specs.Ordered.{IsOrdered}
 use Rattle.ffc_poly.proofs.Coefficients.{IsLeading-first}
 use Rattle.ffc_poly.proofs.TermLemmas.{first_and_rest}
 use Rattle.ffc_poly.proofs.poly.Poly.lead.Goals as goal
