@@ -15,3 +15,12 @@ pub mod SoundTerms
 pub mod SoundReading
 pub mod SoundStates
 pub mod ScriptLemmas
+pub mod ConstantLemmas
+pub mod WalkLemmas
+pub mod TermWalk
+pub mod CommandWalk
+pub mod ScopeStates
+pub mod ConeLemmas
+pub mod DeclaredLemmas
+pub mod CheckLemmas
+pub mod StepLemmas

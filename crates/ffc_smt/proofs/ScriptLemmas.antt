@@ -35,10 +35,10 @@ read_terms_are_defined limit s locals tree t h e =
     sound_defined s.constants s.nodes t.term locals t.sort (read_terms_are_sound limit (scope_of s) locals tree t s.constants s.nodes (scope_is_sound s h) e)
 
 -- a term that was made has its node
-abbrev HasNodeOf : List Node → Term → Sort → Type 0
+abbrev pub HasNodeOf : List Node → Term → Sort → Type 0
 HasNodeOf ns t u = HasNode ns t × (sort_at ns (made [] ns t).id ≡ u)
 
-has_node : (cs : List Sort) (count : ℕ) (ns : List Node) (t : Term) (u : Sort) → IsTableWith cs count ns → IsMadeTerm cs ns t u → HasNodeOf ns t u
+pub has_node : (cs : List Sort) (count : ℕ) (ns : List Node) (t : Term) (u : Sort) → IsTableWith cs count ns → IsMadeTerm cs ns t u → HasNodeOf ns t u
 has_node cs count ns t u table h =
     let formed = table.table.well_formed in
     let same = made_nothing t ns h.1 formed in
@@ -57,10 +57,10 @@ true_element : (e : Element) → sort_of e ≡ sort.Bool → value_of e ≡ valu
 true_element (TruthValue b) s v = let same : b ≡ true = cc in ap TruthValue same
 true_element (FieldValue p n) s v = cc
 
-true_there : (ns : List Node) (t : Term) (A : List Value) → HasNodeOf ns t sort.Bool → val [] A t ≡ TruthValue true → IsTrueAt ns A t
+pub true_there : (ns : List Node) (t : Term) (A : List Value) → HasNodeOf ns t sort.Bool → val [] A t ≡ TruthValue true → IsTrueAt ns A t
 true_there ns t A h e = (h.0.means A).value ∙ ap value_of e
 
-true_term : (ns : List Node) (t : Term) (A : List Value) → HasNodeOf ns t sort.Bool → IsTrueAt ns A t → val [] A t ≡ TruthValue true
+pub true_term : (ns : List Node) (t : Term) (A : List Value) → HasNodeOf ns t sort.Bool → IsTrueAt ns A t → val [] A t ≡ TruthValue true
 true_term ns t A h e =
     let means = h.0.means A in
     true_element (val [] A t) (sym means.sort ∙ h.1) (sym means.value ∙ e)
@@ -69,7 +69,7 @@ module _ (s : State) (h : IsSoundState s) where
   abbrev IsNow : List Node → Term → Sort → Type 0
   IsNow ns t u = IsMadeTerm s.constants ns t u
 
-  grows : (ns : List Node) (t : Term) (u : Sort) → Extends s.nodes ns → IsSoundTerm s.constants s.nodes [] t u → IsSoundTerm s.constants ns [] t u
+  pub grows : (ns : List Node) (t : Term) (u : Sort) → Extends s.nodes ns → IsSoundTerm s.constants s.nodes [] t u → IsSoundTerm s.constants ns [] t u
   grows ns t u further g = subst (λ cs. IsSoundTerm cs ns [] t u) (append-nil s.constants) (sound_stays s.constants [] s.nodes ns further t [] u g)
 
   asserted_now : (ns : List Node) → Extends s.nodes ns → All (λ a. IsNow ns a.term sort.Bool) (assertions_of s)
@@ -119,7 +119,7 @@ module _ (s : State) (h : IsSoundState s) where
       (has_node s.constants (length s.constants) ns _ one.0 all.0 (grows ns _ one.0 (asked_extends asked s.nodes) one.1, all.1 i d inside)).0)
   asked_now _ g room other e = cc
 
-keeps_values : (l : Limits) (s : State) (t : Tree) (c : Command) → l.nodes ≤ most_nodes → IsSoundState s → command_read l s t ≡ Sound c → KeepsValues (record { before = s; tree = t; command = c })
+pub keeps_values : (l : Limits) (s : State) (t : Tree) (c : Command) → l.nodes ≤ most_nodes → IsSoundState s → command_read l s t ≡ Sound c → KeepsValues (record { before = s; tree = t; command = c })
 unfolding after
 keeps_values l s t c small h e =
     let fine = fine_command l s h t c small e in
@@ -141,7 +141,7 @@ scripts_keep_states l text small =
 pub scripts_keep_values : (l : Limits) (text : List ℕ) → l.nodes ≤ most_nodes → All KeepsValues (reads_within l text).steps
 scripts_keep_values l text small = all_steps l IsSoundState KeepsValues (λ s t c h e. (next_is_sound l s t c small h e, keeps_values l s t c small h e)) text first_is_sound
 
-reads_terms : (s : State) (tree : Tree) (c : Command) → IsSoundState s → ReadsTerms (record { before = s; tree = tree; command = c })
+pub reads_terms : (s : State) (tree : Tree) (c : Command) → IsSoundState s → ReadsTerms (record { before = s; tree = tree; command = c })
 reads_terms s tree c h limit from t e =
     let sound = read_terms_are_sound limit (scope_of s) [] from t s.constants s.nodes (scope_is_sound s h) e in
     let defined = sound_defined s.constants s.nodes t.term [] t.sort sound in (

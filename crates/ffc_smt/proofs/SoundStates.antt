@@ -50,14 +50,14 @@ found_first : {A : Type 0} (P : A → Type 0) (b : Bool) (x m : A) (o : Option A
 found_first P true x m o e h k = let same : x ≡ m = cc in subst P same h
 found_first P false x m o e h k = k e
 
-found_all : {A : Type 0} (P : A → Type 0) (ns : Env A) (name : Name) (m : A) → All (λ x. P x.1) ns → found ns name ≡ Some m → P m
+pub found_all : {A : Type 0} (P : A → Type 0) (ns : Env A) (name : Name) (m : A) → All (λ x. P x.1) ns → found ns name ≡ Some m → P m
 found_all P [] name m h e = cc
 found_all P (n ∷ ns) name m h e =
     found_first P (bytes_eq n.0 name) n.1 m (found ns name) e (All-head (λ x. P x.1) n ns h) (found_all P ns name m (All-tail (λ x. P x.1) n ns h))
 
 -- Names in scope
 
-all_levels : (s : State) → IsSoundState s → All (IsSoundLevel s.constants s.nodes) (s.levels ++ s.base ∷ [])
+pub all_levels : (s : State) → IsSoundState s → All (IsSoundLevel s.constants s.nodes) (s.levels ++ s.base ∷ [])
 all_levels s h = All-push (IsSoundLevel s.constants s.nodes) s.levels s.base h.levels h.base
 
 pub scope_is_sound : (s : State) → IsSoundState s → IsSoundScope s.constants s.nodes (scope_of s)
@@ -174,7 +174,7 @@ module _ (cs : List Sort) (ns : List Node) where
 
 -- Nodes
 
-made_here : (t : Term) (ns : List Node) → IsMade (made [] ns t).nodes t
+pub made_here : (t : Term) (ns : List Node) → IsMade (made [] ns t).nodes t
 made_here t ns = record { before = ns; more = []; made_then = sym (append-nil (made [] ns t).nodes) }
 
 pub asked_extends : (asked : List Asked) (ns : List Node) → Extends ns (asked_made ns asked)
@@ -184,7 +184,7 @@ asked_extends (a ∷ rest) ns = extends_further ns (made [] ns a.term).nodes _ (
 
 -- A new constant
 
-constant_counts : (k : ℕ) (s : Sort) → is_constant (constant_node k s) ≡ true
+pub constant_counts : (k : ℕ) (s : Sort) → is_constant (constant_node k s) ≡ true
 constant_counts k sort.Bool = refl
 constant_counts k (sort.Field p) = refl
 
@@ -192,7 +192,7 @@ constant_fits : (ns : List Node) (k : ℕ) (s : Sort) → IsSoundSort s → Fits
 constant_fits ns k sort.Bool h = tt
 constant_fits ns k (sort.Field p) h = h
 
-constant_number : (ns : List Node) (k : ℕ) (s : Sort) → IsNumbered ns (constant_node k s) → k ≡ constant_count ns
+pub constant_number : (ns : List Node) (k : ℕ) (s : Sort) → IsNumbered ns (constant_node k s) → k ≡ constant_count ns
 constant_number ns k sort.Bool h = h
 constant_number ns k (sort.Field p) h = h
 
@@ -205,7 +205,7 @@ constant_no_ite k sort.Bool = λ i. i
 constant_no_ite k (sort.Field p) = λ i. i
 
 -- a constant that stands in a table has a number below their count
-constant_new : (ns : List Node) (cs : List Sort) (s : Sort) → IsTableWith cs (length cs) ns → ¬ (Contains ns (constant_node (length cs) s))
+pub constant_new : (ns : List Node) (cs : List Sort) (s : Sort) → IsTableWith cs (length cs) ns → ¬ (Contains ns (constant_node (length cs) s))
 constant_new ns cs s table has =
     let n = constant_node (length cs) s in
     let there = IsNodeAt-from_Contains ns n has in

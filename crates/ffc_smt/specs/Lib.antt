@@ -5,6 +5,7 @@ pub mod Making
 pub mod Faults
 pub mod Numbers
 pub mod Scopes
+pub mod Constants
 pub mod TermReading
 pub mod CommandReading
 pub mod Scripts
@@ -18,4 +19,7 @@ pub mod Interning
 pub mod Sorting
 pub mod WellSorted
 pub mod States
+pub mod ScopedStates
 pub mod ScriptLaw
+pub mod CheckLaws
+pub mod StepLaws

@@ -1,0 +1,70 @@
+//! Shows what parts of Yundavel cost: `time` around a run shows that its time grows with the input and not faster.
+//!
+//! `bench lex KIB PIECE` reads a generated script, `bench cert KIB PIECE` a generated certificate, each of so many KiB
+//! in pieces of so many bytes. `bench term COUNT` makes, measures and evaluates a chain of so many nodes. Without
+//! arguments each runs on a small input.
+#![tactic(auto)]
+
+mod certificates;
+mod chains;
+mod scripts;
+
+use std::alloc::Global;
+use std::{env, io};
+
+/// The sizes of the small inputs, and of an argument that is left out.
+const KIB: u32 = 64;
+
+const PIECE: u32 = 4096;
+
+const NODES: u32 = 1000;
+
+/// So many pieces of so many bytes.
+#[derive(Clone, Copy)]
+struct Pieces {
+    count: u64,
+    bytes: usize,
+}
+
+/// The pieces of a text of so many KiB.
+fn pieces_of(kib: u32, bytes: u32) -> Pieces {
+    let bytes = bytes.max(1);
+    Pieces {
+        count: u64::from(kib) * 1024 / u64::from(bytes),
+        bytes: bytes as usize,
+    }
+}
+
+fn run<R: Print>(
+    rt: &R,
+    alloc: Global,
+    name: &str,
+    first: Option<u32>,
+    second: Option<u32>,
+) -> io::Result<()> {
+    let pieces = pieces_of(first.unwrap_or(KIB), second.unwrap_or(PIECE));
+    match name {
+        "lex" => scripts::run(rt, alloc, pieces),
+        "cert" => certificates::run(rt, alloc, pieces),
+        "term" => chains::run(rt, alloc, first.unwrap_or(NODES)),
+        _ => println!(rt; "bench lex KIB PIECE | cert KIB PIECE | term COUNT"),
+    }
+}
+
+fn main(rt: HostRuntime) -> io::Result<()> {
+    let mut arguments = env::args(&rt)?;
+    let _program = arguments.next();
+    let Some(name) = arguments.next() else {
+        for name in ["lex", "cert", "term"] {
+            run(&rt, rt.alloc(), name, None, None)?;
+        }
+        return Ok(());
+    };
+    let first = arguments
+        .next()
+        .and_then(|argument| argument.parse::<u32>().ok());
+    let second = arguments
+        .next()
+        .and_then(|argument| argument.parse::<u32>().ok());
+    run(&rt, rt.alloc(), name.as_str(), first, second)
+}

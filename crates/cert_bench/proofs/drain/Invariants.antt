@@ -1,5 +1,0 @@
-use Rattle.std.proofs.Common.{◌≡◌, false}
-use Rattle.cert_bench.proofs.drain.Given as goal
-
-abbrev pub invariant-entries : goal.invariant-entries
-invariant-entries l = l.reader.finished ≡ false

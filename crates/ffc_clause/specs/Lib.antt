@@ -1,0 +1,4 @@
+pub mod Clauses
+pub mod Hints
+pub mod Propagation
+pub mod Laws

@@ -1,0 +1,12 @@
+pub mod SchemeLemmas
+pub mod GivenLemmas
+pub mod StepLemmas
+pub mod AssignmentLemmas
+pub mod ConeLemmas
+pub mod CaseLemmas
+pub mod EntryLemmas
+pub mod ReadingLemmas
+pub mod ScriptLemmas
+pub mod ListingLemmas
+pub mod BoundLemmas
+pub mod KeptLemmas

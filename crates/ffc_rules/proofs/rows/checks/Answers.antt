@@ -1,0 +1,26 @@
+use Rattle.std.proofs.Common.{refl}
+use Rattle.ffc_lex.specs.Bytes.{is_word_byte, is_line_end, is_text_byte, is_quoted_byte, byte_class}
+use Rattle.ffc_lex.specs.Lexeme.{word_at, comment_at, quoted_at, string_at, lexeme_at, size_of}
+use Rattle.ffc_lex.specs.Reading.{after_lexeme, next_at, read, reading_of}
+use Rattle.ffc_lex.specs.Words.{is_numeral, is_decimal, is_symbol_word, is_field_word, word_kind, keyword_kind, hash_kind}
+use Rattle.ffc_smt.specs.CommandReading.{form_read, asked_made, nodes_after, command_weight, command_read}
+use Rattle.ffc_smt.specs.Making.{interned, equality, neighbours, difference, differences_from, differences, exclusive, implication, implications, applied_made, made, all_made}
+use Rattle.ffc_smt.specs.Scripts.{named_orders, after, script_from, reads_within, orders_in, orders_in_items}
+use Rattle.ffc_smt.specs.TermReading.{sort_read, term_read}
+use Rattle.ffc_smt.specs.Terms.{height, highest, weight, weights}
+use Rattle.ffc_smt.specs.Trees.{items_of, inside_of, tree_of, tokens_of, tokens_of_items}
+use Rattle.ffc_term.specs.Measuring.{degrees, lengths}
+use Rattle.ffc_term.specs.Nodes.{sorts}
+use Rattle.ffc_term.specs.Values.{values}
+use Rattle.ffc_rules.specs.Assignments.{listed_assignment, numbered_assignment, has_model_below}
+use Rattle.ffc_rules.specs.Causes.{is_small, first_count, is_cause_within}
+use Rattle.ffc_rules.specs.Cones.{reached, cone}
+use Rattle.ffc_rules.specs.Cores.{reached_clauses, core}
+use Rattle.ffc_rules.specs.Entries.{sat_fault, cases_fault, lemma_given, clause_given, lines_fault, entry_fault_within}
+use Rattle.ffc_rules.specs.Judging.{first_broken, judgement_of}
+use Rattle.ffc_rules.specs.Schemes.{scheme_clause, all_schemes}
+use Rattle.ffc_rules.proofs.rows.checks.Goals as goal
+
+pub returns : goal.returns
+unfolding is_word_byte is_line_end is_text_byte is_quoted_byte byte_class word_at comment_at quoted_at string_at lexeme_at size_of after_lexeme next_at read reading_of is_numeral is_decimal is_symbol_word is_field_word word_kind keyword_kind hash_kind form_read asked_made nodes_after command_weight command_read interned equality neighbours difference differences_from differences exclusive implication implications applied_made made all_made named_orders after script_from reads_within orders_in orders_in_items sort_read term_read height highest weight weights items_of inside_of tree_of tokens_of tokens_of_items degrees lengths sorts values listed_assignment numbered_assignment has_model_below is_small first_count is_cause_within reached cone reached_clauses core sat_fault cases_fault lemma_given clause_given lines_fault entry_fault_within first_broken judgement_of scheme_clause all_schemes
+returns c = record { product = refl; square = refl; clause = refl; named = refl; assuming = refl; names = refl; all_names = refl; levels = refl }

@@ -1,0 +1,11 @@
+pub mod Clauses
+pub mod Schemes
+pub mod Cones
+pub mod Assignments
+pub mod Entries
+pub mod Refutations
+pub mod Judging
+pub mod Causes
+pub mod Cores
+pub mod Laws
+pub mod Rows

@@ -1,0 +1,12 @@
+pub mod NormalLemmas
+pub mod LineLemmas
+pub mod RefuteLemmas
+pub mod ReadLemmas
+pub mod NodePolyLemmas
+pub mod FirstLineLemmas
+pub mod TakenLemmas
+pub mod VariableLemmas
+pub mod SameLemmas
+pub mod AlikeLemmas
+pub mod BoundLemmas
+pub mod RuleLemmas

@@ -1,0 +1,23 @@
+//! Trees and tables that the definitions are tried on. Each function has an empty body: what its contract says was
+//! computed from them.
+ghost use Rattle.ffc_trees.specs.Rows.{AreWorked, ArePolynomials, AreRules, AreLimits};
+
+/// Whole trees, and the same with one change.
+pub fn worked_trees()
+    ensures { AreWorked }
+{}
+
+/// Polynomials of nodes, and first lines.
+pub fn polynomials()
+    ensures { ArePolynomials }
+{}
+
+/// Each rule where it is kept and where it is broken.
+pub fn rules()
+    ensures { AreRules }
+{}
+
+/// Each limit where it is reached and where it is passed.
+pub fn limits()
+    ensures { AreLimits }
+{}

@@ -1,0 +1,6 @@
+(set-logic QF_FF)
+(declare-const x (_ FiniteField 3))
+(check-sat)
+(assert (= (ff.mul x x) (as ff1 (_ FiniteField 3))))
+(check-sat)
+(check-sat)

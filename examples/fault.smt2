@@ -1,0 +1,5 @@
+(set-logic QF_FF)
+(declare-const x (_ FiniteField 3))
+(check-sat)
+(assert (= y x))
+(check-sat)
