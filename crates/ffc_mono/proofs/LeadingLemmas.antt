@@ -95,13 +95,13 @@ module _ (cmp : Monomial → Monomial → Ordering) (laws : IsMonomialOrder cmp)
     above_product a b v w c d m n l k u t q some off Equal e = absurd (off (sym (laws.exact (mono_mul m n) q e)))
     above_product a b v w c d m n l k u t q some off Less e =
         absurd (
-          some
-          (coefficient-no_product p a b q v w
-          (λ x y s r sx sy same.
-              let both : Less ≡ Greater =
-              above_at_most Less (mono_mul m n) q (mono_mul x y) e off
-              (products_at_most m x n y u s t r (leading_at_most a c m l x sx) (leading_at_most b d n k y sy)) same in
-              absurd (cc both)))
+        some
+        (coefficient-no_product p a b q v w
+        (λ x y s r sx sy same.
+        let both : Less ≡ Greater =
+        above_at_most Less (mono_mul m n) q (mono_mul x y) e off
+        (products_at_most m x n y u s t r (leading_at_most a c m l x sx) (leading_at_most b d n k y sy)) same in
+        absurd (cc both)))
         )
 
     pub leading_of_product : IsPrime p → (a b : Terms) → AreTerms a → AreTerms b → (c d : ℕ) (m n : Monomial) → IsLeading p cmp a c m → IsLeading p cmp b d n → IsLeading p cmp (product a b) (mul_mod p c d) (mono_mul m n)
@@ -112,11 +112,11 @@ module _ (cmp : Monomial → Monomial → Ordering) (laws : IsMonomialOrder cmp)
         let below_d : d < p = subst (λ x. x < p) k.0 (mod-lt _ (omega (arith, prime.least))) in (
           coefficient-one_product p a b m n v w u t
               (λ x y s r some other off same.
-                  elim (leading_at_most a c m l x some) [
-                    | inl is ↦ absurd (off (sym is))
-                    | inr less ↦
-                        not_itself (mono_mul m n) (mono_mul x y) (products_below m x n y u s t r less (leading_at_most b d n k y other)) (sym same)
-                  ])
+              elim (leading_at_most a c m l x some) [
+                | inl is ↦ absurd (off (sym is))
+                | inr less ↦
+                    not_itself (mono_mul m n) (mono_mul x y) (products_below m x n y u s t r less (leading_at_most b d n k y other)) (sym same)
+              ])
               ∙ ap₂ (mul_mod p) l.0 k.0,
           (λ none. elim (no_zero_product p c d prime below_c below_d none) [ inl e ↦ l.1 e | inr e ↦ k.1 e ]),
           λ q some off. above_product a b v w c d m n l k u t q some off (cmp (mono_mul m n) q) refl,

@@ -18,8 +18,8 @@ or_three : (a b c : ℕ) → bit_or (bit_or a b) c ≡ bit_or a (bit_or b c)
 or_three a b c =
     same_from_bits (bit_or (bit_or a b) c) (bit_or a (bit_or b c))
     (λ i.
-        bit_at_or (bit_or a b) c i ∙ ap (λ k. max k (bit_at c i)) (bit_at_or a b i) ∙ max_three (bit_at a i) (bit_at b i) (bit_at c i)
-        ∙ sym (bit_at_or a (bit_or b c) i ∙ ap (max (bit_at a i)) (bit_at_or b c i)))
+    bit_at_or (bit_or a b) c i ∙ ap (λ k. max k (bit_at c i)) (bit_at_or a b i) ∙ max_three (bit_at a i) (bit_at b i) (bit_at c i)
+    ∙ sym (bit_at_or a (bit_or b c) i ∙ ap (max (bit_at a i)) (bit_at_or b c i)))
 
 max_none : (x : ℕ) → max x 0 ≡ x
 max_none x = omega arith
@@ -139,15 +139,15 @@ pub mask-union : (m n k : Monomial) → IsMonomial m → IsMonomial n → IsMono
 mask-union m n k v w u parts from_m from_n =
     same_from_bits (bit_or (mask_of m) (mask_of n)) (mask_of k)
     (λ i.
-        bit_at_or (mask_of m) (mask_of n) i
-        ∙ elim (cases_eq (bit_at (mask_of m) i) 0) [
-          | inl none_m ↦
-              elim (cases_eq (bit_at (mask_of n) i) 0) [
-                | inl none_n ↦ both_none _ _ none_m none_n ∙ sym (no_bit m n k i u parts none_m none_n)
-                | inr some_n ↦ second_some _ _ some_n (bit_at-lt (mask_of m) i) (bit_at-lt (mask_of n) i) ∙ sym (grown n k i from_n (variable_of_bit 0 n i w some_n))
-              ]
-          | inr some_m ↦ first_some _ _ some_m (bit_at-lt (mask_of m) i) (bit_at-lt (mask_of n) i) ∙ sym (grown m k i from_m (variable_of_bit 0 m i v some_m))
-        ])
+    bit_at_or (mask_of m) (mask_of n) i
+    ∙ elim (cases_eq (bit_at (mask_of m) i) 0) [
+      | inl none_m ↦
+          elim (cases_eq (bit_at (mask_of n) i) 0) [
+            | inl none_n ↦ both_none _ _ none_m none_n ∙ sym (no_bit m n k i u parts none_m none_n)
+            | inr some_n ↦ second_some _ _ some_n (bit_at-lt (mask_of m) i) (bit_at-lt (mask_of n) i) ∙ sym (grown n k i from_n (variable_of_bit 0 n i w some_n))
+          ]
+      | inr some_m ↦ first_some _ _ some_m (bit_at-lt (mask_of m) i) (bit_at-lt (mask_of n) i) ∙ sym (grown m k i from_m (variable_of_bit 0 m i v some_m))
+    ])
 
 some_of_sum : (x y : ℕ) → x + y ≢ 0 → (x ≢ 0) ⊎ (y ≢ 0)
 some_of_sum x y h =
@@ -200,8 +200,8 @@ pub masked_none : (a b : ℕ) → a < 2 ^ 32 → b < 2 ^ 32 → ((i : ℕ) → b
 masked_none a b fa fb h =
     same_from_bits (bit_and a (bit_not w32 b)) 0
     (λ i.
-        bit_at_and a (bit_not w32 b) i
-        ∙ elim (cases_lt i 32) [
-          | inl low ↦ ap (min (bit_at a i)) (bit_at_not w32 b i fb low) ∙ min_none _ _ (h i) (bit_at-lt a i) (bit_at-lt b i) ∙ sym (bit_at-zero i)
-          | inr high ↦ ap (λ k. min k (bit_at (bit_not w32 b) i)) (bit_at_above a 32 i fa high) ∙ min_first_none _ ∙ sym (bit_at-zero i)
-        ])
+    bit_at_and a (bit_not w32 b) i
+    ∙ elim (cases_lt i 32) [
+      | inl low ↦ ap (min (bit_at a i)) (bit_at_not w32 b i fb low) ∙ min_none _ _ (h i) (bit_at-lt a i) (bit_at-lt b i) ∙ sym (bit_at-zero i)
+      | inr high ↦ ap (λ k. min k (bit_at (bit_not w32 b) i)) (bit_at_above a 32 i fa high) ∙ min_first_none _ ∙ sym (bit_at-zero i)
+    ])

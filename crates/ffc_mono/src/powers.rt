@@ -107,11 +107,7 @@ pub fn append_product(
 }
 
 /// Appends the powers of the product of two monomials, or some of them.
-fn append_powers(
-    out: &mut Vec<Power>,
-    first: &[Power],
-    second: &[Power],
-) -> Result<(), AllocError>
+fn append_powers(out: &mut Vec<Power>, first: &[Power], second: &[Power]) -> Result<(), AllocError>
     requires first_is { IsMonomial first.now }
     requires second_is { IsMonomial second.now }
     requires fits { degree first.now + degree second.now < 2 ^ 32 }

@@ -49,11 +49,7 @@ impl MonoRow {
     }
 
     /// The row with no monomials, with space for so many of them and for so many powers.
-    pub fn with_capacity(
-        alloc: Global,
-        monomials: usize,
-        powers: usize,
-    ) -> Result<Self, AllocError>
+    pub fn with_capacity(alloc: Global, monomials: usize, powers: usize) -> Result<Self, AllocError>
         ensures { IfOk result (λ r. r ≡ []) }
     {
         Ok(MonoRow {
@@ -124,12 +120,7 @@ impl MonoRow {
     }
 
     /// Appends a run of another row, in two copies.
-    pub fn extend_from(
-        &mut self,
-        other: &MonoRow,
-        from: usize,
-        to: usize,
-    ) -> Result<(), AllocError>
+    pub fn extend_from(&mut self, other: &MonoRow, from: usize, to: usize) -> Result<(), AllocError>
         requires ordered { from ≤ to }
         requires within { to ≤ length other.now }
         ensures appended { OnOk result (self.new ≡ self.old ++ slice_range other.now from to) }
@@ -142,7 +133,12 @@ impl MonoRow {
         self.marks.reserve(to - from)?;
         self.powers
             .extend_from_slice(part(other.powers.as_slice(), start, end))?;
-        append_moved(&mut self.marks, marks_between(marks, from, to), start, place);
+        append_moved(
+            &mut self.marks,
+            marks_between(marks, from, to),
+            start,
+            place,
+        );
         Ok(())
     }
 
@@ -195,20 +191,11 @@ fn start_of(marks: &[Mark], i: usize) -> usize
     requires { i ≤ length marks.now }
     ensures { result ≡ start_at marks.now i }
 {
-    if i == 0 {
-        0
-    } else {
-        marks[i - 1].end
-    }
+    if i == 0 { 0 } else { marks[i - 1].end }
 }
 
 /// Appends marks of monomials that are moved from one place to another.
-fn append_moved(
-    out: &mut Vec<Mark>,
-    marks: &[Mark],
-    start: usize,
-    place: usize,
-)
+fn append_moved(out: &mut Vec<Mark>, marks: &[Mark], start: usize, place: usize)
     requires room { vec_len out.old + length marks.now ≤ vec_capacity out.old }
     requires after { All (λ (k : Mark). (start ≤ k.end) × (k.end - start + place < 2 ^ 64)) marks.now }
     ensures { out.new.items ≡ out.old.items ++ map (moved start place) marks.now }

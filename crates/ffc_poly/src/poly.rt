@@ -7,10 +7,8 @@ ghost use Rattle.ffc_mono.specs.Leading.{IsLeading};
 ghost use Rattle.ffc_poly.specs.Ordered.{residues, sum_of, IsOrdered, IsConstant, IsWithinTerms, IsOverTerms, point_of};
 
 use crate::stop::PolyStop;
-use crate::products;
-use crate::sums;
 use crate::terms::TermList;
-use crate::values;
+use crate::{products, sums, values};
 use ffc_field::Field;
 use ffc_mono::{DEGREE_LIMIT, Mono, MonoOrder, MonoRef};
 use std::alloc::{AllocError, Global};
@@ -268,7 +266,8 @@ impl<F: Field, O: MonoOrder> Poly<F, O> {
         if other.is_zero() {
             return Ok(Self::zero(alloc));
         }
-        let degree = products::greatest_degree(self.listed()) + products::greatest_degree(other.listed());
+        let degree = products::greatest_degree(self.listed())
+            + products::greatest_degree(other.listed());
         if degree > DEGREE_LIMIT {
             return Err(PolyStop::DegreeOver);
         }

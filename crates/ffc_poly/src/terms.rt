@@ -80,12 +80,7 @@ impl<F: Field> TermList<F> {
     }
 
     /// Appends c*m*n.
-    pub fn push_product(
-        &mut self,
-        c: F,
-        m: MonoRef<'_>,
-        n: MonoRef<'_>,
-    ) -> Result<(), AllocError>
+    pub fn push_product(&mut self, c: F, m: MonoRef<'_>, n: MonoRef<'_>) -> Result<(), AllocError>
         requires { degree m.powers.now + degree n.powers.now ≤ 1024 }
         ensures { OnOk result (self.new ≡ self.old ++ (F.value c, mono_mul m.entry.powers.now n.entry.powers.now) ∷ []) }
     {

@@ -469,9 +469,9 @@ coefficient-one_product p a b m n v w u t alone =
     let rest : weighted g (without m a) % p ≡ 0 =
     weighted_none p g (without m a) (AreTerms-without m a v)
     (λ x s some.
-        let both = coefficient-without p m x a some in
-        weighted_none p (λ y. one_at (mono_mul m n) (mono_mul x y)) b w
-        (λ y r other. ap (λ j. j % p) (cond-false _ _ _ (same_monomial-other (mono_mul x y) (mono_mul m n) (alone x y s r both.1 other both.0))) ∙ zero-mod p)) in
+    let both = coefficient-without p m x a some in
+    weighted_none p (λ y. one_at (mono_mul m n) (mono_mul x y)) b w
+    (λ y r other. ap (λ j. j % p) (cond-false _ _ _ (same_monomial-other (mono_mul x y) (mono_mul m n) (alone x y s r both.1 other both.0))) ∙ zero-mod p)) in
     ap (λ x. x % p) (written-is_weighted (product a b) (mono_mul m n) ∙ weighted-product (one_at (mono_mul m n)) a b ∙ weighted-without g m a)
     ∙ sum_alike p (written a m * g m) (written a m * written b n) (weighted g (without m a)) 0 (ap (λ k. (written a m * k) % p) at_m) (rest ∙ sym (zero-mod p))
     ∙ ap (λ k. k % p) (omega arith) ∙ mul-mod (written a m) (written b n) p

@@ -15,8 +15,8 @@ returns-then-residue g c = (
   λ h. absurd (true≢false (sym h)),
   λ e.
       absurd (
-        c.if-residue.true
-        (c.residue.ensures.value ∙ c.get-s.ensures.coefficient ∙ ap (λ (ts : Terms). (get_or ts c.loop-i.i (0, [])).0) e ∙ sym c.get-t.ensures.coefficient ∙ sym c.residue-in-loop-i.ensures.value)
+      c.if-residue.true
+      (c.residue.ensures.value ∙ c.get-s.ensures.coefficient ∙ ap (λ (ts : Terms). (get_or ts c.loop-i.i (0, [])).0) e ∙ sym c.get-t.ensures.coefficient ∙ sym c.residue-in-loop-i.ensures.value)
       ),
 )
 
@@ -25,8 +25,8 @@ returns-then-not-is_equal g c = (
   λ h. absurd (true≢false (sym h)),
   λ e.
       absurd (
-        true≢false
-        (sym (c.if-not-is_equal.ensures.1 (c.get-s.ensures.monomial ∙ ap (λ (ts : Terms). (get_or ts c.loop-i.i (0, [])).1) e ∙ sym c.get-t.ensures.monomial)))
+      true≢false
+      (sym (c.if-not-is_equal.ensures.1 (c.get-s.ensures.monomial ∙ ap (λ (ts : Terms). (get_or ts c.loop-i.i (0, [])).1) e ∙ sym c.get-t.ensures.monomial)))
       ),
 )
 

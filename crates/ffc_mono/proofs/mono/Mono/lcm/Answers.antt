@@ -15,7 +15,7 @@ invariant_of-result c =
       omega (arith, c.in-Some.ensures.1, ap degree c.as_slice.ensures),
       omega (arith, c.in-Some.ensures.0, c.in-Some.ensures.1),
       ap₂ bit_or (c.self.invariant.3 ∙ ap mask_of c.self.view_is) (c.other.invariant.3 ∙ ap mask_of c.other.view_is)
-      ∙ mask-lcm a b c.pairs.ensures.monomial c.pairs-2.ensures.monomial ∙ sym (ap mask_of product),
+          ∙ mask-lcm a b c.pairs.ensures.monomial c.pairs-2.ensures.monomial ∙ sym (ap mask_of product),
     )
 
 pub returns-clause-exponents : goal.returns-clause-exponents

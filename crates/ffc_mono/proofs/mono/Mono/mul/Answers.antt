@@ -15,7 +15,7 @@ invariant_of-result c =
       omega (arith, ap degree product, degree-mono_mul a b, c.self.invariant.1, c.other.invariant.1, ap degree c.self.view_is, ap degree c.other.view_is),
       omega (arith, c.if-total_degree-gt-DEGREE_LIMIT.false),
       ap₂ bit_or (c.self.invariant.3 ∙ ap mask_of c.self.view_is) (c.other.invariant.3 ∙ ap mask_of c.other.view_is)
-      ∙ mask-product a b c.pairs.ensures.monomial c.pairs-2.ensures.monomial ∙ sym (ap mask_of product),
+          ∙ mask-product a b c.pairs.ensures.monomial c.pairs-2.ensures.monomial ∙ sym (ap mask_of product),
     )
 
 pub returns-clause-exponents : goal.returns-clause-exponents

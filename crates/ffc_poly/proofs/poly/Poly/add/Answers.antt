@@ -60,5 +60,5 @@ returns-clause-short g c =
     let b = c.args.other.now in
     let one : value c.of.result ≡ 1 = c.of.ensures ∙ mod-eq_of_lt (omega (arith, g.met.F.Field.prime.least)) in
     λ short refused.
-        PassesTerms-length p TERM_LIMIT (a ++ b) (omega (arith, length-append a b, short))
-        (c.plus_times.ensures.over refused (a ++ b) (sum_by_one p (value c.of.result) a b one))
+    PassesTerms-length p TERM_LIMIT (a ++ b) (omega (arith, length-append a b, short))
+    (c.plus_times.ensures.over refused (a ++ b) (sum_by_one p (value c.of.result) a b one))

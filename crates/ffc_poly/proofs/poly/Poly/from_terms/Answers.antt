@@ -12,5 +12,5 @@ returns-clause-short g c =
     let p = g.F.Field.ORDER in
     let ts = residues value c.args.terms.now in
     λ short refused.
-        PassesTerms-length p TERM_LIMIT ts (omega (arith, length-residues value c.args.terms.now, short))
-        (err_of c.within.result TermsOver (IsOverTerms p TERM_LIMIT c.in_ok-sum_of.field-0) c.within.ensures.over refused ts c.in_ok-sum_of.ensures.same)
+    PassesTerms-length p TERM_LIMIT ts (omega (arith, length-residues value c.args.terms.now, short))
+    (err_of c.within.result TermsOver (IsOverTerms p TERM_LIMIT c.in_ok-sum_of.field-0) c.within.ensures.over refused ts c.in_ok-sum_of.ensures.same)

@@ -61,5 +61,5 @@ returns-clause-short g c =
     let k = value c.neg.result in
     let minus : k ≡ p - 1 = minus_one p (value c.of.result) k (omega (arith, g.met.F.Field.prime.least)) c.of.ensures c.neg.ensures in
     λ short refused.
-        PassesTerms-length p TERM_LIMIT (difference p a b) (omega (arith, length-append a (scaled (p - 1) b), length-term_product (p - 1) [] b, short))
-        (c.plus_times.ensures.over refused (difference p a b) (difference_by_factor p k a b minus))
+    PassesTerms-length p TERM_LIMIT (difference p a b) (omega (arith, length-append a (scaled (p - 1) b), length-term_product (p - 1) [] b, short))
+    (c.plus_times.ensures.over refused (difference p a b) (difference_by_factor p k a b minus))

@@ -9,5 +9,5 @@ returns-clause-short g c =
     let p = g.F.Field.ORDER in
     let ts = sum_of c.args.parts.now in
     λ short refused.
-        PassesTerms-length p TERM_LIMIT ts short
-        (err_of c.within.result TermsOver (IsOverTerms p TERM_LIMIT c.in_ok-merged.field-0) c.within.ensures.over refused ts c.in_ok-merged.ensures.same)
+    PassesTerms-length p TERM_LIMIT ts short
+    (err_of c.within.result TermsOver (IsOverTerms p TERM_LIMIT c.in_ok-merged.field-0) c.within.ensures.over refused ts c.in_ok-merged.ensures.same)
