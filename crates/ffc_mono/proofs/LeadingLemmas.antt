@@ -1,5 +1,5 @@
 -- The laws of leading terms, and of graded orders.
-use Rattle.std.proofs.Common.{◌≡◌, ◌≢◌, ◌⊎◌, ℕ, ◌+◌, ◌<◌, ◌≤◌, ◌%◌, [], ◌∷◌, ◌++◌, refl, sym, ap, ap₂, ◌∙◌, subst, subst₂, inl, inr, arith, append-nil, mod-eq_of_lt, mod-lt}
+use Rattle.std.proofs.Common.{◌≡◌, ◌≢◌, ◌⊎◌, ℕ, ◌+◌, ◌<◌, ◌≤◌, ◌%◌, List, length, [], ◌∷◌, ◌++◌, refl, sym, ap, ap₂, ◌∙◌, subst, subst₂, inl, inr, arith, append-nil, mod-eq_of_lt, mod-lt}
 use Rattle.std.proofs.Math.Nat.{mod-mod, zero-mod}
 use Rattle.std.proofs.lemmas.Bool.{cases_lt, cases_eq}
 use Rattle.std.proofs.lemmas.Cmp.{tied_itself}
@@ -10,13 +10,17 @@ use Rattle.ffc_field.specs.Modular.{IsPrime, add_mod, mul_mod}
 use Rattle.ffc_field.proofs.Primes.{no_zero_product}
 use Rattle.ffc_ring.specs.Monomial.{Monomial, IsMonomial, degree, mono_mul}
 use Rattle.ffc_ring.specs.Polynomial.{Terms, AreTerms, coefficient, term_product, product}
+use Rattle.ffc_ring.specs.Polynomial.{IsNoneOf}
+use Rattle.ffc_ring.specs.Counting.{AreUpTo, AreDifferent}
+use Rattle.ffc_field.specs.Binomial.{choose}
+use Rattle.ffc_ring.proofs.CountingLemmas.{count_of_monomials}
 use Rattle.ffc_ring.proofs.MonomialLemmas.{mono_mul_comm}
 use Rattle.ffc_ring.proofs.PolynomialLemmas.{coefficient-append, coefficient-no_product, coefficient-one_product, monomial_of_coefficient, cases_monomial, written-at, written-off}
 use Rattle.ffc_mono.specs.MonomialOrder.{IsMonomialOrder}
 use Rattle.ffc_mono.specs.Orders.{graded_reverse_lex_cmp}
 use Rattle.ffc_mono.specs.OrderLaws.{graded_reverse_lex_words}
 use Rattle.ffc_mono.specs.Leading.{IsLeading}
-use Rattle.ffc_mono.specs.Graded.{IsGraded}
+use Rattle.ffc_mono.specs.Graded.{IsGraded, Descends, AreIn}
 
 add-none : (x : ℕ) → x + 0 ≡ x
 add-none x = omega arith
@@ -204,3 +208,25 @@ greater_is_no_lower cmp laws graded m n v w e =
           let both : Less ≡ Greater = sym (turned_back cmp laws n m (graded n m w v lower)) ∙ e in absurd (cc both)
       | inr no_lower ↦ no_lower
     ]
+
+-- ---- descents
+
+-- what is above the first of a descent is above all of it
+above_descent : (cmp : Monomial → Monomial → Ordering) → IsMonomialOrder cmp → (k m : Monomial) (ms : List Monomial) → cmp k m ≡ Greater → Descends cmp m ms → IsNoneOf (m ∷ ms) k
+above_descent cmp laws k m [] e h = ((λ same. not_itself cmp laws k m e (sym same)), tt)
+above_descent cmp laws k m (n ∷ ns) e h =
+    ((λ same. not_itself cmp laws k m e (sym same)), above_descent cmp laws k n ns (greater_trans cmp laws k m n e h.0) h.1)
+
+different_descent : (cmp : Monomial → Monomial → Ordering) → IsMonomialOrder cmp → (m : Monomial) (ms : List Monomial) → Descends cmp m ms → AreDifferent (m ∷ ms)
+different_descent cmp laws m [] h = (tt, tt)
+different_descent cmp laws m (n ∷ ns) h = (above_descent cmp laws m n ns h.0 h.1, different_descent cmp laws n ns h.1)
+
+up_to_descent : (cmp : Monomial → Monomial → Ordering) → IsMonomialOrder cmp → IsGraded cmp → (vs : List ℕ) (d : ℕ) (m : Monomial) (ms : List Monomial) → AreIn vs (m ∷ ms) → degree m ≤ d → Descends cmp m ms → AreUpTo vs d (m ∷ ms)
+up_to_descent cmp laws graded vs d m [] v l h = (v.0, v.1, l, tt)
+up_to_descent cmp laws graded vs d m (n ∷ ns) v l h =
+    let lower : degree n ≤ degree m = greater_is_no_lower cmp laws graded m n v.0 v.2.0 h.0 in
+    (v.0, v.1, l, up_to_descent cmp laws graded vs d n ns v.2 (omega arith) h.1)
+
+pub descent_is_short : (cmp : Monomial → Monomial → Ordering) → IsMonomialOrder cmp → IsGraded cmp → (vs : List ℕ) (d : ℕ) (m : Monomial) (ms : List Monomial) → AreIn vs (m ∷ ms) → degree m ≤ d → Descends cmp m ms → length (m ∷ ms) ≤ choose (length vs + d) d
+descent_is_short cmp laws graded vs d m ms v l h =
+    count_of_monomials vs d (m ∷ ms) (different_descent cmp laws m ms h) (up_to_descent cmp laws graded vs d m ms v l h)

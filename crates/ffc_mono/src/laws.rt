@@ -1,6 +1,6 @@
 //! The laws of leading terms and of graded orders. The functions do nothing when they run: each stands for the laws in
 //! its contract.
-ghost use Rattle.ffc_mono.specs.Graded.{GradedReverseLexIsGraded, GreaterIsNoLower};
+ghost use Rattle.ffc_mono.specs.Graded.{GradedReverseLexIsGraded, GreaterIsNoLower, DescentIsShort};
 ghost use Rattle.ffc_mono.specs.Leading.{LeadingOfProduct, LeadingOfMultiple, LeadingOfSum, LeadingOfEqualSum, CancelledSumIsBelow, OneLeading};
 
 /// The leading terms of products, multiples and sums, in every monomial order.
@@ -17,4 +17,5 @@ pub fn leading_terms()
 pub fn graded_orders()
     ensures reverse_lex { GradedReverseLexIsGraded }
     ensures no_lower { GreaterIsNoLower }
+    ensures descent { DescentIsShort }
 {}
