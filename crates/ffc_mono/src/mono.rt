@@ -16,7 +16,7 @@ pub const DEGREE_LIMIT: u32 = 1024;
 pub enum MonoStop {
     /// The total degree would pass the limit.
     DegreeOver,
-    /// Memory was wanting.
+    /// Out of memory.
     Memory,
 }
 

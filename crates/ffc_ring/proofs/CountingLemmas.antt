@@ -33,8 +33,8 @@ only_one vs d [] one different up_to = omega arith
 only_one vs d (m ∷ []) one different up_to = omega arith
 only_one vs d (m ∷ n ∷ ms) one different up_to =
     absurd (
-      different.0.0
-      (one n up_to.3.0 up_to.3.1 up_to.3.2 ∙ sym (one m up_to.0 up_to.1 up_to.2))
+    different.0.0
+    (one n up_to.3.0 up_to.3.1 up_to.3.2 ∙ sym (one m up_to.0 up_to.1 up_to.2))
     )
 
 -- ---- the monomials without the first variable
