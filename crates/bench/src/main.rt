@@ -1,12 +1,13 @@
 //! Shows what parts of Yundavel cost: `time` around a run shows that its time grows with the input and not faster.
 //!
 //! `bench lex KIB PIECE` reads a generated script, `bench cert KIB PIECE` a generated certificate, each of so many KiB
-//! in pieces of so many bytes. `bench term COUNT` makes, measures and evaluates a chain of so many nodes. Without
-//! arguments each runs on a small input.
+//! in pieces of so many bytes. `bench term COUNT` makes, measures and evaluates a chain of so many nodes. `bench poly CASE TERMS TIMES`
+//! computes with polynomials of so many terms so many times. Without arguments each runs on a small input.
 #![tactic(auto)]
 
 mod certificates;
 mod chains;
+mod polynomials;
 mod scripts;
 
 use std::alloc::Global;
@@ -18,6 +19,8 @@ const KIB: u32 = 64;
 const PIECE: u32 = 4096;
 
 const NODES: u32 = 1000;
+
+const TERMS: u32 = 60;
 
 /// So many pieces of so many bytes.
 #[derive(Clone, Copy)]
@@ -41,13 +44,23 @@ fn run<R: Print>(
     name: &str,
     first: Option<u32>,
     second: Option<u32>,
+    third: Option<u32>,
 ) -> io::Result<()> {
     let pieces = pieces_of(first.unwrap_or(KIB), second.unwrap_or(PIECE));
     match name {
         "lex" => scripts::run(rt, alloc, pieces),
         "cert" => certificates::run(rt, alloc, pieces),
         "term" => chains::run(rt, alloc, first.unwrap_or(NODES)),
-        _ => println!(rt; "bench lex KIB PIECE | cert KIB PIECE | term COUNT"),
+        "poly" => polynomials::run(
+            rt,
+            alloc,
+            first.unwrap_or(0),
+            second.unwrap_or(TERMS),
+            third.unwrap_or(1),
+        ),
+        _ => println!(rt;
+            "bench lex KIB PIECE | cert KIB PIECE | term COUNT | poly CASE TERMS TIMES"
+        ),
     }
 }
 
@@ -55,8 +68,8 @@ fn main(rt: HostRuntime) -> io::Result<()> {
     let mut arguments = env::args(&rt)?;
     let _program = arguments.next();
     let Some(name) = arguments.next() else {
-        for name in ["lex", "cert", "term"] {
-            run(&rt, rt.alloc(), name, None, None)?;
+        for name in ["lex", "cert", "term", "poly"] {
+            run(&rt, rt.alloc(), name, None, None, None)?;
         }
         return Ok(());
     };
@@ -66,5 +79,8 @@ fn main(rt: HostRuntime) -> io::Result<()> {
     let second = arguments
         .next()
         .and_then(|argument| argument.parse::<u32>().ok());
-    run(&rt, rt.alloc(), name.as_str(), first, second)
+    let third = arguments
+        .next()
+        .and_then(|argument| argument.parse::<u32>().ok());
+    run(&rt, rt.alloc(), name.as_str(), first, second, third)
 }

@@ -1,2 +1,5 @@
+pub mod LeadingLemmas
+pub mod MaskLemmas
 pub mod OrderLemmas
 pub mod PowerLemmas
+pub mod RowLemmas

@@ -1,8 +1,9 @@
 -- The steps of the walks over two lists of powers, side by side.
-use Rattle.std.proofs.Common.{◌≡◌, ℕ, suc, ◌+◌, ◌-◌, ◌<◌, ◌≤◌, ◌↔◌, eqb, ◌&&◌, List, [], ◌∷◌, ◌++◌, length, get_or, take, drop, zero, refl, sym, ap, ap₂, ◌∙◌, subst, inl, inr, arith, append_assoc, append-nil, add-one, take-append-drop}
+use Rattle.std.proofs.Common.{◌≡◌, ℕ, suc, ◌+◌, ◌-◌, ◌<◌, ◌≤◌, ◌↔◌, eqb, ◌&&◌, List, [], ◌∷◌, ◌++◌, length, get_or, take, drop, zero, refl, sym, ap, ap₂, ◌∙◌, subst, inl, inr, arith, append_assoc, append-nil, length-append, add-one, take-append-drop}
 use Rattle.std.proofs.lemmas.Bool.{cases_eq}
+use Rattle.std.proofs.lemmas.List.{take-append-le}
 use Rattle.std.specs.Cmp.Lexicographic.{pointwise}
-use Rattle.ffc_ring.specs.Monomial.{Monomial, IsMonomialFrom, IsMonomial, exponent, degree, joined, mono_quotient, Divides, same_monomial}
+use Rattle.ffc_ring.specs.Monomial.{Monomial, IsMonomialFrom, IsMonomial, exponent, degree, joined, mono_quotient, Divides, AreCoprime, same_monomial}
 use Rattle.ffc_ring.proofs.MonomialLemmas.{from_lower, exponent-here, exponent-there, exponent-below, Joins, sums, greater_ones, joined-first, joined-second, joined-both, joined-nothing, tail_divides, divides_tail, mono_quotient-kept, mono_quotient-dropped, mono_quotient-behind}
 use Rattle.ffc_mono.specs.declared.powers.Joining.{Joining}
 use Rattle.ffc_mono.specs.declared.powers.Joining.TheVariants.{Sum, Maximum}
@@ -185,3 +186,61 @@ pointwise-is_same [] [] = refl
 pointwise-is_same [] (q ∷ n) = refl
 pointwise-is_same (p ∷ m) [] = refl
 pointwise-is_same (p ∷ m) (q ∷ n) = ap (λ r. (eqb p.0 q.0 && eqb p.1 q.1) && r) (pointwise-is_same m n)
+
+-- ---- powers that are appended
+
+pub longer-append : {A : Type 0} (n : ℕ) (out out' more : List A) → out' ≡ out ++ more → n ≤ length out → n ≤ length out'
+longer-append n out out' more e h = omega (arith, ap length e, length-append out more)
+
+pub part-append : {A : Type 0} (n : ℕ) (out out' more start : List A) → out' ≡ out ++ more → n ≤ length out → take n out ≡ start → take n out' ≡ start
+part-append n out out' more start e h p = ap (take n) e ∙ take-append-le n out more h ∙ p
+
+-- ---- variables in common
+
+module _ (left right left_rest right_rest : Monomial) (p q : ℕ × ℕ) (left_is : left ≡ p ∷ left_rest) (right_is : right ≡ q ∷ right_rest) (v : IsMonomial left) (w : IsMonomial right) where
+  pub coprime_not_both : p.0 ≡ q.0 → AreCoprime left right → ⊥
+  coprime_not_both same d =
+      let in_left : exponent left p.0 ≡ p.1 = ap (λ m. exponent m p.0) left_is ∙ exponent-here p left_rest p.0 refl in
+      let in_right : exponent right p.0 ≡ q.1 = ap (λ m. exponent m p.0) right_is ∙ exponent-here q right_rest p.0 same in
+      omega (
+        arith,
+        in_right,
+        d p.0 (λ none. omega (arith, in_left, none, (first_at left left_rest p left_is v).1)),
+        (first_at right right_rest q right_is w).1,
+      )
+
+  pub coprime_behind_left : p.0 < q.0 → AreCoprime left_rest right ↔ AreCoprime left right
+  coprime_behind_left h =
+      let w' : IsMonomialFrom (suc p.0) right = subst (IsMonomialFrom (suc p.0)) (sym right_is) (h, (first_at right right_rest q right_is w).1, (first_at right right_rest q right_is w).2) in (
+        λ d x some.
+            elim (cases_eq x p.0) [
+              | inl here ↦ exponent-below (suc p.0) right x w' (omega arith)
+              | inr there ↦ d x (λ none. some (ap (λ m. exponent m x) left_is ∙ exponent-there p left_rest x there ∙ none))
+            ],
+        λ d x some.
+            elim (cases_eq x p.0) [
+              | inl here ↦ exponent-below (suc p.0) right x w' (omega arith)
+              | inr there ↦ d x (λ none. some (sym (ap (λ m. exponent m x) left_is ∙ exponent-there p left_rest x there) ∙ none))
+            ],
+      )
+
+  pub coprime_behind_right : q.0 < p.0 → AreCoprime left right_rest ↔ AreCoprime left right
+  coprime_behind_right h =
+      let v' : IsMonomialFrom (suc q.0) left = subst (IsMonomialFrom (suc q.0)) (sym left_is) (h, (first_at left left_rest p left_is v).1, (first_at left left_rest p left_is v).2) in (
+        λ d x some.
+            elim (cases_eq x q.0) [
+              | inl here ↦ absurd (some (exponent-below (suc q.0) left x v' (omega arith)))
+              | inr there ↦ ap (λ m. exponent m x) right_is ∙ exponent-there q right_rest x there ∙ d x some
+            ],
+        λ d x some.
+            elim (cases_eq x q.0) [
+              | inl here ↦ absurd (some (exponent-below (suc q.0) left x v' (omega arith)))
+              | inr there ↦ sym (ap (λ m. exponent m x) right_is ∙ exponent-there q right_rest x there) ∙ d x some
+            ],
+      )
+
+pub coprime_at_left_end : (left right : Monomial) → length left ≡ 0 → AreCoprime left right
+coprime_at_left_end left right h x some = absurd (some (ap (λ m. exponent m x) (none_left left h)))
+
+pub coprime_at_right_end : (left right : Monomial) → length right ≡ 0 → AreCoprime left right
+coprime_at_right_end left right h x some = ap (λ m. exponent m x) (none_left right h)

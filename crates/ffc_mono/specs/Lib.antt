@@ -1,5 +1,10 @@
 pub mod EqualityLaws
+pub mod Graded
 pub mod Joining
+pub mod Leading
+pub mod Masks
 pub mod MonomialOrder
+pub mod OneProof
 pub mod OrderLaws
 pub mod Orders
+pub mod Rows

@@ -1,7 +1,8 @@
 //! Monomials.
-ghost use Rattle.std.specs.Prelude.{◌≡◌, ℕ, ◌≤◌, ◌<◌, ◌↔◌, List, max, ◌+◌, length, IsTrue, IsOk, IfOk, OnOk, IsErrOf};
-ghost use Rattle.ffc_ring.specs.Monomial.{IsMonomial, degree, exponent, Divides, mono_mul, mono_lcm};
+ghost use Rattle.std.specs.Prelude.{◌≡◌, ℕ, ◌≤◌, ◌<◌, ◌↔◌, List, max, ◌+◌, ◌-◌, length, IsTrue, IsOk, IfOk, OnOk, IsErrOf};
+ghost use Rattle.ffc_ring.specs.Monomial.{IsMonomial, degree, exponent, Divides, AreCoprime, mono_mul, mono_lcm};
 
+use crate::borrowed::MonoRef;
 use crate::powers::{self, Joining, Power, Powers};
 use smallvec::SmallVec;
 use std::alloc::{AllocError, Global};
@@ -15,7 +16,7 @@ pub const DEGREE_LIMIT: u32 = 1024;
 pub enum MonoStop {
     /// The total degree would pass the limit.
     DegreeOver,
-    /// Memory was wanting.
+    /// Out of memory.
     Memory,
 }
 
@@ -36,17 +37,20 @@ impl From<AllocError> for MonoStop {
 pub struct Mono {
     powers: Powers,
     total_degree: u32,
+    mask: u32,
 }
 
 impl Model for Mono {
     ghost use Rattle.std.specs.Prelude.{◌≡◌, ℕ, ◌≤◌, List};
     ghost use Rattle.ffc_ring.specs.Monomial.{IsMonomial, degree};
+    ghost use Rattle.ffc_mono.specs.Masks.{mask_of};
 
     ghost Value = { List (ℕ × ℕ) };
 
     ghost view = { λ m. m.powers.items };
 
-    ghost invariant = { λ m. IsMonomial m.powers.items × (m.total_degree ≡ degree m.powers.items) × (m.total_degree ≤ 1024) };
+    ghost invariant = { λ m. IsMonomial m.powers.items × (m.total_degree ≡ degree m.powers.items) × (m.total_degree ≤ 1024)
+        × (m.mask ≡ mask_of m.powers.items) };
 }
 
 impl Mono {
@@ -65,6 +69,7 @@ impl Mono {
         Ok(Mono {
             powers,
             total_degree,
+            mask: powers::mask_of(pairs),
         })
     }
 
@@ -102,6 +107,7 @@ impl Mono {
         Ok(Mono {
             powers,
             total_degree,
+            mask: self.mask | other.mask,
         })
     }
 
@@ -120,6 +126,31 @@ impl Mono {
         Ok(Mono {
             powers,
             total_degree,
+            mask: self.mask | other.mask,
+        })
+    }
+
+    /// The monomial borrowed.
+    pub fn as_ref(&self) -> MonoRef<'_>
+        ensures { result.powers.now ≡ self.now }
+    {
+        MonoRef {
+            powers: self.powers.as_slice(),
+            total_degree: self.total_degree,
+            mask: self.mask,
+        }
+    }
+
+    /// A borrowed monomial as one of its own.
+    pub(crate) fn from_borrowed(alloc: Global, m: MonoRef<'_>) -> Result<Mono, AllocError>
+        ensures value { IfOk result (λ n. n ≡ m.entry.powers.now) }
+        ensures short { length m.entry.powers.now ≤ 4 → IsOk result }
+    {
+        let powers = SmallVec::from_slice(alloc, m.powers)?;
+        Ok(Mono {
+            powers,
+            total_degree: m.total_degree,
+            mask: m.mask,
         })
     }
 
@@ -127,20 +158,31 @@ impl Mono {
     pub fn divides(&self, other: &Mono) -> bool
         ensures { IsTrue result ↔ Divides self.now other.now }
     {
-        powers::divides(self.pairs(), other.pairs())
+        self.as_ref().divides(other.as_ref())
+    }
+
+    /// Whether no variable occurs in both. It takes no memory.
+    pub fn is_coprime(&self, other: &Mono) -> bool
+        ensures { IsTrue result ↔ AreCoprime self.now other.now }
+    {
+        self.as_ref().is_coprime(other.as_ref())
     }
 
     /// The monomial that times `by` is this one.
     pub fn quotient(&self, by: &Mono) -> Result<Mono, AllocError>
         requires { Divides by.now self.now }
         ensures value { IfOk result (λ m. mono_mul by.now m ≡ self.now) }
+        ensures exponents { IfOk result (λ m. (x : ℕ) → exponent m x ≡ exponent self.now x - exponent by.now x) }
+        ensures degree { IfOk result (λ m. degree m ≡ degree self.now - degree by.now) }
     {
         let alloc = *self.powers.allocator();
         let powers = powers::quotient(alloc, self.pairs(), by.pairs())?;
         let total_degree = self.total_degree - by.total_degree;
+        let mask = powers::mask_of(powers.as_slice());
         Ok(Mono {
             powers,
             total_degree,
+            mask,
         })
     }
 }
@@ -157,6 +199,7 @@ impl Clone for Mono {
         Ok(Mono {
             powers,
             total_degree: self.total_degree,
+            mask: self.mask,
         })
     }
 }

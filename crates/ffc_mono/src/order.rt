@@ -5,6 +5,7 @@ ghost use Rattle.ffc_ring.specs.Monomial.{Monomial};
 ghost use Rattle.ffc_mono.specs.MonomialOrder.{IsMonomialOrder};
 ghost use Rattle.ffc_mono.specs.Orders.{lex_cmp, reverse_lex_cmp, graded_reverse_lex_cmp, IsLexGreater, IsGradedReverseLexGreater, AnswersBy, LexIsByFirstDifference, GradedReverseLexIsByLastDifference};
 
+use crate::borrowed::MonoRef;
 use crate::mono::Mono;
 use crate::powers::Power;
 use std::cmp::Ordering;
@@ -15,9 +16,16 @@ pub trait MonoOrder {
     /// The comparison, of all monomials.
     ghost cmp: { Monomial → Monomial → Ordering };
 
+    /// Compares two borrowed monomials. It takes no memory.
+    fn compare_borrowed(a: MonoRef<'_>, b: MonoRef<'_>) -> Ordering
+        ensures { result ≡ cmp a.entry.powers.now b.entry.powers.now };
+
     /// Compares two monomials. It takes no memory.
     fn compare(a: &Mono, b: &Mono) -> Ordering
-        ensures { result ≡ cmp a.now b.now };
+        ensures { result ≡ cmp a.now b.now }
+    {
+        Self::compare_borrowed(a.as_ref(), b.as_ref())
+    }
 
     /// It is total, 1 is least, and products keep it.
     ghost laws: { IsMonomialOrder cmp };
@@ -40,11 +48,18 @@ impl MonoOrder for Lex {
 
     ghost laws = { lex_laws };
 
+    fn compare_borrowed(a: MonoRef<'_>, b: MonoRef<'_>) -> Ordering
+        ensures value { result ≡ lex_cmp a.entry.powers.now b.entry.powers.now }
+        ensures words { AnswersBy IsLexGreater a.entry.powers.now b.entry.powers.now result }
+    {
+        first_difference(a.pairs(), b.pairs())
+    }
+
     fn compare(a: &Mono, b: &Mono) -> Ordering
         ensures value { result ≡ lex_cmp a.now b.now }
         ensures words { AnswersBy IsLexGreater a.now b.now result }
     {
-        first_difference(a.pairs(), b.pairs())
+        Self::compare_borrowed(a.as_ref(), b.as_ref())
     }
 }
 
@@ -55,15 +70,22 @@ impl MonoOrder for GradedReverseLex {
 
     ghost laws = { graded_reverse_lex_laws };
 
-    fn compare(a: &Mono, b: &Mono) -> Ordering
-        ensures value { result ≡ graded_reverse_lex_cmp a.now b.now }
-        ensures words { AnswersBy IsGradedReverseLexGreater a.now b.now result }
+    fn compare_borrowed(a: MonoRef<'_>, b: MonoRef<'_>) -> Ordering
+        ensures value { result ≡ graded_reverse_lex_cmp a.entry.powers.now b.entry.powers.now }
+        ensures words { AnswersBy IsGradedReverseLexGreater a.entry.powers.now b.entry.powers.now result }
     {
         let by_degree = a.degree().cmp(&b.degree());
         if by_degree.is_ne() {
             return by_degree;
         }
         last_difference(a.pairs(), b.pairs())
+    }
+
+    fn compare(a: &Mono, b: &Mono) -> Ordering
+        ensures value { result ≡ graded_reverse_lex_cmp a.now b.now }
+        ensures words { AnswersBy IsGradedReverseLexGreater a.now b.now result }
+    {
+        Self::compare_borrowed(a.as_ref(), b.as_ref())
     }
 }
 

@@ -1,8 +1,10 @@
 //! Monomials as slices of powers: pairs of variable and exponent, with strictly increasing variables and
 //! exponents of at least 1. Each function here walks its slices once, side by side.
-ghost use Rattle.std.specs.Prelude.{◌≡◌, ℕ, ◌+◌, ◌^◌, ◌<◌, ◌≤◌, ◌↔◌, IsTrue, IfOk, SomeIff};
-ghost use Rattle.ffc_ring.specs.Monomial.{IsMonomial, degree, joined, mono_quotient, Divides};
+ghost use Rattle.std.specs.Prelude.{◌≡◌, ℕ, ◌+◌, ◌^◌, ◌<◌, ◌≤◌, ◌↔◌, ◌%◌, ◌++◌, length, take, false, IsTrue, IfOk, OnOk, OnErr, SomeIff};
+ghost use Rattle.ffc_ring.specs.Monomial.{IsMonomial, degree, joined, mono_mul, mono_quotient, Divides, AreCoprime};
+ghost use Rattle.std.specs.Int.{bit_at};
 ghost use Rattle.ffc_mono.specs.Joining.{joining_of};
+ghost use Rattle.ffc_mono.specs.Masks.{mask_of};
 
 use smallvec::SmallVec;
 use std::alloc::{AllocError, Global};
@@ -82,6 +84,106 @@ pub fn joined(
     out.extend_from_slice(left)?;
     out.extend_from_slice(right)?;
     Ok(out)
+}
+
+/// Appends the product of two monomials.
+pub fn append_product(
+    out: &mut Vec<Power>,
+    first: &[Power],
+    second: &[Power],
+) -> Result<(), AllocError>
+    requires first_is { IsMonomial first.now }
+    requires second_is { IsMonomial second.now }
+    requires fits { degree first.now + degree second.now < 2 ^ 32 }
+    ensures product { OnOk result (out.new.items ≡ out.old.items ++ mono_mul first.now second.now) }
+    ensures unchanged { OnErr result (out.new.items ≡ out.old.items) }
+{
+    let place = out.len();
+    let result = append_powers(out, first, second);
+    if result.is_err() {
+        out.truncate(place);
+    }
+    result
+}
+
+/// Appends the powers of the product of two monomials, or some of them.
+fn append_powers(out: &mut Vec<Power>, first: &[Power], second: &[Power]) -> Result<(), AllocError>
+    requires first_is { IsMonomial first.now }
+    requires second_is { IsMonomial second.now }
+    requires fits { degree first.now + degree second.now < 2 ^ 32 }
+    ensures product { OnOk result (out.new.items ≡ out.old.items ++ mono_mul first.now second.now) }
+    ensures part { take (length out.old.items) out.new.items ≡ out.old.items }
+{
+    let mut left = first;
+    let mut right = second;
+    while let (Some((p, left_rest)), Some((q, right_rest))) = (
+        left.split_first(),
+        right.split_first(),
+    ) {
+        if p.0 < q.0 {
+            out.push(*p)?;
+            left = left_rest;
+        } else if q.0 < p.0 {
+            out.push(*q)?;
+            right = right_rest;
+        } else {
+            out.push((p.0, p.1 + q.1))?;
+            left = left_rest;
+            right = right_rest;
+        }
+    }
+    out.extend_from_slice(left)?;
+    out.extend_from_slice(right)?;
+    Ok(())
+}
+
+/// The bit of a variable in a divisor mask.
+fn bit_of(variable: u32) -> u32
+    ensures { result ≡ 2 ^ (variable % 32) }
+{
+    1u32 << (variable % 32)
+}
+
+/// The divisor mask.
+pub fn mask_of(powers: &[Power]) -> u32
+    ensures { result ≡ mask_of powers.now }
+{
+    let mut mask = 0u32;
+    for power in powers {
+        mask |= bit_of(power.0);
+    }
+    mask
+}
+
+/// Whether the masks leave it open that the first monomial divides the second.
+pub fn may_divide(first: u32, second: u32) -> bool
+    ensures { ((i : ℕ) → bit_at first i ≤ bit_at second i) → IsTrue result }
+{
+    first & !second == 0
+}
+
+/// Whether no variable occurs in both.
+pub fn are_coprime(first: &[Power], second: &[Power]) -> bool
+    requires first_is { IsMonomial first.now }
+    requires second_is { IsMonomial second.now }
+    ensures { IsTrue result ↔ AreCoprime first.now second.now }
+{
+    let mut left = first;
+    let mut right = second;
+    while let (Some((p, left_rest)), Some((q, right_rest))) = (
+        left.split_first(),
+        right.split_first(),
+    ) {
+        if p.0 == q.0 {
+            return false;
+        }
+        if p.0 < q.0 {
+            left = left_rest;
+        } else {
+            right = right_rest;
+        }
+    }
+    true
 }
 
 /// Whether the first monomial divides the second. It stops at the first variable that shows that it does not.

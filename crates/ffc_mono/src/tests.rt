@@ -1,4 +1,4 @@
-use crate::{GradedReverseLex, Lex, Mono, MonoOrder, MonoStop};
+use crate::{GradedReverseLex, Lex, Mono, MonoOrder, MonoRow, MonoStop};
 use std::alloc::Global;
 use std::cmp::Ordering;
 use std::process::Abort;
@@ -127,5 +127,25 @@ fn degrees_stop_at_the_limit(rt: HostRuntime) -> Result<(), Fail> {
         Err(MonoStop::DegreeOver)
     );
     assert_eq!(rt; most.lcm(&x0)?, most);
+    Ok(())
+}
+
+#[test]
+fn rows(rt: HostRuntime) -> Result<(), Fail> {
+    let alloc = rt.alloc();
+    let a = Mono::from_pairs(alloc, &[(0, 2), (1, 1)])?;
+    let b = Mono::from_pairs(alloc, &[(1, 1), (35, 1)])?;
+    let mut row = MonoRow::new(alloc);
+    row.push(a.as_ref())?;
+    row.push_product(a.as_ref(), b.as_ref())?;
+    row.push(b.as_ref())?;
+    let whole = row.clone()?;
+    row.extend_from(&whole, 1, 3)?;
+    row.truncate(4);
+    assert_eq!(rt; row.len(), 4);
+    assert_eq!(rt; row.get(3).pairs(), [(0, 2), (1, 2), (35, 1)].as_slice());
+    assert!(rt; row.get(0).divides(row.get(3)) && !row.get(3).divides(row.get(2)));
+    assert!(rt; row.get(2).is_equal(b.as_ref()) && !row.get(2).is_coprime(row.get(0)));
+    assert_eq!(rt; row.get(2).to_mono(alloc)?, b);
     Ok(())
 }

@@ -1,15 +1,15 @@
 -- What the clauses of a polynomial's operations say of values, refusals and zero.
-use Rattle.std.proofs.Common.{◌≡◌, ℕ, suc, ◌+◌, ◌-◌, ◌*◌, ◌%◌, ◌<◌, Bool, true, eqb, List, [], ◌∷◌, ◌++◌, length, refl, sym, ap, ◌∙◌, inl, inr, arith, mul-one, zero-mul, eqb-true, mod-eq_of_lt, Result, Ok, Err, IfErr, IsErrAnd, IsErrOf}
+use Rattle.std.proofs.Common.{◌≡◌, ℕ, suc, ◌+◌, ◌-◌, ◌*◌, ◌%◌, ◌<◌, Bool, true, eqb, eq-eqb, List, [], ◌∷◌, ◌++◌, length, refl, sym, ap, ◌∙◌, inl, inr, arith, mul-one, zero-mul, eqb-true, mod-eq_of_lt, Result, Ok, Err, IfErr, IsErrAnd, IsErrOf}
 use Rattle.std.proofs.lemmas.Nat.{mul-mod_second}
 use Rattle.ffc_field.specs.Modular.{add_mod, sub_mod, mul_mod, neg_mod}
 use Rattle.ffc_ring.specs.Monomial.{Monomial, mono_value, mono_mul}
 use Rattle.ffc_ring.specs.Polynomial.{Terms, written, coefficient, SamePolynomial, term_product, product, scaled, difference, value_sum, poly_value, PassesDegree}
-use Rattle.ffc_ring.proofs.PolynomialLemmas.{weighted, weighted-term_product, SamePolynomial-from_weighted, one_value, poly_value-append, poly_value-product, poly_value-difference, value_sum-term_product, same_sums, cases_monomial, written-at, written-off}
+use Rattle.ffc_ring.proofs.PolynomialLemmas.{weighted, weighted-term_product, SamePolynomial-from_weighted, one_value, poly_value-append, poly_value-product, poly_value-difference, value_sum-term_product, same_sums, coefficient-scaled, cases_monomial, written-at, written-off}
 use Rattle.ffc_poly.specs.declared.stop.PolyStop.{PolyStop}
 use Rattle.ffc_poly.specs.declared.stop.PolyStop.TheVariants.{DegreeOver, TermsOver, Memory}
 use Rattle.ffc_poly.specs.Ordered.{residues, multiplied, times}
 use Rattle.ffc_poly.proofs.Merging.{weighted-multiplied}
-use Rattle.ffc_poly.proofs.Products.{SamePolynomial-scaled_one}
+use Rattle.ffc_poly.proofs.ProductLemmas.{SamePolynomial-scaled_one}
 use Rattle.ffc_poly.proofs.Coefficients.{coefficient-none}
 
 -- ---- values
@@ -74,11 +74,10 @@ zero_term p c m n e =
 pub PassesDegree-zero_term : (p limit c : ℕ) (m : Monomial) (b : Terms) → c ≡ 0 → PassesDegree p limit ((c, m) ∷ []) b → ⊥
 PassesDegree-zero_term p limit c m b e (k, n, hk, hn, over) = hk (zero_term p c m k e)
 
--- the test of a slice for emptiness is the test for zero
-pub zero_test : {F : Type 0} (value : F → ℕ) (ts : List (F × Monomial)) (now : Terms) (b : Bool) → b ≡ eqb (length ts) 0 → residues value ts ≡ now → (b ≡ true → now ≡ []) × (now ≡ [] → b ≡ true)
-zero_test value [] now b e is = (λ _. sym is, λ _. e)
-zero_test value (t ∷ ts) now b e is =
-    (λ h. absurd (omega (arith, eqb-true (length (t ∷ ts)) 0 (sym e ∙ h))), λ h. absurd (omega (arith, ap length (is ∙ h))))
+-- the test for length 0 is the test for zero
+pub zero_test : (ts : Terms) (n : ℕ) → n ≡ length ts → (eqb n 0 ≡ true → ts ≡ []) × (ts ≡ [] → eqb n 0 ≡ true)
+zero_test [] n e = (λ _. refl, λ _. eq-eqb n 0 e)
+zero_test (t ∷ ts) n e = (λ h. absurd (omega (arith, eqb-true n 0 h)), λ h. absurd (omega (arith, ap length h)))
 
 -- ---- refusals
 
@@ -107,3 +106,12 @@ pub SamePolynomial-multiplied : (p c : ℕ) (ts : Terms) → SamePolynomial p (m
 SamePolynomial-multiplied p c ts =
     SamePolynomial-from_weighted p (multiplied p c ts) (scaled c ts)
     (λ g. weighted-multiplied p c g ts ∙ ap (λ k. k % p) (sym (weighted-term_product g c [] ts)))
+
+pub length-term_product : (c : ℕ) (m : Monomial) (ts : Terms) → length (term_product c m ts) ≡ length ts
+length-term_product c m [] = refl
+length-term_product c m (t ∷ ts) = ap suc (length-term_product c m ts)
+
+pub same_differences : (p : ℕ) (a b c : Terms) → SamePolynomial p b c → SamePolynomial p (difference p a b) (difference p a c)
+same_differences p a b c same =
+    same_sums p a a (scaled (p - 1) b) (scaled (p - 1) c) (λ m. refl)
+    (λ m. coefficient-scaled p (p - 1) b m ∙ ap (mul_mod p (p - 1)) (same m) ∙ sym (coefficient-scaled p (p - 1) c m))

@@ -1,5 +1,5 @@
 -- What the list of an ordered polynomial says of its coefficients.
-use Rattle.std.proofs.Common.{◌≡◌, ◌≢◌, ℕ, suc, ◌+◌, ◌%◌, ◌<◌, ◌≤◌, cond, List, [], ◌∷◌, ◌++◌, length, refl, sym, ap, ◌∙◌, subst, inl, inr, arith, mod-eq_of_lt, Result, Ok, Err, IfErr, IsErrOf}
+use Rattle.std.proofs.Common.{◌≡◌, ◌≢◌, ℕ, zero, suc, get_or, ◌+◌, ◌%◌, ◌<◌, ◌≤◌, cond, List, [], ◌∷◌, ◌++◌, length, refl, sym, ap, ◌∙◌, subst, inl, inr, arith, mod-eq_of_lt, Result, Ok, Err, IfErr, IsErrOf}
 use Rattle.std.proofs.Math.Nat.{zero-mod}
 use Rattle.std.proofs.lemmas.Bool.{cond-true, cond-false}
 use Rattle.std.proofs.lemmas.Cmp.{tied_itself}
@@ -9,7 +9,8 @@ use Rattle.ffc_ring.specs.Monomial.{Monomial, IsMonomial, degree, same_monomial}
 use Rattle.ffc_ring.specs.Polynomial.{Terms, AreTerms, written, coefficient, SamePolynomial, PassesDegree, IsNoneOf, AreItsMonomials, PassesTerms}
 use Rattle.ffc_ring.proofs.PolynomialLemmas.{written-at, written-off, cases_monomial, same_monomial-equal, same_monomial-other}
 use Rattle.ffc_mono.specs.MonomialOrder.{IsMonomialOrder}
-use Rattle.ffc_poly.specs.Ordered.{IsAbove, IsOrdered, IsLeading, IsConstant, AreWithin, HasDegree, RowFits, ProductFits}
+use Rattle.ffc_mono.specs.Leading.{IsLeading}
+use Rattle.ffc_poly.specs.Ordered.{IsAbove, IsOrdered, IsConstant, AreWithin, HasDegree, RowFits, ProductFits}
 
 pub AreTerms-ordered : (p : ℕ) (cmp : Monomial → Monomial → Ordering) (limit : ℕ) (ts : Terms) → IsOrdered p cmp limit ts → AreTerms ts
 AreTerms-ordered p cmp limit [] h = tt
@@ -52,6 +53,16 @@ pub ProductFits-append : (limit : ℕ) (x y b : Terms) → ProductFits limit (x 
 ProductFits-append limit [] y b h = (tt, h)
 ProductFits-append limit (t ∷ x) y b h =
     let rest = ProductFits-append limit x y b h.1 in ((h.0, rest.0), rest.1)
+
+pub ProductFits-at : (limit : ℕ) (a b : Terms) (i : ℕ) → ProductFits limit a b → i < length a → RowFits limit (get_or a i (0, [])).1 b
+ProductFits-at limit [] b i h g = absurd (omega arith)
+ProductFits-at limit (t ∷ a) b zero h g = h.0
+ProductFits-at limit (t ∷ a) b (suc i) h g = ProductFits-at limit a b i h.1 (omega arith)
+
+pub IsOrdered-at : (p : ℕ) (cmp : Monomial → Monomial → Ordering) (limit : ℕ) (a : Terms) (i : ℕ) → IsOrdered p cmp limit a → i < length a → (0 < (get_or a i (0, [])).0) × ((get_or a i (0, [])).0 < p)
+IsOrdered-at p cmp limit [] i h g = absurd (omega arith)
+IsOrdered-at p cmp limit (t ∷ a) zero h g = (h.0, h.1)
+IsOrdered-at p cmp limit (t ∷ a) (suc i) h g = IsOrdered-at p cmp limit a i h.5 (omega arith)
 
 pub ProductFits-nothing : (limit : ℕ) (a : Terms) → ProductFits limit a []
 ProductFits-nothing limit [] = tt
@@ -120,6 +131,23 @@ removed_behind p all t ts (n ∷ ns) into d =
           rw (removed-off t.1 n ns there)
           ((λ e. into n d.0 (coefficient-other p t ts n (λ k. there (sym k)) ∙ e)), IsNoneOf-removed t.1 n ns d.1, removed_behind p all t ts ns into d.2)
     ]
+
+-- so many different monomials with coefficients need as many terms
+monomials_no_more : (p : ℕ) (all ts : Terms) (ns : List Monomial) → ((m : Monomial) → coefficient p all m ≢ 0 → coefficient p ts m ≢ 0) → AreItsMonomials p all ns → length ns ≤ length ts
+monomials_no_more p all [] [] into d = omega arith
+monomials_no_more p all [] (n ∷ ns) into d = absurd (into n d.0 (coefficient-none p n))
+monomials_no_more p all (t ∷ ts) ns into d =
+    omega (arith, length-removed p all t.1 ns d, monomials_no_more p ts ts (removed t.1 ns) (λ m h. h) (removed_behind p all t ts ns into d))
+
+pub PassesTerms-length : (p limit : ℕ) (ts : Terms) → length ts ≤ limit → PassesTerms p limit ts → ⊥
+PassesTerms-length p limit ts h (ms, long, d) = omega (arith, monomials_no_more p ts ts ms (λ m k. k) d)
+
+AreItsMonomials-same : (p : ℕ) (ts us : Terms) → SamePolynomial p ts us → (ms : List Monomial) → AreItsMonomials p ts ms → AreItsMonomials p us ms
+AreItsMonomials-same p ts us same [] d = tt
+AreItsMonomials-same p ts us same (m ∷ ms) d = ((λ e. d.0 (same m ∙ e)), d.1, AreItsMonomials-same p ts us same ms d.2)
+
+pub PassesTerms-same : (p limit : ℕ) (ts us : Terms) → SamePolynomial p ts us → PassesTerms p limit ts → PassesTerms p limit us
+PassesTerms-same p limit ts us same (ms, long, d) = (ms, long, AreItsMonomials-same p ts us same ms d)
 
 module _ (p : ℕ) (cmp : Monomial → Monomial → Ordering) (laws : IsMonomialOrder cmp) (limit : ℕ) where
   pub not_itself : (m n : Monomial) → cmp m n ≡ Greater → m ≢ n

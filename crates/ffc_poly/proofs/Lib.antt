@@ -1,8 +1,9 @@
-pub mod Clauses
-pub mod Coefficients
-pub mod EqualityLemmas
-pub mod Lists
-pub mod Merging
-pub mod MergingSteps
-pub mod Products
-pub mod Values
+mod Clauses
+mod Coefficients
+mod EqualityLemmas
+mod Lists
+mod Merging
+mod MergingSteps
+mod ProductLemmas
+mod TermLemmas
+mod ValueLemmas

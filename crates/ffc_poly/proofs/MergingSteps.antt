@@ -1,93 +1,62 @@
--- The steps of the merge over lists of terms with elements of a field.
-use Rattle.std.proofs.Common.{◌≡◌, ◌≢◌, ◌⊎◌, ℕ, ◌<◌, true, false, List, [], ◌∷◌, ◌++◌, length, get_or, drop, refl, sym, ap, ap₂, ◌∙◌, arith, eq-eqb, ne_eqb, append-nil, append_assoc, inl, inr}
-use Rattle.std.proofs.lemmas.Bool.{cond-true, cond-false, false≢true}
+-- The steps of the merge over lists of terms, by places.
+use Rattle.std.proofs.Common.{◌≡◌, ◌≢◌, ◌⊎◌, ℕ, suc, ◌+◌, ◌<◌, ◌≤◌, List, [], ◌∷◌, ◌++◌, length, get_or, drop, refl, sym, ap, ap₂, ◌∙◌, subst, arith, eq-eqb, ne_eqb, append_assoc, append-nil, inl, inr}
+use Rattle.std.proofs.lemmas.Bool.{cond-true, cond-false}
+use Rattle.std.proofs.lemmas.List.{drop_more, take_rest, drop_all}
+use Rattle.std.specs.Prelude.{slice_range}
 use Rattle.std.specs.declared.cmp.Ordering.{Ordering}
 use Rattle.std.specs.declared.cmp.Ordering.TheVariants.{Less, Equal, Greater}
 use Rattle.ffc_field.specs.Modular.{add_mod, mul_mod}
-use Rattle.ffc_field.proofs.ModularLaws.{mul_mod-one_first}
 use Rattle.ffc_ring.specs.Monomial.{Monomial}
 use Rattle.ffc_ring.specs.Polynomial.{Terms}
-use Rattle.ffc_poly.specs.Ordered.{residues, multiplied, IsOrdered, kept}
-use Rattle.ffc_poly.proofs.Lists.{residues-append}
+use Rattle.ffc_poly.specs.Ordered.{multiplied, kept}
 use Rattle.ffc_poly.proofs.Merging.{merged, merged-less, merged-equal, merged-greater, merged-end}
 
-module _ {F : Type 0} (value : F → ℕ) (p : ℕ) (cmp : Monomial → Monomial → Ordering) (c : ℕ) (left right left_rest right_rest : List (F × Monomial)) (s t : F × Monomial) (left_is : left ≡ s ∷ left_rest) (right_is : right ≡ t ∷ right_rest) where
-  opened : merged p cmp c (residues value left) (residues value right) ≡ merged p cmp c (residues value (s ∷ left_rest)) (residues value (t ∷ right_rest))
-  opened = ap₂ (λ a b. merged p cmp c (residues value a) (residues value b)) left_is right_is
+-- a term pushed, which is the first of what is left
+pub pushed_term : (out out' : Terms) (x y : ℕ) (m n : Monomial) (left rest all : Terms) → out' ≡ out ++ (x, m) ∷ [] → x ≡ y → m ≡ n → left ≡ (y, n) ∷ rest → out ++ left ≡ all → out' ++ rest ≡ all
+pushed_term out out' x y m n left rest all e v w first h =
+    ap (λ k. k ++ rest) (e ∙ ap₂ (λ (a : ℕ) (b : Monomial). out ++ (a, b) ∷ []) v w) ∙ append_assoc out ((y, n) ∷ []) rest
+    ∙ ap (λ k. out ++ k) (sym first) ∙ h
 
-  pub step_less : cmp s.1 t.1 ≡ Less → merged p cmp c (residues value left) (residues value right) ≡ (mul_mod p c (value t.0), t.1) ∷ merged p cmp c (residues value left) (residues value right_rest)
+module _ (p : ℕ) (cmp : Monomial → Monomial → Ordering) (c : ℕ) (a b : Terms) (i j : ℕ) (in_a : i < length a) (in_b : j < length b) (s t : ℕ × Monomial) (s_is : s ≡ get_or a i (0, [])) (t_is : t ≡ get_or b j (0, [])) where
+  left : drop i a ≡ s ∷ drop (i + 1) a
+  left = drop_more a i (0, []) in_a ∙ ap (λ k. k ∷ drop (i + 1) a) (sym s_is)
+
+  right : drop j b ≡ t ∷ drop (j + 1) b
+  right = drop_more b j (0, []) in_b ∙ ap (λ k. k ∷ drop (j + 1) b) (sym t_is)
+
+  opened : merged p cmp c (drop i a) (drop j b) ≡ merged p cmp c (s ∷ drop (i + 1) a) (t ∷ drop (j + 1) b)
+  opened = ap₂ (merged p cmp c) left right
+
+  pub step_less : cmp s.1 t.1 ≡ Less → merged p cmp c (drop i a) (drop j b) ≡ (mul_mod p c t.0, t.1) ∷ merged p cmp c (drop i a) (drop (j + 1) b)
   step_less e =
-      opened ∙ merged-less p cmp c (value s.0, s.1) (value t.0, t.1) (residues value left_rest) (residues value right_rest) e
-      ∙ ap (λ k. (mul_mod p c (value t.0), t.1) ∷ merged p cmp c (residues value k) (residues value right_rest)) (sym left_is)
+      opened ∙ merged-less p cmp c s t (drop (i + 1) a) (drop (j + 1) b) e
+      ∙ ap (λ k. (mul_mod p c t.0, t.1) ∷ merged p cmp c k (drop (j + 1) b)) (sym left)
 
-  pub step_greater : cmp s.1 t.1 ≡ Greater → merged p cmp c (residues value left) (residues value right) ≡ (value s.0, s.1) ∷ merged p cmp c (residues value left_rest) (residues value right)
+  pub step_greater : cmp s.1 t.1 ≡ Greater → merged p cmp c (drop i a) (drop j b) ≡ (s.0, s.1) ∷ merged p cmp c (drop (i + 1) a) (drop j b)
   step_greater e =
-      opened ∙ merged-greater p cmp c (value s.0, s.1) (value t.0, t.1) (residues value left_rest) (residues value right_rest) e
-      ∙ ap (λ k. (value s.0, s.1) ∷ merged p cmp c (residues value left_rest) (residues value k)) (sym right_is)
+      opened ∙ merged-greater p cmp c s t (drop (i + 1) a) (drop (j + 1) b) e
+      ∙ ap (λ k. s ∷ merged p cmp c (drop (i + 1) a) k) (sym right)
 
-  equal : cmp s.1 t.1 ≡ Equal → merged p cmp c (residues value left) (residues value right) ≡ kept (add_mod p (value s.0) (mul_mod p c (value t.0))) s.1 (merged p cmp c (residues value left_rest) (residues value right_rest))
-  equal e = opened ∙ merged-equal p cmp c (value s.0, s.1) (value t.0, t.1) (residues value left_rest) (residues value right_rest) e
+  equal : cmp s.1 t.1 ≡ Equal → merged p cmp c (drop i a) (drop j b) ≡ kept (add_mod p s.0 (mul_mod p c t.0)) s.1 (merged p cmp c (drop (i + 1) a) (drop (j + 1) b))
+  equal e = opened ∙ merged-equal p cmp c s t (drop (i + 1) a) (drop (j + 1) b) e
 
-  pub step_equal : cmp s.1 t.1 ≡ Equal → add_mod p (value s.0) (mul_mod p c (value t.0)) ≢ 0 → merged p cmp c (residues value left) (residues value right) ≡ (add_mod p (value s.0) (mul_mod p c (value t.0)), s.1) ∷ merged p cmp c (residues value left_rest) (residues value right_rest)
+  pub step_equal : cmp s.1 t.1 ≡ Equal → add_mod p s.0 (mul_mod p c t.0) ≢ 0 → merged p cmp c (drop i a) (drop j b) ≡ (add_mod p s.0 (mul_mod p c t.0), s.1) ∷ merged p cmp c (drop (i + 1) a) (drop (j + 1) b)
   step_equal e ne = equal e ∙ cond-false _ _ _ (ne_eqb _ 0 ne)
 
-  pub step_cancelled : cmp s.1 t.1 ≡ Equal → add_mod p (value s.0) (mul_mod p c (value t.0)) ≡ 0 → merged p cmp c (residues value left) (residues value right) ≡ merged p cmp c (residues value left_rest) (residues value right_rest)
+  pub step_cancelled : cmp s.1 t.1 ≡ Equal → add_mod p s.0 (mul_mod p c t.0) ≡ 0 → merged p cmp c (drop i a) (drop j b) ≡ merged p cmp c (drop (i + 1) a) (drop (j + 1) b)
   step_cancelled e zero_k = equal e ∙ cond-true _ _ _ (eq-eqb _ 0 zero_k)
 
--- terms with residues as coefficients stay when multiplied by 1
-pub multiplied-one : (p : ℕ) (cmp : Monomial → Monomial → Ordering) (limit : ℕ) (ts : Terms) → IsOrdered p cmp limit ts → multiplied p 1 ts ≡ ts
-multiplied-one p cmp limit [] h = refl
-multiplied-one p cmp limit (t ∷ ts) h = ap₂ (λ (x : ℕ) (y : Terms). (x, t.1) ∷ y) (mul_mod-one_first p t.0 h.1) (multiplied-one p cmp limit ts h.5)
+-- where one side has ended, what is left of both stands one after the other
+ended : (p : ℕ) (cmp : Monomial → Monomial → Ordering) (c : ℕ) (a b : Terms) (i j : ℕ) → (length a ≤ i) ⊎ (length b ≤ j) → drop i a ++ multiplied p c (drop j b) ≡ merged p cmp c (drop i a) (drop j b)
+ended p cmp c a b i j (inl h) =
+    let none : drop i a ≡ [] = drop_all i a h in
+    ap (λ k. k ++ multiplied p c (drop j b)) none ∙ sym (ap (λ k. merged p cmp c k (drop j b)) none)
+ended p cmp c a b i j (inr h) =
+    let none : drop j b ≡ [] = drop_all j b h in
+    ap (λ k. drop i a ++ multiplied p c k) none ∙ append-nil (drop i a)
+    ∙ sym (ap (merged p cmp c (drop i a)) none ∙ merged-end p cmp c (drop i a))
 
-none_left : {A : Type 0} (xs : List A) → length xs ≡ 0 → xs ≡ []
-none_left [] h = refl
-none_left (x ∷ xs) h = absurd (omega arith)
-
-module _ {F : Type 0} (value : F → ℕ) (p : ℕ) (cmp : Monomial → Monomial → Ordering) (limit c one : ℕ) (one_is : one ≡ 1) (left right : List (F × Monomial)) (left_ordered : IsOrdered p cmp limit (residues value left)) where
-  -- where one side has ended, what is left of both stands behind the other
-  ended : (length right ≡ 0) ⊎ (length left ≡ 0) → multiplied p one (residues value left) ++ multiplied p c (residues value right) ≡ merged p cmp c (residues value left) (residues value right)
-  ended (inl h) =
-      let e : right ≡ [] = none_left right h in
-      ap (λ k. multiplied p one (residues value left) ++ multiplied p c (residues value k)) e
-      ∙ append-nil (multiplied p one (residues value left))
-      ∙ ap (λ k. multiplied p k (residues value left)) one_is ∙ multiplied-one p cmp limit (residues value left) left_ordered
-      ∙ sym (ap (λ k. merged p cmp c (residues value left) (residues value k)) e ∙ merged-end p cmp c (residues value left))
-  ended (inr h) =
-      let e : left ≡ [] = none_left left h in
-      ap (λ k. multiplied p one (residues value k) ++ multiplied p c (residues value right)) e
-      ∙ sym (ap (λ k. merged p cmp c (residues value k) (residues value right)) e)
-
-  pub finished : (out first second all : Terms) → first ≡ out ++ multiplied p one (residues value left) → second ≡ first ++ multiplied p c (residues value right) → (length right ≡ 0) ⊎ (length left ≡ 0) → out ++ merged p cmp c (residues value left) (residues value right) ≡ all → second ≡ all
-  finished out first second all e f h i =
-      f ∙ ap (λ k. k ++ multiplied p c (residues value right)) e ∙ simp append_assoc (ap (λ k. out ++ k) (ended h) ∙ i)
-
--- ---- the merge that moves its terms
-
--- the first element of a list is the one that is taken off
-pub same_first : {A : Type 0} (xs rest : List A) (x first : A) → x ≡ get_or xs 0 x → xs ≡ first ∷ rest → x ≡ first
-same_first xs rest x first e is = e ∙ ap (λ k. get_or k 0 x) is
-
-pub begins : {A : Type 0} (xs : List A) (x : A) → 0 < length xs → x ≡ get_or xs 0 x → xs ≡ x ∷ drop 1 xs
-begins [] x h e = absurd (omega arith)
-begins (y ∷ ys) x h e = ap (λ k. k ∷ ys) (sym e)
-
-pub nothing_left : {A : Type 0} (xs : List A) → (0 < length xs → false ≡ true) → length xs ≡ 0
-nothing_left [] h = refl
-nothing_left (x ∷ xs) h = absurd (false≢true (h (omega arith)))
-
-module _ {F : Type 0} (value : F → ℕ) (p : ℕ) (cmp : Monomial → Monomial → Ordering) (limit : ℕ) (left right : List (F × Monomial)) (right_ordered : IsOrdered p cmp limit (residues value right)) where
-  ended_moved : (length right ≡ 0) ⊎ (length left ≡ 0) → residues value (left ++ right) ≡ merged p cmp 1 (residues value left) (residues value right)
-  ended_moved (inl h) =
-      let e : right ≡ [] = none_left right h in
-      ap (λ k. residues value (left ++ k)) e ∙ ap (residues value) (append-nil left)
-      ∙ sym (ap (λ k. merged p cmp 1 (residues value left) (residues value k)) e ∙ merged-end p cmp 1 (residues value left))
-  ended_moved (inr h) =
-      let e : left ≡ [] = none_left left h in
-      ap (λ k. residues value (k ++ right)) e ∙ sym (multiplied-one p cmp limit (residues value right) right_ordered)
-      ∙ sym (ap (λ k. merged p cmp 1 (residues value k) (residues value right)) e)
-
-  -- what is left of both stands behind what was merged
-  pub finished_moved : (out first second : List (F × Monomial)) (all : Terms) → first ≡ out ++ left → second ≡ first ++ right → (length right ≡ 0) ⊎ (length left ≡ 0) → residues value out ++ merged p cmp 1 (residues value left) (residues value right) ≡ all → residues value second ≡ all
-  finished_moved out first second all e f h i =
-      ap (residues value) (f ∙ ap (λ k. k ++ right) e ∙ append_assoc out left right) ∙ residues-append value out (left ++ right)
-      ∙ ap (λ k. residues value out ++ k) (ended_moved h) ∙ i
+pub finished : (p : ℕ) (cmp : Monomial → Monomial → Ordering) (c : ℕ) (a b : Terms) (i j : ℕ) (out first second all : Terms) → first ≡ out ++ slice_range a i (length a) → second ≡ first ++ multiplied p c (slice_range b j (length b)) → (length a ≤ i) ⊎ (length b ≤ j) → out ++ merged p cmp c (drop i a) (drop j b) ≡ all → second ≡ all
+finished p cmp c a b i j out first second all e f h so_far =
+    f ∙ ap₂ (λ x y. x ++ multiplied p c y) (e ∙ ap (λ k. out ++ k) (take_rest a i)) (take_rest b j)
+    ∙ append_assoc out (drop i a) (multiplied p c (drop j b)) ∙ ap (λ k. out ++ k) (ended p cmp c a b i j h) ∙ so_far

@@ -1,5 +1,5 @@
 -- Polynomials as lists of terms in strictly decreasing order (Cox, Little and O'Shea, chapter 2, section 2).
-use Rattle.std.specs.Prelude.{◌≡◌, ◌≢◌, ℕ, zero, suc, ◌+◌, ◌<◌, ◌≤◌, ◌⊎◌, List, [], ◌∷◌, ◌==◌, if◌then◌else◌}
+use Rattle.std.specs.Prelude.{◌≡◌, ◌≢◌, ℕ, zero, suc, ◌+◌, ◌<◌, ◌≤◌, ◌⊎◌, List, [], ◌∷◌, ◌++◌, map, ◌==◌, if◌then◌else◌}
 use Rattle.std.specs.declared.cmp.Ordering.{Ordering}
 use Rattle.std.specs.declared.cmp.Ordering.TheVariants.{Greater}
 use Rattle.ffc_field.specs.Modular.{mul_mod}
@@ -10,6 +10,21 @@ use Rattle.ffc_ring.specs.Polynomial.{Terms, coefficient, SamePolynomial, Passes
 abbrev pub residues : {F : Type 0} → (F → ℕ) → List (F × Monomial) → Terms
 residues value [] = []
 residues value (t ∷ ts) = (value t.0, t.1) ∷ residues value ts
+
+-- the sum of polynomials: one list of terms after another
+abbrev pub sum_of : List Terms → Terms
+sum_of [] = []
+sum_of (ts ∷ tss) = ts ++ sum_of tss
+
+-- coefficients and monomials side by side
+abbrev pub zipped : {F : Type 0} → (F → ℕ) → List F → List Monomial → Terms
+zipped value [] ms = []
+zipped value (c ∷ cs) [] = []
+zipped value (c ∷ cs) (m ∷ ms) = (value c, m) ∷ zipped value cs ms
+
+-- the residues of elements
+abbrev pub values_of : {F : Type 0} → (F → ℕ) → List F → List ℕ
+values_of value cs = map value cs
 
 -- the monomial is above those of all the terms
 abbrev pub IsAbove : (Monomial → Monomial → Ordering) → Monomial → Terms → Type 0
@@ -22,11 +37,6 @@ abbrev pub IsOrdered : ℕ → (Monomial → Monomial → Ordering) → ℕ → 
 IsOrdered p cmp limit [] = Unit {0}
 IsOrdered p cmp limit (t ∷ ts) =
     (0 < t.0) × (t.0 < p) × IsMonomial t.1 × (degree t.1 ≤ limit) × IsAbove cmp t.1 ts × IsOrdered p cmp limit ts
-
--- c is the coefficient of m, which is above each other monomial with a coefficient other than 0
-abbrev pub IsLeading : ℕ → (Monomial → Monomial → Ordering) → Terms → ℕ → Monomial → Type 0
-IsLeading p cmp ts c m =
-    (coefficient p ts m ≡ c) × (c ≢ 0) × ((n : Monomial) → coefficient p ts n ≢ 0 → n ≢ m → cmp m n ≡ Greater)
 
 -- no monomial but 1 has a coefficient other than 0
 abbrev pub IsConstant : ℕ → Terms → Type 0

@@ -2,10 +2,13 @@
 #![tactic(auto)]
 
 mod poly;
+mod products;
 mod stop;
+mod sums;
 mod terms;
 #[cfg(test)]
 mod tests;
+mod values;
 
 pub use poly::{Poly, TERM_LIMIT};
 pub use stop::PolyStop;

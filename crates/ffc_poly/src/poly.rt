@@ -1,14 +1,16 @@
 //! Polynomials.
-ghost use Rattle.std.specs.Prelude.{◌≡◌, ◌≢◌, ℕ, ◌*◌, ◌<◌, ◌≤◌, ◌↔◌, List, [], ◌∷◌, ◌++◌, length, IsTrue, IsOk, IsNone, IfOk, IfSome, OnOk, IsErrOf, IfErr};
+ghost use Rattle.std.specs.Prelude.{◌≡◌, ◌≢◌, ℕ, ◌+◌, ◌*◌, ◌<◌, ◌≤◌, ◌↔◌, List, [], ◌∷◌, ◌++◌, length, get_or, IsTrue, IsOk, IsNone, IfOk, IfSome, OnOk, IsErrOf, IfErr};
 ghost use Rattle.ffc_field.specs.Modular.{add_mod, sub_mod, mul_mod};
 ghost use Rattle.ffc_ring.specs.Monomial.{mono_value};
 ghost use Rattle.ffc_ring.specs.Polynomial.{SamePolynomial, term_product, product, scaled, difference, poly_value, PassesDegree, PassesTerms};
-ghost use Rattle.ffc_poly.specs.Ordered.{residues, IsOrdered, IsLeading, IsConstant, IsWithinTerms, IsOverTerms, point_of};
+ghost use Rattle.ffc_mono.specs.Leading.{IsLeading};
+ghost use Rattle.ffc_poly.specs.Ordered.{residues, sum_of, IsOrdered, IsConstant, IsWithinTerms, IsOverTerms, point_of};
 
 use crate::stop::PolyStop;
-use crate::terms;
+use crate::terms::TermList;
+use crate::{products, sums, values};
 use ffc_field::Field;
-use ffc_mono::{DEGREE_LIMIT, Mono, MonoOrder};
+use ffc_mono::{DEGREE_LIMIT, Mono, MonoOrder, MonoRef};
 use std::alloc::{AllocError, Global};
 use std::marker::{Model, PhantomData};
 
@@ -19,7 +21,7 @@ pub const TERM_LIMIT: usize = 131_072;
 /// pairs of residue and monomial.
 #[derive(Debug)]
 pub struct Poly<F: Field, O: MonoOrder> {
-    terms: Vec<(F, Mono)>,
+    terms: TermList<F>,
     order: PhantomData<O>,
 }
 
@@ -31,13 +33,13 @@ impl<F: Field, O: MonoOrder> Drop for Poly<F, O> {
 
 impl<F: Field, O: MonoOrder> Model for Poly<F, O> {
     ghost use Rattle.std.specs.Prelude.{ℕ, ◌≤◌, List, length};
-    ghost use Rattle.ffc_poly.specs.Ordered.{residues, IsOrdered};
+    ghost use Rattle.ffc_poly.specs.Ordered.{IsOrdered};
 
     ghost Value = { List (ℕ × List (ℕ × ℕ)) };
 
-    ghost view = { λ a. residues F.value a.terms.items };
+    ghost view = { λ a. a.terms };
 
-    ghost invariant = { λ a. IsOrdered F.ORDER O.cmp 1024 (residues F.value a.terms.items) × (length a.terms.items ≤ 131072) };
+    ghost invariant = { λ a. IsOrdered F.ORDER O.cmp 1024 a.terms × (length a.terms ≤ 131072) };
 }
 
 impl<F: Field, O: MonoOrder> Clone for Poly<F, O> {
@@ -46,9 +48,8 @@ impl<F: Field, O: MonoOrder> Clone for Poly<F, O> {
     ghost is_clone = { λ a b. b ≡ a };
 
     fn clone(&self) -> Result<Self, AllocError> {
-        let terms = terms::cloned(*self.terms.allocator(), self.terms.as_slice())?;
         Ok(Poly {
-            terms,
+            terms: self.terms.clone()?,
             order: PhantomData,
         })
     }
@@ -67,7 +68,7 @@ impl<F: Field, O: MonoOrder> PartialEq for Poly<F, O> {
         ensures list { IsTrue result ↔ (self.now ≡ other.now) }
         ensures polynomial { IsTrue result ↔ SamePolynomial F.ORDER self.now other.now }
     {
-        self.terms() == other.terms()
+        values::are_equal(self.listed(), other.listed())
     }
 }
 
@@ -83,17 +84,17 @@ impl<F: Field, O: MonoOrder> Poly<F, O> {
         ensures { result ≡ [] }
     {
         Poly {
-            terms: Vec::new(alloc),
+            terms: TermList::new(alloc),
             order: PhantomData,
         }
     }
 
     /// The polynomial of these terms, which are ordered, where they are not too many.
-    fn within(terms: Vec<(F, Mono)>) -> Result<Self, PolyStop>
-        requires { IsOrdered F.ORDER O.cmp DEGREE_LIMIT (residues F.value terms.items) }
-        ensures value { IfOk result (λ r. r ≡ residues F.value terms.items) }
-        ensures fits { OnOk result (IsWithinTerms F.ORDER TERM_LIMIT (residues F.value terms.items)) }
-        ensures over { IfErr result (λ stop. (stop ≡ PolyStop.TermsOver) × IsOverTerms F.ORDER TERM_LIMIT (residues F.value terms.items)) }
+    fn within(terms: TermList<F>) -> Result<Self, PolyStop>
+        requires { IsOrdered F.ORDER O.cmp DEGREE_LIMIT terms }
+        ensures value { IfOk result (λ r. r ≡ terms) }
+        ensures fits { OnOk result (IsWithinTerms F.ORDER TERM_LIMIT terms) }
+        ensures over { IfErr result (λ stop. (stop ≡ PolyStop.TermsOver) × IsOverTerms F.ORDER TERM_LIMIT terms) }
     {
         if terms.len() > TERM_LIMIT {
             return Err(PolyStop::TermsOver);
@@ -104,31 +105,79 @@ impl<F: Field, O: MonoOrder> Poly<F, O> {
         })
     }
 
-    /// The sum of any terms. With n terms it takes at most n comparisons for each halving of n, and clones each
-    /// monomial once.
+    /// The sum of any terms. With n terms it takes at most n comparisons for each halving of n, and copies each
+    /// monomial at most so often.
     pub fn from_terms(alloc: Global, terms: &[(F, Mono)]) -> Result<Self, PolyStop>
         ensures sum { IfOk result (λ r. SamePolynomial F.ORDER r (residues F.value terms.now)) }
         ensures fits { OnOk result (PassesTerms F.ORDER TERM_LIMIT (residues F.value terms.now) → ⊥) }
         ensures terms_over { IsErrOf result PolyStop.TermsOver → PassesTerms F.ORDER TERM_LIMIT (residues F.value terms.now) }
+        ensures short { length terms.now ≤ TERM_LIMIT → IsErrOf result PolyStop.TermsOver → ⊥ }
         ensures no_product { IsErrOf result PolyStop.DegreeOver → ⊥ }
     {
-        Self::within(terms::sum_of::<F, O>(alloc, terms)?)
+        Self::within(sums::sum_of::<F, O>(alloc, terms)?)
+    }
+
+    /// The sum of any polynomials, merged by halves. With n terms in k of them it takes at most n comparisons for each
+    /// halving of k.
+    pub fn sum(alloc: Global, parts: &[Self]) -> Result<Self, PolyStop>
+        ensures sum { IfOk result (λ r. SamePolynomial F.ORDER r (sum_of parts.now)) }
+        ensures fits { OnOk result (PassesTerms F.ORDER TERM_LIMIT (sum_of parts.now) → ⊥) }
+        ensures terms_over { IsErrOf result PolyStop.TermsOver → PassesTerms F.ORDER TERM_LIMIT (sum_of parts.now) }
+        ensures short { length (sum_of parts.now) ≤ TERM_LIMIT → IsErrOf result PolyStop.TermsOver → ⊥ }
+        ensures no_product { IsErrOf result PolyStop.DegreeOver → ⊥ }
+    {
+        Self::within(Self::merged(alloc, parts)?)
+    }
+
+    /// The terms of the sum.
+    fn merged(alloc: Global, parts: &[Self]) -> Result<TermList<F>, AllocError>
+        ensures ordered { IfOk result (λ v. IsOrdered F.ORDER O.cmp DEGREE_LIMIT v) }
+        ensures same { IfOk result (λ v. SamePolynomial F.ORDER v (sum_of parts.now)) }
+    {
+        match parts {
+            [] => Ok(TermList::new(alloc)),
+            [part] => part.listed().clone(),
+            _ => {
+                let (front, back) = parts.split_at(parts.len() / 2);
+                let front = Self::merged(alloc, front)?;
+                let back = Self::merged(alloc, back)?;
+                sums::combined::<F, O>(alloc, &front, F::of(1), &back)
+            }
+        }
     }
 
     /// The terms, in strictly decreasing order.
-    pub fn terms(&self) -> &[(F, Mono)]
-        ensures value { residues F.value result.now ≡ self.now }
+    fn listed(&self) -> &TermList<F>
+        ensures value { result.now ≡ self.now }
         ensures ordered { IsOrdered F.ORDER O.cmp DEGREE_LIMIT self.now }
         ensures fits { length self.now ≤ TERM_LIMIT }
     {
-        self.terms.as_slice()
+        &self.terms
+    }
+
+    /// How many terms there are.
+    pub fn len(&self) -> usize
+        ensures value { result ≡ length self.now }
+        ensures ordered { IsOrdered F.ORDER O.cmp DEGREE_LIMIT self.now }
+        ensures fits { result ≤ TERM_LIMIT }
+    {
+        self.listed().len()
+    }
+
+    /// The coefficient and the monomial of the term at a place, counted from the leading one.
+    pub fn term(&self, i: usize) -> (F, MonoRef<'_>)
+        requires { i < length self.now }
+        ensures coefficient { F.value result.0 ≡ (get_or self.now i (0, [])).0 }
+        ensures monomial { result.1.powers.now ≡ (get_or self.now i (0, [])).1 }
+    {
+        self.listed().get(i)
     }
 
     /// Whether it is the polynomial 0.
     pub fn is_zero(&self) -> bool
         ensures { IsTrue result ↔ (self.now ≡ []) }
     {
-        self.terms().is_empty()
+        self.len() == 0
     }
 
     /// self + c*other for a constant c other than 0.
@@ -139,8 +188,9 @@ impl<F: Field, O: MonoOrder> Poly<F, O> {
         ensures over { IsErrOf result PolyStop.TermsOver → IsOverTerms F.ORDER TERM_LIMIT (self.now ++ scaled (F.value c) other.now) }
         ensures no_product { IsErrOf result PolyStop.DegreeOver → ⊥ }
     {
-        let alloc = *self.terms.allocator();
-        Self::within(terms::combined::<F, O>(alloc, self.terms(), c, other.terms())?)
+        let alloc = self.terms.allocator();
+        let terms = sums::combined::<F, O>(alloc, self.listed(), c, other.listed())?;
+        Self::within(terms)
     }
 
     /// The sum, in one merge.
@@ -150,6 +200,7 @@ impl<F: Field, O: MonoOrder> Poly<F, O> {
             ≡ add_mod F.ORDER (poly_value F.ORDER point self.now) (poly_value F.ORDER point other.now)) }
         ensures fits { OnOk result (PassesTerms F.ORDER TERM_LIMIT (self.now ++ other.now) → ⊥) }
         ensures terms_over { IsErrOf result PolyStop.TermsOver → PassesTerms F.ORDER TERM_LIMIT (self.now ++ other.now) }
+        ensures short { length self.now + length other.now ≤ TERM_LIMIT → IsErrOf result PolyStop.TermsOver → ⊥ }
         ensures no_product { IsErrOf result PolyStop.DegreeOver → ⊥ }
     {
         self.plus_times(F::of(1), other)
@@ -162,9 +213,38 @@ impl<F: Field, O: MonoOrder> Poly<F, O> {
             ≡ sub_mod F.ORDER (poly_value F.ORDER point self.now) (poly_value F.ORDER point other.now)) }
         ensures fits { OnOk result (PassesTerms F.ORDER TERM_LIMIT (difference F.ORDER self.now other.now) → ⊥) }
         ensures terms_over { IsErrOf result PolyStop.TermsOver → PassesTerms F.ORDER TERM_LIMIT (difference F.ORDER self.now other.now) }
+        ensures short { length self.now + length other.now ≤ TERM_LIMIT → IsErrOf result PolyStop.TermsOver → ⊥ }
         ensures no_product { IsErrOf result PolyStop.DegreeOver → ⊥ }
     {
         self.plus_times(F::of(1).neg(), other)
+    }
+
+    /// self + c*m*other. The multiple is made in one pass, and merged in another.
+    pub fn add_multiple(&self, c: F, m: MonoRef<'_>, other: &Self) -> Result<Self, PolyStop>
+        ensures sum { IfOk result (λ r. SamePolynomial F.ORDER r (self.now ++ term_product (F.value c) m.entry.powers.now other.now)) }
+        ensures fits { OnOk result (PassesTerms F.ORDER TERM_LIMIT (self.now ++ term_product (F.value c) m.entry.powers.now other.now) → ⊥) }
+        ensures terms_over { IsErrOf result PolyStop.TermsOver
+            → PassesTerms F.ORDER TERM_LIMIT (self.now ++ term_product (F.value c) m.entry.powers.now other.now) }
+        ensures short { length self.now + length other.now ≤ TERM_LIMIT → IsErrOf result PolyStop.TermsOver → ⊥ }
+        ensures degree_over { IsErrOf result PolyStop.DegreeOver ↔ PassesDegree F.ORDER DEGREE_LIMIT ((F.value c, m.entry.powers.now) ∷ []) other.now }
+    {
+        let multiple = other.times(c, m)?;
+        self.add(&multiple)
+    }
+
+    /// self - c*m*other. The multiple is made in one pass, and merged in another.
+    pub fn sub_multiple(&self, c: F, m: MonoRef<'_>, other: &Self) -> Result<Self, PolyStop>
+        ensures difference { IfOk result (λ r. SamePolynomial F.ORDER r
+            (difference F.ORDER self.now (term_product (F.value c) m.entry.powers.now other.now))) }
+        ensures fits { OnOk result (PassesTerms F.ORDER TERM_LIMIT
+            (difference F.ORDER self.now (term_product (F.value c) m.entry.powers.now other.now)) → ⊥) }
+        ensures terms_over { IsErrOf result PolyStop.TermsOver
+            → PassesTerms F.ORDER TERM_LIMIT (difference F.ORDER self.now (term_product (F.value c) m.entry.powers.now other.now)) }
+        ensures short { length self.now + length other.now ≤ TERM_LIMIT → IsErrOf result PolyStop.TermsOver → ⊥ }
+        ensures degree_over { IsErrOf result PolyStop.DegreeOver ↔ PassesDegree F.ORDER DEGREE_LIMIT ((F.value c, m.entry.powers.now) ∷ []) other.now }
+    {
+        let multiple = other.times(c, m)?;
+        self.sub(&multiple)
     }
 
     /// The product. Whether a product of two terms has too high a degree is seen before. Then the rows, which are the
@@ -179,18 +259,20 @@ impl<F: Field, O: MonoOrder> Poly<F, O> {
         ensures terms_over { IsErrOf result PolyStop.TermsOver → PassesTerms F.ORDER TERM_LIMIT (product self.now other.now) }
         ensures degree_over { IsErrOf result PolyStop.DegreeOver ↔ PassesDegree F.ORDER DEGREE_LIMIT self.now other.now }
     {
-        let alloc = *self.terms.allocator();
+        let alloc = self.terms.allocator();
         if self.is_zero() {
             return Ok(Self::zero(alloc));
         }
         if other.is_zero() {
             return Ok(Self::zero(alloc));
         }
-        let degree = terms::greatest_degree(self.terms()) + terms::greatest_degree(other.terms());
+        let degree = products::greatest_degree(self.listed())
+            + products::greatest_degree(other.listed());
         if degree > DEGREE_LIMIT {
             return Err(PolyStop::DegreeOver);
         }
-        Self::within(terms::product::<F, O>(alloc, self.terms(), other.terms())?)
+        let terms = products::product::<F, O>(alloc, self.listed(), other.listed())?;
+        Self::within(terms)
     }
 
     /// The product with c*m, in one pass.
@@ -201,17 +283,29 @@ impl<F: Field, O: MonoOrder> Poly<F, O> {
         ensures no_more_terms { IsErrOf result PolyStop.TermsOver → ⊥ }
         ensures degree_over { IsErrOf result PolyStop.DegreeOver ↔ PassesDegree F.ORDER DEGREE_LIMIT ((F.value c, m.now) ∷ []) self.now }
     {
-        let alloc = *self.terms.allocator();
+        self.times(c, m.as_ref())
+    }
+
+    /// The product with c and a borrowed monomial, in one pass.
+    pub fn times(&self, c: F, m: MonoRef<'_>) -> Result<Self, PolyStop>
+        ensures product { IfOk result (λ r. SamePolynomial F.ORDER r (term_product (F.value c) m.entry.powers.now self.now)) }
+        ensures value { IfOk result (λ r. (point : ℕ → ℕ) → poly_value F.ORDER point r
+            ≡ mul_mod F.ORDER (F.value c * mono_value point m.entry.powers.now) (poly_value F.ORDER point self.now)) }
+        ensures no_longer { IfOk result (λ r. length r ≤ length self.now) }
+        ensures no_more_terms { IsErrOf result PolyStop.TermsOver → ⊥ }
+        ensures degree_over { IsErrOf result PolyStop.DegreeOver ↔ PassesDegree F.ORDER DEGREE_LIMIT ((F.value c, m.entry.powers.now) ∷ []) self.now }
+    {
+        let alloc = self.terms.allocator();
         if c.residue() == 0 {
             return Ok(Self::zero(alloc));
         }
         if self.is_zero() {
             return Ok(Self::zero(alloc));
         }
-        if m.degree() + terms::greatest_degree(self.terms()) > DEGREE_LIMIT {
+        if m.degree() + products::greatest_degree(self.listed()) > DEGREE_LIMIT {
             return Err(PolyStop::DegreeOver);
         }
-        let terms = terms::times_term(alloc, c, m, self.terms())?;
+        let terms = products::times_term(alloc, c, m, self.listed())?;
         Ok(Poly {
             terms,
             order: PhantomData,
@@ -225,12 +319,12 @@ impl<F: Field, O: MonoOrder> Poly<F, O> {
             ≡ mul_mod F.ORDER (F.value c) (poly_value F.ORDER point self.now)) }
         ensures memory { IfErr result (λ stop. stop ≡ PolyStop.Memory) }
     {
-        let alloc = *self.terms.allocator();
+        let alloc = self.terms.allocator();
         if c.residue() == 0 {
             return Ok(Self::zero(alloc));
         }
-        let mut terms = Vec::new(alloc);
-        terms::append_scaled(&mut terms, c, self.terms())?;
+        let mut terms = TermList::new(alloc);
+        terms.extend_multiple(c, self.listed(), 0, self.len())?;
         Ok(Poly {
             terms,
             order: PhantomData,
@@ -241,25 +335,29 @@ impl<F: Field, O: MonoOrder> Poly<F, O> {
     pub fn eval(&self, at: &[F]) -> F
         ensures { F.value result ≡ poly_value F.ORDER (point_of F.value at.now) self.now }
     {
-        terms::value_at(self.terms(), at)
+        values::value_at(self.listed(), at)
     }
 
     /// The leading coefficient and monomial. It takes no memory.
-    pub fn lead(&self) -> Option<(F, &Mono)>
+    pub fn lead(&self) -> Option<(F, MonoRef<'_>)>
         ensures zero { IsNone result ↔ (self.now ≡ []) }
-        ensures leading { IfSome result (λ t. IsLeading F.ORDER O.cmp self.now (F.value t.0) t.1.now) }
+        ensures leading { IfSome result (λ t. IsLeading F.ORDER O.cmp self.now (F.value t.0) t.1.powers.now) }
     {
-        let (first, _) = self.terms().split_first()?;
-        Some((first.0, &first.1))
+        if self.len() == 0 {
+            None
+        } else {
+            Some(self.term(0))
+        }
     }
 
     /// Whether it has no monomial but 1. It takes no memory.
     pub fn is_constant(&self) -> bool
         ensures { IsTrue result ↔ IsConstant F.ORDER self.now }
     {
-        match self.terms().split_first() {
-            None => true,
-            Some((first, _)) => first.1.degree() == 0,
+        if self.len() == 0 {
+            true
+        } else {
+            self.term(0).1.degree() == 0
         }
     }
 }

@@ -8,7 +8,7 @@ pub enum PolyStop {
     DegreeOver,
     /// There would be more terms than the limit.
     TermsOver,
-    /// Memory was wanting.
+    /// Out of memory.
     Memory,
 }
 

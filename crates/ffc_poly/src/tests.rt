@@ -114,6 +114,24 @@ fn sum_of_polynomials(rt: HostRuntime) -> Result<(), Fail> {
     Ok(())
 }
 
+/// The sum of many polynomials, and a polynomial less a multiple of another, by hand.
+#[test]
+fn sums_of_many_and_multiples(rt: HostRuntime) -> Result<(), Fail> {
+    let alloc = rt.alloc();
+    let mut parts = Vec::new(alloc);
+    parts.push(sum::<F5, Lex>(alloc, &[(3, 1, 2), (1, 1, 0)])?)?;
+    parts.push(sum::<F5, Lex>(alloc, &[(2, 1, 2), (1, 0, 0)])?)?;
+    parts.push(sum::<F5, Lex>(alloc, &[(4, 0, 1), (4, 0, 0)])?)?;
+    let whole = Poly::sum(alloc, parts.as_slice())?;
+    assert!(rt; is_sum(alloc, &whole, &[(1, 1, 0), (4, 0, 1)])?);
+    let y = power(alloc, 1, 1)?;
+    let less = whole.sub_multiple(F5::of(2), y.as_ref(), &whole)?;
+    assert!(rt; is_sum(alloc, &less, &[(3, 1, 1), (1, 1, 0), (2, 0, 2), (4, 0, 1)])?);
+    let back = less.add_multiple(F5::of(2), y.as_ref(), &whole)?;
+    assert_eq!(rt; back, whole);
+    Ok(())
+}
+
 #[test]
 fn equal_polynomials(rt: HostRuntime) -> Result<(), Fail> {
     let a = sum::<F5, Lex>(rt.alloc(), &[(3, 1, 2), (1, 1, 0), (4, 0, 1)])?;

@@ -1,7 +1,7 @@
 -- The laws of monomials.
 use Rattle.std.proofs.Common.{◌≡◌, ◌≢◌, ℕ, suc, ◌+◌, ◌-◌, ◌*◌, ◌^◌, ◌<◌, ◌≤◌, max, cond, ltb, [], ◌∷◌, refl, sym, ap, ap₂, ◌∙◌, inl, inr, ne_eqb, eq-eqb, lt-ltb, le-ltb, arith, mul_assoc, mul_left_comm, one-mul, pow-add}
 use Rattle.std.proofs.lemmas.Bool.{cond-true, cond-false, cases_order, cases_eq, cases_lt}
-use Rattle.ffc_ring.specs.Monomial.{Monomial, IsMonomialFrom, IsMonomial, exponent, degree, with_power, joined, mono_mul, mono_lcm, mono_quotient, Divides, mono_value}
+use Rattle.ffc_ring.specs.Monomial.{Monomial, IsMonomialFrom, IsMonomial, exponent, degree, with_power, joined, mono_mul, mono_lcm, mono_quotient, Divides, AreCoprime, mono_value}
 
 -- ---- exponents
 
@@ -355,3 +355,40 @@ mono_quotient-behind q (p ∷ m) n v =
     let same : exponent (q ∷ n) p.0 ≡ exponent n p.0 = exponent-there q n p.0 (omega arith) in
     let rest : mono_quotient m (q ∷ n) ≡ mono_quotient m n = mono_quotient-behind q m n (from_lower (suc q.0) (suc p.0) m v.2 (omega arith)) in
     ap₂ (λ k l. cond (ltb k p.1) ((p.0, p.1 - k) ∷ l) l) same rest
+
+-- ---- divisibility, and least common multiples
+
+pub degree-mono_quotient : (m n : Monomial) → IsMonomial m → IsMonomial n → Divides n m → degree (mono_quotient m n) ≡ degree m - degree n
+degree-mono_quotient m n v w d =
+    omega (arith, degree-mono_mul n (mono_quotient m n), ap degree (mono_mul-mono_quotient m n v w d))
+
+pub divides_itself : (m : Monomial) → Divides m m
+divides_itself m x = omega arith
+
+pub divides_through : (m n k : Monomial) → Divides m n → Divides n k → Divides m k
+divides_through m n k d e x = omega (arith, d x, e x)
+
+pub mutual_divisors : (m n : Monomial) → IsMonomial m → IsMonomial n → Divides m n → Divides n m → m ≡ n
+mutual_divisors m n v w d e = one_monomial 0 m n v w (λ x. omega (arith, d x, e x))
+
+pub first_divides_lcm : (m n : Monomial) → IsMonomial m → IsMonomial n → Divides m (mono_lcm m n)
+first_divides_lcm m n v w x = omega (arith, exponent-mono_lcm m n v w x)
+
+pub second_divides_lcm : (m n : Monomial) → IsMonomial m → IsMonomial n → Divides n (mono_lcm m n)
+second_divides_lcm m n v w x = omega (arith, exponent-mono_lcm m n v w x)
+
+pub lcm_divides : (m n k : Monomial) → IsMonomial m → IsMonomial n → Divides m k → Divides n k → Divides (mono_lcm m n) k
+lcm_divides m n k v w d e x = omega (arith, exponent-mono_lcm m n v w x, d x, e x)
+
+one_is_none : (x y : ℕ) → (x ≢ 0 → y ≡ 0) → max x y ≡ x + y
+one_is_none x y h =
+    elim (cases_eq x 0) [
+      | inl none ↦ omega arith
+      | inr some ↦
+          let other : y ≡ 0 = h some in omega arith
+    ]
+
+pub coprime_lcm : (m n : Monomial) → IsMonomial m → IsMonomial n → AreCoprime m n → mono_lcm m n ≡ mono_mul m n
+coprime_lcm m n v w c =
+    one_monomial 0 (mono_lcm m n) (mono_mul m n) (IsMonomial-mono_lcm m n v w) (IsMonomial-mono_mul m n v w)
+    (λ x. exponent-mono_lcm m n v w x ∙ one_is_none (exponent m x) (exponent n x) (c x) ∙ sym (exponent-mono_mul m n v w x))

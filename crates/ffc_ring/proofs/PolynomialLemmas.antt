@@ -1,14 +1,14 @@
 -- The laws of polynomials. Each rests on one fact: a sum of the coefficients, each times a weight of its
 -- monomial, depends modulo p on the polynomial alone, and not on the list of terms that it is written as.
 -- A coefficient and a value at a point are such sums.
-use Rattle.std.proofs.Common.{◌≡◌, ◌≢◌, ◌⊎◌, ℕ, zero, suc, ◌+◌, ◌-◌, ◌*◌, ◌%◌, ◌<◌, ◌≤◌, Bool, true, false, cond, [], ◌∷◌, ◌++◌, length, refl, sym, ap, ap₂, ◌∙◌, inl, inr, eq-eqb, eqb-true, arith, mul_assoc, mul_left_comm, mul_comm, one-mul, mul-one, mul-add, add-mul, append_assoc, add_assoc}
-use Rattle.std.proofs.Math.Nat.{add-mod, add-mod-mod, mul-mod_right, mod-mod, mod-lt, add-mod_right, mod_self}
+use Rattle.std.proofs.Common.{◌≡◌, ◌≢◌, ◌⊎◌, ℕ, zero, suc, ◌+◌, ◌-◌, ◌*◌, ◌%◌, ◌<◌, ◌≤◌, Bool, true, false, cond, [], ◌∷◌, ◌++◌, length, refl, sym, ap, ap₂, ◌∙◌, subst, inl, inr, eq-eqb, eqb-true, arith, mul_assoc, mul_left_comm, mul_comm, one-mul, mul-one, mul-add, add-mul, append_assoc, add_assoc}
+use Rattle.std.proofs.Math.Nat.{add-mod, add-mod-mod, mul-mod_right, mod-mod, mod-lt, add-mod_right, mod_self, zero-mod}
 use Rattle.std.proofs.lemmas.Nat.{mul-mod_first, mul-mod_second, mul-mod}
-use Rattle.std.proofs.lemmas.Bool.{cond-true, cond-false, cases_Bool, and_parts, and_from, false≢true}
+use Rattle.std.proofs.lemmas.Bool.{cond-true, cond-false, cases_Bool, cases_eq, and_parts, and_from, false≢true}
 use Rattle.ffc_field.specs.Modular.{add_mod, sub_mod, mul_mod}
 use Rattle.ffc_ring.specs.Monomial.{Monomial, IsMonomial, mono_mul, mono_value, same_monomial}
 use Rattle.ffc_ring.specs.Polynomial.{Terms, AreTerms, written, coefficient, SamePolynomial, term_product, product, scaled, difference, value_sum, poly_value}
-use Rattle.ffc_ring.proofs.MonomialLemmas.{mono_value-mono_mul, mono_mul_comm, mono_mul_assoc}
+use Rattle.ffc_ring.proofs.MonomialLemmas.{mono_value-mono_mul, mono_mul_comm, mono_mul_assoc, mono_mul_cancel}
 
 -- ---- the test for equality
 
@@ -149,7 +149,7 @@ length-without m (t ∷ ts) =
     ]
 
 -- a sum with weights is the part of one monomial and the rest
-weighted-without : (g : Monomial → ℕ) (m : Monomial) (ts : Terms) → weighted g ts ≡ written ts m * g m + weighted g (without m ts)
+pub weighted-without : (g : Monomial → ℕ) (m : Monomial) (ts : Terms) → weighted g ts ≡ written ts m * g m + weighted g (without m ts)
 weighted-without g m [] = omega arith
 weighted-without g m (t ∷ ts) =
     elim (cases_monomial t.1 m) [
@@ -160,7 +160,7 @@ weighted-without g m (t ∷ ts) =
       | inr there ↦ rw (without-off m t ts there, written-off m t ts there) (omega (arith, weighted-without g m ts))
     ]
 
-written-without_at : (m : Monomial) (ts : Terms) → written (without m ts) m ≡ 0
+pub written-without_at : (m : Monomial) (ts : Terms) → written (without m ts) m ≡ 0
 written-without_at m [] = refl
 written-without_at m (t ∷ ts) =
     elim (cases_monomial t.1 m) [
@@ -168,7 +168,7 @@ written-without_at m (t ∷ ts) =
       | inr there ↦ rw (without-off m t ts there) (written-off m t (without m ts) there ∙ written-without_at m ts)
     ]
 
-written-without_off : (m n : Monomial) (ts : Terms) → m ≢ n → written (without m ts) n ≡ written ts n
+pub written-without_off : (m n : Monomial) (ts : Terms) → m ≢ n → written (without m ts) n ≡ written ts n
 written-without_off m n [] ne = refl
 written-without_off m n (t ∷ ts) ne =
     elim (cases_monomial t.1 m) [
@@ -365,3 +365,122 @@ pub product_with_one : (p : ℕ) (a : Terms) → SamePolynomial p (product ((1, 
 product_with_one p a =
     SamePolynomial-from_weighted p (product ((1, []) ∷ []) a) a
     (λ g. ap (λ k. k % p) (weighted-product g ((1, []) ∷ []) a ∙ omega (arith, one-mul (weighted g a))))
+
+-- ---- multiples by a term
+
+-- the shifted monomial weighs as the monomial did
+pub shifted_one : (m n k : Monomial) → IsMonomial m → IsMonomial n → IsMonomial k → one_at (mono_mul m n) (mono_mul m k) ≡ one_at n k
+shifted_one m n k v w u =
+    elim (cases_monomial k n) [
+      | inl same ↦
+          cond-true _ _ _ (same_monomial-equal (mono_mul m k) (mono_mul m n) (ap (mono_mul m) same))
+          ∙ sym (cond-true _ _ _ (same_monomial-equal k n same))
+      | inr other ↦
+          cond-false _ _ _ (same_monomial-other (mono_mul m k) (mono_mul m n) (λ e. other (mono_mul_cancel m k n v u w e)))
+          ∙ sym (cond-false _ _ _ (same_monomial-other k n other))
+    ]
+
+pub coefficient-term_product : (p c : ℕ) (m n : Monomial) (a : Terms) → IsMonomial m → IsMonomial n → AreTerms a → coefficient p (term_product c m a) (mono_mul m n) ≡ mul_mod p c (coefficient p a n)
+coefficient-term_product p c m n a v w u =
+    ap (λ k. k % p)
+    (written-is_weighted (term_product c m a) (mono_mul m n) ∙ weighted-term_product (one_at (mono_mul m n)) c m a
+    ∙ ap (λ k. c * k) (weighted-alike (λ k. one_at (mono_mul m n) (mono_mul m k)) (one_at n) a u (λ k x. shifted_one m n k v w x) ∙ sym (written-is_weighted a n)))
+    ∙ sym (mul-mod_second c (written a n) p)
+
+-- a monomial of the terms behind the first, whose product is another
+behind_first : (p : ℕ) (m k : Monomial) (t : ℕ × Monomial) (a : Terms) → IsMonomial t.1 × AreTerms a → mono_mul m t.1 ≢ k → (n : Monomial) × IsMonomial n × (coefficient p a n ≢ 0) × (k ≡ mono_mul m n) → (n : Monomial) × IsMonomial n × (coefficient p (t ∷ a) n ≢ 0) × (k ≡ mono_mul m n)
+behind_first p m k t a u there (n, w, some, e) =
+    (n, w, (λ none. some (sym (ap (λ x. x % p) (written-off n t a (λ same. there (ap (mono_mul m) same ∙ sym e)))) ∙ none)), e)
+
+pub shifted_monomial : (p c : ℕ) (m k : Monomial) (a : Terms) → IsMonomial m → AreTerms a → coefficient p (term_product c m a) k ≢ 0 → (n : Monomial) × IsMonomial n × (coefficient p a n ≢ 0) × (k ≡ mono_mul m n)
+shifted_monomial p c m k [] v u some = absurd (some (zero-mod p))
+shifted_monomial p c m k (t ∷ a) v u some =
+    elim (cases_monomial (mono_mul m t.1) k) [
+      | inl here ↦ (
+        t.1,
+        u.0,
+        (λ none.
+            some
+            (ap (coefficient p (term_product c m (t ∷ a))) (sym here) ∙ coefficient-term_product p c m t.1 (t ∷ a) v u.0 u ∙ ap (λ x. mul_mod p c x) none
+            ∙ ap (λ x. x % p) (omega arith) ∙ zero-mod p)),
+        sym here,
+      )
+      | inr there ↦
+          behind_first p m k t a u there
+          (shifted_monomial p c m k a v u.1 (λ none. some (ap (λ x. x % p) (written-off k (c * t.0, mono_mul m t.1) (term_product c m a) there) ∙ none)))
+    ]
+
+-- ---- sums with weights that are all 0
+
+AreTerms-without : (m : Monomial) (ts : Terms) → AreTerms ts → AreTerms (without m ts)
+AreTerms-without m [] v = tt
+AreTerms-without m (t ∷ ts) v =
+    elim (cases_monomial t.1 m) [
+      | inl here ↦ rw (without-at m t ts here) (AreTerms-without m ts v.1)
+      | inr there ↦ rw (without-off m t ts there) (v.0, AreTerms-without m ts v.1)
+    ]
+
+pub coefficient-without : (p : ℕ) (m n : Monomial) (ts : Terms) → coefficient p (without m ts) n ≢ 0 → (m ≢ n) × (coefficient p ts n ≢ 0)
+coefficient-without p m n ts some =
+    elim (cases_monomial m n) [
+      | inl here ↦
+          absurd (some (ap (coefficient p (without m ts)) (sym here) ∙ ap (λ k. k % p) (written-without_at m ts) ∙ zero-mod p))
+      | inr there ↦ (there, (λ none. some (ap (λ k. k % p) (written-without_off m n ts there) ∙ none)))
+    ]
+
+part_none : (p c g : ℕ) → (c % p ≢ 0 → g % p ≡ 0) → (c * g) % p ≡ 0
+part_none p c g h =
+    elim (cases_eq (c % p) 0) [
+      | inl none ↦ times_alike p c 0 g (none ∙ sym (zero-mod p)) ∙ ap (λ k. k % p) (omega arith) ∙ zero-mod p
+      | inr some ↦ sym (mul-mod_second c g p) ∙ ap (λ k. (c * k) % p) (h some) ∙ ap (λ k. k % p) (omega arith) ∙ zero-mod p
+    ]
+
+none_within : (p : ℕ) (g : Monomial → ℕ) (bound : ℕ) (ts : Terms) → length ts ≤ bound → AreTerms ts → ((x : Monomial) → IsMonomial x → coefficient p ts x ≢ 0 → g x % p ≡ 0) → weighted g ts % p ≡ 0
+none_within p g bound [] h v none = zero-mod p
+none_within p g zero (t ∷ ts) h v none = absurd (omega arith)
+none_within p g (suc bound) (t ∷ ts) h v none =
+    let shorter : length (without t.1 (t ∷ ts)) ≤ length ts = rw (without-at t.1 t ts refl) (length-without t.1 ts) in
+    let rest : weighted g (without t.1 (t ∷ ts)) % p ≡ 0 =
+    none_within p g bound (without t.1 (t ∷ ts)) (omega arith) (AreTerms-without t.1 (t ∷ ts) v)
+    (λ x w some. none x w (coefficient-without p t.1 x (t ∷ ts) some).1) in
+    ap (λ k. k % p) (weighted-without g t.1 (t ∷ ts))
+    ∙ sum_alike p (written (t ∷ ts) t.1 * g t.1) 0 (weighted g (without t.1 (t ∷ ts))) 0
+    (part_none p (written (t ∷ ts) t.1) (g t.1) (none t.1 v.0) ∙ sym (zero-mod p)) (rest ∙ sym (zero-mod p))
+    ∙ zero-mod p
+
+-- where each monomial with a coefficient weighs 0, so does the sum
+pub weighted_none : (p : ℕ) (g : Monomial → ℕ) (ts : Terms) → AreTerms ts → ((x : Monomial) → IsMonomial x → coefficient p ts x ≢ 0 → g x % p ≡ 0) → weighted g ts % p ≡ 0
+weighted_none p g ts v none = none_within p g (length ts) ts (omega arith) v none
+
+-- where no product of a monomial of each is k, k has no coefficient in the product
+pub coefficient-no_product : (p : ℕ) (a b : Terms) (k : Monomial) → AreTerms a → AreTerms b → ((x y : Monomial) → IsMonomial x → IsMonomial y → coefficient p a x ≢ 0 → coefficient p b y ≢ 0 → mono_mul x y ≢ k) → coefficient p (product a b) k ≡ 0
+coefficient-no_product p a b k v w apart =
+    ap (λ x. x % p) (written-is_weighted (product a b) k ∙ weighted-product (one_at k) a b)
+    ∙ weighted_none p (λ x. weighted (λ y. one_at k (mono_mul x y)) b) a v
+    (λ x u some. weighted_none p (λ y. one_at k (mono_mul x y)) b w
+    (λ y t other. ap (λ j. j % p) (cond-false _ _ _ (same_monomial-other (mono_mul x y) k (apart x y u t some other))) ∙ zero-mod p))
+
+-- where a product of a monomial of each is m*n for m and n alone, its coefficient is the product of theirs
+pub coefficient-one_product : (p : ℕ) (a b : Terms) (m n : Monomial) → AreTerms a → AreTerms b → IsMonomial m → IsMonomial n → ((x y : Monomial) → IsMonomial x → IsMonomial y → coefficient p a x ≢ 0 → coefficient p b y ≢ 0 → m ≢ x → mono_mul x y ≢ mono_mul m n) → coefficient p (product a b) (mono_mul m n) ≡ mul_mod p (coefficient p a m) (coefficient p b n)
+coefficient-one_product p a b m n v w u t alone =
+    let g : Monomial → ℕ = λ x. weighted (λ y. one_at (mono_mul m n) (mono_mul x y)) b in
+    let at_m : g m ≡ written b n =
+    weighted-alike (λ y. one_at (mono_mul m n) (mono_mul m y)) (one_at n) b w (λ y s. shifted_one m n y u t s) ∙ sym (written-is_weighted b n) in
+    let rest : weighted g (without m a) % p ≡ 0 =
+    weighted_none p g (without m a) (AreTerms-without m a v)
+    (λ x s some.
+    let both = coefficient-without p m x a some in
+    weighted_none p (λ y. one_at (mono_mul m n) (mono_mul x y)) b w
+    (λ y r other. ap (λ j. j % p) (cond-false _ _ _ (same_monomial-other (mono_mul x y) (mono_mul m n) (alone x y s r both.1 other both.0))) ∙ zero-mod p)) in
+    ap (λ x. x % p) (written-is_weighted (product a b) (mono_mul m n) ∙ weighted-product (one_at (mono_mul m n)) a b ∙ weighted-without g m a)
+    ∙ sum_alike p (written a m * g m) (written a m * written b n) (weighted g (without m a)) 0 (ap (λ k. (written a m * k) % p) at_m) (rest ∙ sym (zero-mod p))
+    ∙ ap (λ k. k % p) (omega arith) ∙ mul-mod (written a m) (written b n) p
+
+-- a monomial with a coefficient is one
+pub monomial_of_coefficient : (p : ℕ) (ts : Terms) (m : Monomial) → AreTerms ts → coefficient p ts m ≢ 0 → IsMonomial m
+monomial_of_coefficient p [] m v some = absurd (some (zero-mod p))
+monomial_of_coefficient p (t ∷ ts) m v some =
+    elim (cases_monomial t.1 m) [
+      | inl here ↦ subst IsMonomial here v.0
+      | inr there ↦ monomial_of_coefficient p ts m v.1 (λ none. some (ap (λ k. k % p) (written-off m t ts there) ∙ none))
+    ]

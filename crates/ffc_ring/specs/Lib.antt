@@ -1,3 +1,4 @@
+pub mod Counting
 pub mod Monomial
 pub mod MonomialLaws
 pub mod Polynomial

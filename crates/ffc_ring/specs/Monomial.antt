@@ -4,7 +4,7 @@
 -- A monomial is a finite map from variables to exponents of at least 1. It is written as the list of its
 -- pairs of variable and exponent with strictly increasing variables, so equal maps are equal lists, and the
 -- empty list is 1.
-use Rattle.std.specs.Prelude.{ℕ, suc, ◌+◌, ◌-◌, ◌*◌, ◌^◌, ◌≤◌, max, List, [], ◌∷◌, Bool, true, false, ◌&&◌, ◌==◌, nat_lt, if◌then◌else◌}
+use Rattle.std.specs.Prelude.{◌≡◌, ◌≢◌, ℕ, suc, ◌+◌, ◌-◌, ◌*◌, ◌^◌, ◌≤◌, max, List, [], ◌∷◌, Bool, true, false, ◌&&◌, ◌==◌, nat_lt, if◌then◌else◌}
 
 abbrev pub Monomial : Type 0
 Monomial = List (ℕ × ℕ)
@@ -51,6 +51,10 @@ mono_lcm m n = joined max m n
 -- the first divides the second: no exponent is greater
 abbrev pub Divides : Monomial → Monomial → Type 0
 Divides m n = (x : ℕ) → exponent m x ≤ exponent n x
+
+-- no variable occurs in both
+abbrev pub AreCoprime : Monomial → Monomial → Type 0
+AreCoprime m n = (x : ℕ) → exponent m x ≢ 0 → exponent n x ≡ 0
 
 -- the quotient subtracts the exponents of the divisor, and drops a variable whose exponent becomes 0
 abbrev pub mono_quotient : Monomial → Monomial → Monomial

@@ -1,6 +1,6 @@
 -- The laws of monomials.
-use Rattle.std.specs.Prelude.{◌≡◌, ℕ, ◌+◌, ◌*◌, ◌≤◌, max, []}
-use Rattle.ffc_ring.specs.Monomial.{Monomial, IsMonomial, exponent, degree, mono_mul, mono_lcm, mono_quotient, mono_value, Divides}
+use Rattle.std.specs.Prelude.{◌≡◌, ℕ, ◌+◌, ◌-◌, ◌*◌, ◌≤◌, max, []}
+use Rattle.ffc_ring.specs.Monomial.{Monomial, IsMonomial, exponent, degree, mono_mul, mono_lcm, mono_quotient, mono_value, Divides, AreCoprime}
 
 -- equal exponents, equal monomials
 abbrev pub OneMonomial : Type 0
@@ -59,3 +59,37 @@ QuotientTimesDivisor =
 abbrev pub ProductOfValues : Type 0
 ProductOfValues =
     (point : ℕ → ℕ) (m n : Monomial) → mono_value point (mono_mul m n) ≡ mono_value point m * mono_value point n
+
+-- the exponents and the degree of a quotient
+abbrev pub QuotientSubtractsExponents : Type 0
+QuotientSubtractsExponents =
+    (m n : Monomial) → IsMonomial m → (x : ℕ) → exponent (mono_quotient m n) x ≡ exponent m x - exponent n x
+
+abbrev pub QuotientSubtractsDegrees : Type 0
+QuotientSubtractsDegrees =
+    (m n : Monomial) → IsMonomial m → IsMonomial n → Divides n m → degree (mono_quotient m n) ≡ degree m - degree n
+
+-- divisibility is an order
+abbrev pub DividesItself : Type 0
+DividesItself = (m : Monomial) → Divides m m
+
+abbrev pub DividesThrough : Type 0
+DividesThrough = (m n k : Monomial) → Divides m n → Divides n k → Divides m k
+
+abbrev pub MutualDivisorsAreEqual : Type 0
+MutualDivisorsAreEqual = (m n : Monomial) → IsMonomial m → IsMonomial n → Divides m n → Divides n m → m ≡ n
+
+-- both monomials divide their least common multiple, and it divides each common multiple
+abbrev pub FirstDividesLcm : Type 0
+FirstDividesLcm = (m n : Monomial) → IsMonomial m → IsMonomial n → Divides m (mono_lcm m n)
+
+abbrev pub SecondDividesLcm : Type 0
+SecondDividesLcm = (m n : Monomial) → IsMonomial m → IsMonomial n → Divides n (mono_lcm m n)
+
+abbrev pub LcmDividesCommonMultiples : Type 0
+LcmDividesCommonMultiples =
+    (m n k : Monomial) → IsMonomial m → IsMonomial n → Divides m k → Divides n k → Divides (mono_lcm m n) k
+
+-- where no variable occurs in both, it is their product
+abbrev pub CoprimeLcmIsProduct : Type 0
+CoprimeLcmIsProduct = (m n : Monomial) → IsMonomial m → IsMonomial n → AreCoprime m n → mono_lcm m n ≡ mono_mul m n

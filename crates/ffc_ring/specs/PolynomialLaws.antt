@@ -1,8 +1,8 @@
 -- The laws of polynomials.
-use Rattle.std.specs.Prelude.{◌≡◌, ℕ, ◌<◌, ◌++◌, [], ◌∷◌}
+use Rattle.std.specs.Prelude.{◌≡◌, ◌≢◌, ℕ, ◌<◌, ◌++◌, [], ◌∷◌}
 use Rattle.ffc_field.specs.Modular.{add_mod, sub_mod, mul_mod}
-use Rattle.ffc_ring.specs.Monomial.{Monomial}
-use Rattle.ffc_ring.specs.Polynomial.{Terms, AreTerms, coefficient, SamePolynomial, product, scaled, difference, poly_value}
+use Rattle.ffc_ring.specs.Monomial.{Monomial, IsMonomial, mono_mul}
+use Rattle.ffc_ring.specs.Polynomial.{Terms, AreTerms, coefficient, SamePolynomial, term_product, product, scaled, difference, poly_value}
 
 -- coefficients of sums, differences and multiples
 abbrev pub SumAddsCoefficients : Type 0
@@ -62,3 +62,15 @@ ProductDistributesFromLeft = (p : ℕ) (a b c : Terms) → SamePolynomial p (pro
 
 abbrev pub ProductWithOne : Type 0
 ProductWithOne = (p : ℕ) (a : Terms) → SamePolynomial p (product ((1, []) ∷ []) a) a
+
+-- the coefficient of a shifted monomial in a multiple by a term
+abbrev pub MultipleShiftsCoefficients : Type 0
+MultipleShiftsCoefficients =
+    (p c : ℕ) (m n : Monomial) (a : Terms) → IsMonomial m → IsMonomial n → AreTerms a
+    → coefficient p (term_product c m a) (mono_mul m n) ≡ mul_mod p c (coefficient p a n)
+
+-- a multiple by a term has no other monomials
+abbrev pub MultipleHasShiftedMonomials : Type 0
+MultipleHasShiftedMonomials =
+    (p c : ℕ) (m k : Monomial) (a : Terms) → IsMonomial m → AreTerms a → coefficient p (term_product c m a) k ≢ 0
+    → (n : Monomial) × IsMonomial n × (coefficient p a n ≢ 0) × (k ≡ mono_mul m n)

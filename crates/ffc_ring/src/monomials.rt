@@ -1,5 +1,6 @@
 //! The laws of monomials.
-ghost use Rattle.ffc_ring.specs.MonomialLaws.{OneMonomial, ProductIsMonomial, ProductAddsExponents, LcmIsMonomial, LcmTakesGreater, ProductAddsDegrees, ProductCommutes, ProductAssociates, ProductWithOne, ProductCancels, DividesProduct, DivisorIsNoHigher, QuotientIsMonomial, QuotientTimesDivisor, ProductOfValues};
+ghost use Rattle.ffc_ring.specs.Counting.{CountOfMonomials};
+ghost use Rattle.ffc_ring.specs.MonomialLaws.{OneMonomial, ProductIsMonomial, ProductAddsExponents, LcmIsMonomial, LcmTakesGreater, ProductAddsDegrees, ProductCommutes, ProductAssociates, ProductWithOne, ProductCancels, DividesProduct, DivisorIsNoHigher, QuotientIsMonomial, QuotientTimesDivisor, QuotientSubtractsExponents, QuotientSubtractsDegrees, DividesItself, DividesThrough, MutualDivisorsAreEqual, FirstDividesLcm, SecondDividesLcm, LcmDividesCommonMultiples, CoprimeLcmIsProduct, ProductOfValues};
 
 /// Monomials with equal exponents are equal.
 pub fn equal_exponents()
@@ -18,6 +19,15 @@ pub fn product()
 pub fn least_common_multiple()
     ensures monomial { LcmIsMonomial }
     ensures exponents { LcmTakesGreater }
+    ensures of_first { FirstDividesLcm }
+    ensures of_second { SecondDividesLcm }
+    ensures least { LcmDividesCommonMultiples }
+    ensures coprime { CoprimeLcmIsProduct }
+{}
+
+/// How many monomials there are in given variables up to a degree.
+pub fn count()
+    ensures { CountOfMonomials }
 {}
 
 /// Products are those of a commutative monoid in which factors cancel.
@@ -34,4 +44,9 @@ pub fn divisibility()
     ensures degree { DivisorIsNoHigher }
     ensures quotient_monomial { QuotientIsMonomial }
     ensures quotient { QuotientTimesDivisor }
+    ensures quotient_exponents { QuotientSubtractsExponents }
+    ensures quotient_degree { QuotientSubtractsDegrees }
+    ensures itself { DividesItself }
+    ensures through { DividesThrough }
+    ensures mutual { MutualDivisorsAreEqual }
 {}

@@ -1,11 +1,13 @@
 //! The laws of polynomials.
-ghost use Rattle.ffc_ring.specs.PolynomialLaws.{SumAddsCoefficients, DifferenceSubtractsCoefficients, ScaledMultipliesCoefficients, SumAtPoint, DifferenceAtPoint, ProductAtPoint, OneValue, SameSums, SameProducts, SumCommutes, ProductCommutes, ProductAssociates, ProductDistributes, ProductDistributesFromLeft, ProductWithOne};
+ghost use Rattle.ffc_ring.specs.PolynomialLaws.{SumAddsCoefficients, DifferenceSubtractsCoefficients, ScaledMultipliesCoefficients, MultipleShiftsCoefficients, MultipleHasShiftedMonomials, SumAtPoint, DifferenceAtPoint, ProductAtPoint, OneValue, SameSums, SameProducts, SumCommutes, ProductCommutes, ProductAssociates, ProductDistributes, ProductDistributesFromLeft, ProductWithOne};
 
 /// The coefficients of sums, differences and multiples.
 pub fn coefficients()
     ensures sum { SumAddsCoefficients }
     ensures difference { DifferenceSubtractsCoefficients }
     ensures scaled { ScaledMultipliesCoefficients }
+    ensures multiple { MultipleShiftsCoefficients }
+    ensures shifted { MultipleHasShiftedMonomials }
 {}
 
 /// The value at a point keeps sums, differences and products, and belongs to the polynomial and not to the

@@ -1,6 +1,9 @@
 use Rattle.std.proofs.Common.{◌≡◌, sym, ap, ap₂, ◌∙◌, subst, arith}
 use Rattle.ffc_ring.specs.Monomial.{IsMonomial, exponent, degree, mono_lcm}
 use Rattle.ffc_ring.proofs.MonomialLemmas.{IsMonomial-mono_lcm, exponent-mono_lcm}
+use Rattle.std.specs.Int.RustNames.{bit_or}
+use Rattle.ffc_mono.specs.Masks.{mask_of}
+use Rattle.ffc_mono.proofs.MaskLemmas.{mask-lcm}
 use Rattle.ffc_mono.proofs.mono.Mono.lcm.Goals as goal
 
 pub invariant_of-result : goal.invariant_of-result
@@ -11,6 +14,8 @@ invariant_of-result c =
       subst IsMonomial (sym product) (IsMonomial-mono_lcm a b c.pairs.ensures.monomial c.pairs-2.ensures.monomial),
       omega (arith, c.in-Some.ensures.1, ap degree c.as_slice.ensures),
       omega (arith, c.in-Some.ensures.0, c.in-Some.ensures.1),
+      ap₂ bit_or (c.self.invariant.3 ∙ ap mask_of c.self.view_is) (c.other.invariant.3 ∙ ap mask_of c.other.view_is)
+          ∙ mask-lcm a b c.pairs.ensures.monomial c.pairs-2.ensures.monomial ∙ sym (ap mask_of product),
     )
 
 pub returns-clause-exponents : goal.returns-clause-exponents

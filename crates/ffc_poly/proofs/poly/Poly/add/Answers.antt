@@ -1,7 +1,9 @@
-use Rattle.std.proofs.Common.{◌≡◌, ℕ, ◌++◌, ◌∙◌, arith, mod-eq_of_lt}
+use Rattle.std.proofs.Common.{◌≡◌, ℕ, ◌++◌, ◌∙◌, arith, mod-eq_of_lt, length-append}
 use Rattle.std.proofs.lemmas.Result.{IfOk-weaker, on_ok_weaker}
 use Rattle.ffc_field.specs.Modular.{add_mod}
 use Rattle.ffc_ring.specs.Polynomial.{SamePolynomial, scaled, poly_value}
+use Rattle.ffc_poly.specs.declared.poly.TheConstants.{TERM_LIMIT}
+use Rattle.ffc_poly.proofs.Coefficients.{PassesTerms-length}
 use Rattle.ffc_poly.proofs.Clauses.{value_of_sum, sum_by_one}
 use Rattle.ffc_poly.proofs.poly.Poly.add.Goals as goal
 
@@ -49,3 +51,14 @@ returns-clause-terms_over g c =
     let k = value c.of.result in
     let step = sum_by_one p k a b one in
     λ refused. c.plus_times.ensures.over refused (a ++ b) step
+
+pub returns-clause-short : goal.returns-clause-short
+returns-clause-short g c =
+    let value = g.F.Field.value in
+    let p = g.F.Field.ORDER in
+    let a = c.args.self.now in
+    let b = c.args.other.now in
+    let one : value c.of.result ≡ 1 = c.of.ensures ∙ mod-eq_of_lt (omega (arith, g.met.F.Field.prime.least)) in
+    λ short refused.
+    PassesTerms-length p TERM_LIMIT (a ++ b) (omega (arith, length-append a b, short))
+    (c.plus_times.ensures.over refused (a ++ b) (sum_by_one p (value c.of.result) a b one))

@@ -12,8 +12,8 @@ returns-clause-fits g c =
     let value = g.F.Field.value in
     let p = g.F.Field.ORDER in
     let k = value c.args.c in
-    let same : SamePolynomial p (residues value c.in_ok-combined.field-0.items) (c.args.self.now ++ scaled k c.args.other.now) =
-    λ m. c.in_ok-combined.ensures.same m ∙ ap₂ (λ x y. written (x ++ scaled k y) m % p) c.terms.ensures.value c.terms-2.ensures.value in
+    let same : SamePolynomial p (c.in_ok-terms.terms) (c.args.self.now ++ scaled k c.args.other.now) =
+    λ m. c.in_ok-terms.ensures.same m ∙ ap₂ (λ x y. written (x ++ scaled k y) m % p) c.listed.ensures.value c.listed-2.ensures.value in
     on_ok_weaker c.within.result (λ h all e. h all (λ m. same m ∙ e m)) c.within.ensures.fits
 
 pub returns-clause-over : goal.returns-clause-over
@@ -21,6 +21,6 @@ returns-clause-over g c =
     let value = g.F.Field.value in
     let p = g.F.Field.ORDER in
     let k = value c.args.c in
-    let same : SamePolynomial p (residues value c.in_ok-combined.field-0.items) (c.args.self.now ++ scaled k c.args.other.now) =
-    λ m. c.in_ok-combined.ensures.same m ∙ ap₂ (λ x y. written (x ++ scaled k y) m % p) c.terms.ensures.value c.terms-2.ensures.value in
-    λ refused all e. err_of c.within.result TermsOver (IsOverTerms p TERM_LIMIT (residues value c.in_ok-combined.field-0.items)) c.within.ensures.over refused all (λ m. same m ∙ e m)
+    let same : SamePolynomial p (c.in_ok-terms.terms) (c.args.self.now ++ scaled k c.args.other.now) =
+    λ m. c.in_ok-terms.ensures.same m ∙ ap₂ (λ x y. written (x ++ scaled k y) m % p) c.listed.ensures.value c.listed-2.ensures.value in
+    λ refused all e. err_of c.within.result TermsOver (IsOverTerms p TERM_LIMIT (c.in_ok-terms.terms)) c.within.ensures.over refused all (λ m. same m ∙ e m)

@@ -1,9 +1,9 @@
-use Rattle.std.proofs.Common.{◌≡◌, ◌≢◌, [], ◌++◌, ◌%◌, length, sym, ap, ◌∙◌, subst, arith}
+use Rattle.std.proofs.Common.{◌≡◌, ◌≢◌, [], ◌++◌, ◌%◌, length, slice_range, sym, ap, ap₂, ◌∙◌, subst, arith}
 use Rattle.ffc_ring.specs.Polynomial.{written}
 use Rattle.ffc_mono.specs.declared.mono.TheConstants.{DEGREE_LIMIT}
 use Rattle.ffc_poly.specs.Ordered.{residues, IsOrdered, multiplied}
 use Rattle.ffc_poly.proofs.Merging.{IsOrdered-multiplied}
-use Rattle.ffc_poly.proofs.Lists.{length-residues}
+use Rattle.ffc_poly.proofs.TermLemmas.{whole_range}
 use Rattle.ffc_poly.proofs.Clauses.{nothing_times, value_of_scaled, SamePolynomial-multiplied, length-multiplied}
 use Rattle.ffc_poly.proofs.poly.Poly.scale.Goals as goal
 
@@ -19,13 +19,14 @@ invariant_of-result g c =
     let p = g.F.Field.ORDER in
     let k = value c.args.c in
     let now = c.args.self.now in
-    let out : residues value c.append_scaled.new.out.items ≡ multiplied p k now =
-    c.in_ok-append_scaled.ensures ∙ ap (λ w. residues value w ++ multiplied p k (residues value c.terms.result.now)) c.new-terms.ensures.items
-    ∙ ap (multiplied p k) c.terms.ensures.value in
+    let whole : slice_range c.listed.result.now 0 c.len.result ≡ now =
+    whole_range c.listed.result.now c.len.result (omega (arith, c.len.ensures.value, ap length c.listed.ensures.value)) ∙ c.listed.ensures.value in
+    let out : c.extend_multiple.new.self ≡ multiplied p k now =
+    c.in_ok-extend_multiple.ensures ∙ ap₂ (λ x y. x ++ multiplied p k y) c.new-terms.ensures whole in
     let other : k ≢ 0 = λ e. c.if-residue-eq0.false (c.residue.ensures.value ∙ e) in (
       subst (IsOrdered p g.O.MonoOrder.cmp DEGREE_LIMIT) (sym out)
-          (IsOrdered-multiplied p g.met.F.Field.prime g.O.MonoOrder.cmp g.met.O.MonoOrder.laws DEGREE_LIMIT k other (g.met.F.Field.below c.args.c) now c.terms.ensures.ordered),
-      omega (arith, length-residues value c.append_scaled.new.out.items, ap length out, length-multiplied p k now, c.terms.ensures.fits),
+          (IsOrdered-multiplied p g.met.F.Field.prime g.O.MonoOrder.cmp g.met.O.MonoOrder.laws DEGREE_LIMIT k other (g.met.F.Field.below c.args.c) now c.listed.ensures.ordered),
+      omega (arith, ap length out, length-multiplied p k now, c.listed.ensures.fits),
     )
 
 pub returns-clause-product : goal.returns-clause-product
@@ -34,9 +35,10 @@ returns-clause-product g c =
     let p = g.F.Field.ORDER in
     let k = value c.args.c in
     let now = c.args.self.now in
-    let out : residues value c.append_scaled.new.out.items ≡ multiplied p k now =
-    c.in_ok-append_scaled.ensures ∙ ap (λ w. residues value w ++ multiplied p k (residues value c.terms.result.now)) c.new-terms.ensures.items
-    ∙ ap (multiplied p k) c.terms.ensures.value in
+    let whole : slice_range c.listed.result.now 0 c.len.result ≡ now =
+    whole_range c.listed.result.now c.len.result (omega (arith, c.len.ensures.value, ap length c.listed.ensures.value)) ∙ c.listed.ensures.value in
+    let out : c.extend_multiple.new.self ≡ multiplied p k now =
+    c.in_ok-extend_multiple.ensures ∙ ap₂ (λ x y. x ++ multiplied p k y) c.new-terms.ensures whole in
     λ m. ap (λ w. written w m % p) out ∙ SamePolynomial-multiplied p k now m
 
 pub returns-clause-value : goal.returns-clause-value
@@ -45,7 +47,8 @@ returns-clause-value g c =
     let p = g.F.Field.ORDER in
     let k = value c.args.c in
     let now = c.args.self.now in
-    let out : residues value c.append_scaled.new.out.items ≡ multiplied p k now =
-    c.in_ok-append_scaled.ensures ∙ ap (λ w. residues value w ++ multiplied p k (residues value c.terms.result.now)) c.new-terms.ensures.items
-    ∙ ap (multiplied p k) c.terms.ensures.value in
-    value_of_scaled p k (residues value c.append_scaled.new.out.items) now (λ m. ap (λ w. written w m % p) out ∙ SamePolynomial-multiplied p k now m)
+    let whole : slice_range c.listed.result.now 0 c.len.result ≡ now =
+    whole_range c.listed.result.now c.len.result (omega (arith, c.len.ensures.value, ap length c.listed.ensures.value)) ∙ c.listed.ensures.value in
+    let out : c.extend_multiple.new.self ≡ multiplied p k now =
+    c.in_ok-extend_multiple.ensures ∙ ap₂ (λ x y. x ++ multiplied p k y) c.new-terms.ensures whole in
+    value_of_scaled p k (c.extend_multiple.new.self) now (λ m. ap (λ w. written w m % p) out ∙ SamePolynomial-multiplied p k now m)

@@ -10,12 +10,12 @@ pub returns-then-len-gt-TERM_LIMIT-clause-over : goal.returns-then-len-gt-TERM_L
 returns-then-len-gt-TERM_LIMIT-clause-over g c =
     let value = g.F.Field.value in (
       refl,
-      λ all same. PassesTerms-long g.F.Field.ORDER g.O.MonoOrder.cmp g.met.O.MonoOrder.laws DEGREE_LIMIT TERM_LIMIT (residues value c.args.terms.items) all c.requires same
-          (omega (arith, length-residues value c.args.terms.items, c.len.ensures, c.args.terms.ok.0, c.if-len-gt-TERM_LIMIT.true)),
+      λ all same. PassesTerms-long g.F.Field.ORDER g.O.MonoOrder.cmp g.met.O.MonoOrder.laws DEGREE_LIMIT TERM_LIMIT (c.args.terms) all c.requires same
+          (omega (arith, c.len.ensures, c.if-len-gt-TERM_LIMIT.true)),
     )
 
 pub returns-clause-fits : goal.returns-clause-fits
 returns-clause-fits g c =
     let value = g.F.Field.value in
-    λ all same. PassesTerms-short g.F.Field.ORDER g.O.MonoOrder.cmp g.met.O.MonoOrder.laws DEGREE_LIMIT TERM_LIMIT (residues value c.args.terms.items) all same
-    (omega (arith, length-residues value c.args.terms.items, c.len.ensures, c.args.terms.ok.0, c.if-len-gt-TERM_LIMIT.false))
+    λ all same. PassesTerms-short g.F.Field.ORDER g.O.MonoOrder.cmp g.met.O.MonoOrder.laws DEGREE_LIMIT TERM_LIMIT (c.args.terms) all same
+    (omega (arith, c.len.ensures, c.if-len-gt-TERM_LIMIT.false))

@@ -1,0 +1,107 @@
+use Rattle.std.proofs.Common.{◌≡◌, ℕ, refl, ◌∷◌, ◌++◌, [], take, take_all, length, sym, ap, ◌∙◌, arith, append_assoc}
+use Rattle.ffc_ring.specs.Monomial.{mono_mul}
+use Rattle.ffc_ring.proofs.MonomialLemmas.{sums}
+use Rattle.ffc_mono.proofs.PowerLemmas.{rest_is, degree_is, pushed, joined_by_left, joined_by_right, joined_by_both, joined_at_left_end, joined_at_right_end, longer-append, part-append}
+use Rattle.ffc_mono.proofs.powers.append_powers.Goals as goal
+use Rattle.ffc_mono.proofs.powers.append_powers.Goals.{in_default, in_default-2}
+
+pub loop-p-init : goal.loop-p-init
+loop-p-init c = record {
+  left_is = c.requires.first_is;
+  right_is = c.requires.second_is;
+  fits = c.requires.fits;
+  so_far = refl;
+  part = take_all _ _ (omega arith);
+  longer = omega arith;
+}
+
+pub returns-in_err-push-clause-part : goal.returns-in_err-push-clause-part
+returns-in_err-push-clause-part c = ap (take _) c.in_err-push.ensures.items ∙ c.loop-p.invariant.part
+
+pub returns-in_err-push-2-clause-part : goal.returns-in_err-push-2-clause-part
+returns-in_err-push-2-clause-part c = ap (take _) c.in_err-push-2.ensures.items ∙ c.loop-p.invariant.part
+
+pub returns-in_err-push-3-clause-part : goal.returns-in_err-push-3-clause-part
+returns-in_err-push-3-clause-part c = ap (take _) c.in_err-push-3.ensures.items ∙ c.loop-p.invariant.part
+
+pub overflow_add-p : goal.overflow_add-p
+overflow_add-p c =
+    omega (arith, degree_is _ _ _ c.in-Some-Some.ensures.cases.0, degree_is _ _ _ c.in-Some-Some.ensures'.cases.0, c.loop-p.invariant.fits)
+
+pub loop-p-preserved-in_ok-push : goal.loop-p-preserved-in_ok-push
+loop-p-preserved-in_ok-push c =
+    let at = c.in-Some-Some in
+    let i = c.loop-p.invariant in
+    let left = at.ensures.cases.0 in
+    let right = at.ensures'.cases.0 in
+    let out = c.in_ok-push.ensures.items in
+    record {
+      left_is = rest_is _ _ _ left i.left_is;
+      right_is = i.right_is;
+      fits = omega (arith, degree_is _ _ _ left, i.fits);
+      so_far = pushed _ _ _ _ _ out
+          (ap (λ k. c.loop-p.out.items ++ k) (sym (joined_by_left _ sums _ _ _ _ _ _ left right i.left_is i.right_is c.if-p-q.true)) ∙ i.so_far);
+      part = part-append _ _ _ _ _ out i.longer i.part;
+      longer = longer-append _ _ _ _ out i.longer;
+    }
+
+pub loop-p-preserved-in_ok-push-2 : goal.loop-p-preserved-in_ok-push-2
+loop-p-preserved-in_ok-push-2 c =
+    let at = c.in-Some-Some in
+    let i = c.loop-p.invariant in
+    let left = at.ensures.cases.0 in
+    let right = at.ensures'.cases.0 in
+    let out = c.in_ok-push-2.ensures.items in
+    record {
+      left_is = i.left_is;
+      right_is = rest_is _ _ _ right i.right_is;
+      fits = omega (arith, degree_is _ _ _ right, i.fits);
+      so_far = pushed _ _ _ _ _ out
+          (ap (λ k. c.loop-p.out.items ++ k) (sym (joined_by_right _ sums _ _ _ _ _ _ left right i.left_is i.right_is c.if-q-p.true)) ∙ i.so_far);
+      part = part-append _ _ _ _ _ out i.longer i.part;
+      longer = longer-append _ _ _ _ out i.longer;
+    }
+
+pub loop-p-preserved : goal.loop-p-preserved
+loop-p-preserved c =
+    let at = c.in-Some-Some in
+    let i = c.loop-p.invariant in
+    let left = at.ensures.cases.0 in
+    let right = at.ensures'.cases.0 in
+    let out = c.in_ok-push-3.ensures.items in
+    let same : at.p.now.0 ≡ at.q.now.0 = omega (arith, c.if-p-q.false, c.if-q-p.false) in
+    record {
+      left_is = rest_is _ _ _ left i.left_is;
+      right_is = rest_is _ _ _ right i.right_is;
+      fits = omega (arith, degree_is _ _ _ left, degree_is _ _ _ right, i.fits);
+      so_far = pushed _ _ _ _ _ out
+          (ap (λ k. c.loop-p.out.items ++ k) (sym (joined_by_both _ sums _ _ _ _ _ _ left right i.left_is i.right_is same)) ∙ i.so_far);
+      part = part-append _ _ _ _ _ out i.longer i.part;
+      longer = longer-append _ _ _ _ out i.longer;
+    }
+
+pub returns-in_err-extend_from_slice-clause-part : goal.returns-in_err-extend_from_slice-clause-part
+returns-in_err-extend_from_slice-clause-part c = ap (take _) c.in_err-extend_from_slice.ensures.items ∙ c.loop-p.invariant.part
+
+pub returns-in_err-extend_from_slice-2-clause-part : goal.returns-in_err-extend_from_slice-2-clause-part
+returns-in_err-extend_from_slice-2-clause-part c =
+    ap (take _) c.in_err-extend_from_slice-2.ensures.items
+    ∙ part-append _ _ _ _ _ c.in_ok-extend_from_slice.ensures.items c.loop-p.invariant.longer c.loop-p.invariant.part
+
+pub returns-clause-product : goal.returns-clause-product
+returns-clause-product c =
+    let i = c.loop-p.invariant in
+    let out : c.extend_from_slice-2.new.self.items ≡ c.loop-p.out.items ++ (c.loop-p.left.now ++ c.loop-p.right.now) =
+    c.in_ok-extend_from_slice-2.ensures.items ∙ ap (λ k. k ++ c.loop-p.right.now) c.in_ok-extend_from_slice.ensures.items ∙ simp append_assoc in
+    elim c.match-split_first.branch [
+      | in_default w ↦
+          out ∙ ap (λ k. c.loop-p.out.items ++ k) (sym (joined_at_right_end _ sums _ _ i.left_is w.in_default.ensures'.cases)) ∙ i.so_far
+      | in_default-2 w ↦
+          out ∙ ap (λ k. c.loop-p.out.items ++ k) (sym (joined_at_left_end _ _ _ w.in_default.ensures.cases)) ∙ i.so_far
+    ]
+
+pub returns-clause-part : goal.returns-clause-part
+returns-clause-part c =
+    let i = c.loop-p.invariant in
+    let first = c.in_ok-extend_from_slice.ensures.items in
+    part-append _ _ _ _ _ c.in_ok-extend_from_slice-2.ensures.items (longer-append _ _ _ _ first i.longer) (part-append _ _ _ _ _ first i.longer i.part)

@@ -1,0 +1,16 @@
+use Rattle.std.proofs.Common.{◌≡◌, ◌+◌, ◌^◌, ◌<◌, ◌≤◌, length, take, ◌++◌}
+use Rattle.ffc_ring.specs.Monomial.{IsMonomial, degree, mono_mul}
+use Rattle.ffc_mono.proofs.powers.append_powers.Given as goal
+
+abbrev pub invariant-loop-p : goal.invariant-loop-p
+invariant-loop-p l = record {
+  left_is : IsMonomial l.left;
+  right_is : IsMonomial l.right;
+  fits : degree l.left + degree l.right < 2 ^ 32;
+  so_far : l.out.items ++ mono_mul l.left l.right ≡ l.fn.out.items ++ mono_mul l.fn.first l.fn.second;
+  part : take (length l.fn.out.items) l.out.items ≡ l.fn.out.items;
+  longer : length l.fn.out.items ≤ length l.out.items;
+}
+
+abbrev pub decreases-loop-p : goal.decreases-loop-p
+decreases-loop-p l = length l.left + length l.right

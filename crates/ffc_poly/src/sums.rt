@@ -1,0 +1,88 @@
+//! Sums of terms in strictly decreasing order.
+ghost use Rattle.std.specs.Prelude.{◌≡◌, ◌≢◌, ◌≤◌, [], ◌++◌, length, IfOk};
+ghost use Rattle.ffc_ring.specs.Monomial.{IsMonomial, degree};
+ghost use Rattle.ffc_ring.specs.Polynomial.{SamePolynomial, scaled};
+ghost use Rattle.ffc_poly.specs.Ordered.{residues, IsOrdered, kept};
+
+use crate::terms::TermList;
+use ffc_field::Field;
+use ffc_mono::{DEGREE_LIMIT, Mono, MonoOrder};
+use std::alloc::{AllocError, Global};
+use std::cmp::Ordering;
+
+/// a + c*b for a constant c other than 0, in one merge: each comparison takes a term off one of both, or off both.
+pub fn combined<F: Field, O: MonoOrder>(
+    alloc: Global,
+    a: &TermList<F>,
+    c: F,
+    b: &TermList<F>,
+) -> Result<TermList<F>, AllocError>
+    requires a_is { IsOrdered F.ORDER O.cmp DEGREE_LIMIT a.now }
+    requires b_is { IsOrdered F.ORDER O.cmp DEGREE_LIMIT b.now }
+    requires c_is { F.value c ≢ 0 }
+    ensures ordered { IfOk result (λ v. IsOrdered F.ORDER O.cmp DEGREE_LIMIT v) }
+    ensures same { IfOk result (λ v. SamePolynomial F.ORDER v (a.now ++ scaled (F.value c) b.now)) }
+{
+    let mut out = TermList::new(alloc);
+    let mut i = 0;
+    let mut j = 0;
+    while i < a.len() && j < b.len() {
+        let (s, m) = a.get(i);
+        let (t, n) = b.get(j);
+        match O::compare_borrowed(m, n) {
+            Ordering::Less => {
+                out.push(c.mul(t), n)?;
+                j += 1;
+            }
+            Ordering::Equal => {
+                let sum = s.add(c.mul(t));
+                if sum.residue() != 0 {
+                    out.push(sum, m)?;
+                }
+                i += 1;
+                j += 1;
+            }
+            Ordering::Greater => {
+                out.push(s, m)?;
+                i += 1;
+            }
+        }
+    }
+    out.extend_from(a, i, a.len())?;
+    out.extend_multiple(c, b, j, b.len())?;
+    Ok(out)
+}
+
+/// The sum of any terms, merged by halves. With n terms it takes at most n comparisons for each halving of n.
+pub fn sum_of<F: Field, O: MonoOrder>(
+    alloc: Global,
+    terms: &[(F, Mono)],
+) -> Result<TermList<F>, AllocError>
+    ensures ordered { IfOk result (λ v. IsOrdered F.ORDER O.cmp DEGREE_LIMIT v) }
+    ensures same { IfOk result (λ v. SamePolynomial F.ORDER v (residues F.value terms.now)) }
+{
+    match terms {
+        [] => Ok(TermList::new(alloc)),
+        [term] => single(alloc, term),
+        _ => {
+            let (front, back) = terms.split_at(terms.len() / 2);
+            let front = sum_of::<F, O>(alloc, front)?;
+            let back = sum_of::<F, O>(alloc, back)?;
+            combined::<F, O>(alloc, &front, F::of(1), &back)
+        }
+    }
+}
+
+/// The list of this term, or none where its coefficient is 0.
+fn single<F: Field>(alloc: Global, term: &(F, Mono)) -> Result<TermList<F>, AllocError>
+    ensures monomial { IsMonomial term.now.1 }
+    ensures degree { degree term.now.1 ≤ DEGREE_LIMIT }
+    ensures terms { IfOk result (λ v. v ≡ kept (F.value term.now.0) term.now.1 []) }
+{
+    let mut out = TermList::new(alloc);
+    let _degree = term.1.degree();
+    if term.0.residue() != 0 {
+        out.push(term.0, term.1.as_ref())?;
+    }
+    Ok(out)
+}
