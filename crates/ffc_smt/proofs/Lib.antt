@@ -34,3 +34,4 @@ pub mod AskingLemmas
 pub mod ChoiceLemmas
 pub mod OptionLemmas
 pub mod LightLemmas
+pub mod PartLemmas
