@@ -2,12 +2,14 @@
 //!
 //! `bench lex KIB PIECE` reads a generated script, `bench cert KIB PIECE` a generated certificate, each of so many KiB
 //! in pieces of so many bytes. `bench term COUNT` makes, measures and evaluates a chain of so many nodes. `bench poly CASE TERMS TIMES`
-//! computes with polynomials of so many terms so many times. Without arguments each runs on a small input.
+//! computes with polynomials of so many terms so many times. `bench roots CASE DEGREE` finds all roots of a polynomial of
+//! this degree. Without arguments each runs on a small input.
 #![tactic(auto)]
 
 mod certificates;
 mod chains;
 mod polynomials;
+mod roots;
 mod scripts;
 
 use std::alloc::Global;
@@ -21,6 +23,8 @@ const PIECE: u32 = 4096;
 const NODES: u32 = 1000;
 
 const TERMS: u32 = 60;
+
+const DEGREE: u32 = 16;
 
 /// So many pieces of so many bytes.
 #[derive(Clone, Copy)]
@@ -58,8 +62,9 @@ fn run<R: Print>(
             second.unwrap_or(TERMS),
             third.unwrap_or(1),
         ),
+        "roots" => roots::run(rt, alloc, first.unwrap_or(0), second.unwrap_or(DEGREE)),
         _ => println!(rt;
-            "bench lex KIB PIECE | cert KIB PIECE | term COUNT | poly CASE TERMS TIMES"
+            "bench lex KIB PIECE | cert KIB PIECE | term COUNT | poly CASE TERMS TIMES | roots CASE DEGREE"
         ),
     }
 }
@@ -68,7 +73,7 @@ fn main(rt: HostRuntime) -> io::Result<()> {
     let mut arguments = env::args(&rt)?;
     let _program = arguments.next();
     let Some(name) = arguments.next() else {
-        for name in ["lex", "cert", "term", "poly"] {
+        for name in ["lex", "cert", "term", "poly", "roots"] {
             run(&rt, rt.alloc(), name, None, None, None)?;
         }
         return Ok(());
