@@ -5,5 +5,6 @@ mod Lists
 mod Merging
 mod MergingSteps
 mod ProductLemmas
+mod TailLemmas
 mod TermLemmas
 mod ValueLemmas

@@ -1,10 +1,13 @@
 //! Sparse polynomials over a field, in a monomial order.
 #![tactic(auto)]
 
+mod accumulator;
 mod poly;
 mod products;
 mod stop;
 mod sums;
+mod tail;
+mod tails;
 mod terms;
 #[cfg(test)]
 mod tests;
