@@ -1,6 +1,7 @@
 mod Clauses
 mod Coefficients
 mod EqualityLemmas
+mod LeadLemmas
 mod Lists
 mod Merging
 mod MergingSteps

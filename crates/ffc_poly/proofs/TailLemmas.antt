@@ -14,7 +14,7 @@ cancel_any p a b r h e =
     let below : r % p < p = mod-lt r h in
     cancel_mod p a b (r % p) (omega arith) (add-mod-mod a r p ∙ e ∙ sym (add-mod-mod b r p))
 
-weighted-set : (g : Monomial → ℕ) (xs : List Terms) (i : ℕ) (t : Terms) → i < length xs → weighted g (sum_of (set xs i t)) + weighted g (get_or xs i []) ≡ weighted g (sum_of xs) + weighted g t
+pub weighted-set : (g : Monomial → ℕ) (xs : List Terms) (i : ℕ) (t : Terms) → i < length xs → weighted g (sum_of (set xs i t)) + weighted g (get_or xs i []) ≡ weighted g (sum_of xs) + weighted g t
 weighted-set g [] i t h = absurd (omega arith)
 weighted-set g (x ∷ xs) zero t h = omega (arith, weighted-append g t (sum_of xs), weighted-append g x (sum_of xs))
 weighted-set g (x ∷ xs) (suc i) t h =
@@ -46,7 +46,7 @@ pub ordered_item : (p : ℕ) (cmp : Monomial → Monomial → Ordering) (limit :
 ordered_item p cmp limit xs i x v h e =
     subst (IsOrdered p cmp limit) (sym (e ∙ get_or_default xs i x [] h)) (AreOrdered-at p cmp limit xs i v h)
 
-same_sums_of : (p w v m a b : ℕ) → 0 < p → w + a + b ≡ v + m → m % p ≡ (a + b) % p → w % p ≡ v % p
+pub same_sums_of : (p w v m a b : ℕ) → 0 < p → w + a + b ≡ v + m → m % p ≡ (a + b) % p → w % p ≡ v % p
 same_sums_of p w v m a b h e f =
     cancel_any p w v (a + b) h (ap (λ k. k % p) (sym (add_assoc w a b) ∙ e) ∙ sum_alike p v v m (a + b) refl f)
 

@@ -1,8 +1,7 @@
 //! Sums that grow and shrink by multiples of short polynomials.
-ghost use Rattle.std.specs.Prelude.{◌≡◌, ◌≢◌, ℕ, ◌<◌, ◌≤◌, ◌↔◌, [], ◌∷◌, ◌++◌, length, IsTrue, IfOk, OnOk, OnErr, IsErrOf};
+ghost use Rattle.std.specs.Prelude.{◌≡◌, ◌≢◌, ℕ, ◌<◌, ◌≤◌, ◌↔◌, [], ◌∷◌, ◌++◌, length, IsNone, IfOk, IfSome, OnOk, OnErr, IsErrOf, MatchOption};
 ghost use Rattle.ffc_ring.specs.Polynomial.{SamePolynomial, term_product, scaled, difference, PassesDegree, PassesTerms};
-ghost use Rattle.ffc_poly.specs.Ordered.{sum_of, IsOrdered};
-ghost use Rattle.ffc_poly.specs.Tails.{AreOrdered};
+ghost use Rattle.ffc_mono.specs.Leading.{IsLeading};
 
 use crate::poly::{Poly, TERM_LIMIT};
 use crate::stop::PolyStop;
@@ -11,12 +10,13 @@ use crate::tail::Tail;
 use crate::tails::{self, is_within};
 use crate::terms::TermList;
 use ffc_field::Field;
-use ffc_mono::{DEGREE_LIMIT, MonoOrder, MonoRef};
+use ffc_mono::{DEGREE_LIMIT, Mono, MonoOrder, MonoRef};
 use std::alloc::{AllocError, Global};
 use std::marker::{Model, PhantomData};
 
-/// A polynomial as a sum of ordered lists, each at least twice as long as the next (Yan, "The geobucket data structure
-/// for polynomials", 1998). So subtracting a multiple of a short polynomial from a long one seldom touches the long one.
+/// A polynomial as a sum of ordered lists, each about twice as long as the next or longer (Yan, "The geobucket data
+/// structure for polynomials", 1998). So subtracting a multiple of a short polynomial from a long one seldom touches the
+/// long one. A clause sees the terms of all lists, one after another, and compares them as polynomials.
 #[derive(Debug)]
 pub struct Accumulator<F: Field, O: MonoOrder> {
     tails: Vec<Tail<F>>,
@@ -117,6 +117,37 @@ impl<F: Field, O: MonoOrder> Accumulator<F, O> {
     {
         let multiple = q.times(c, m)?;
         self.subtract(&multiple)
+    }
+
+    /// The leading coefficient and monomial, or none at zero. Leading terms that cancel are dropped as they are met.
+    pub fn lead(&mut self) -> Result<Option<(F, Mono)>, AllocError>
+        ensures same { SamePolynomial F.ORDER self.new self.old }
+        ensures zero { IfOk result (λ o. IsNone o ↔ SamePolynomial F.ORDER self.old []) }
+        ensures leading { IfOk result (λ o. IfSome o (λ t. IsLeading F.ORDER O.cmp self.old (F.value t.0) t.1)) }
+    {
+        let alloc = *self.tails.allocator();
+        let Some(i) = tails::settled::<F, O>(&mut self.tails) else {
+            return Ok(None);
+        };
+        let first = tails::first_of(alloc, self.tails.as_slice(), i)?;
+        Ok(Some(first))
+    }
+
+    /// The same, taken off. Without memory the polynomial stays.
+    pub fn take_lead(&mut self) -> Result<Option<(F, Mono)>, AllocError>
+        ensures zero { IfOk result (λ o. IsNone o ↔ SamePolynomial F.ORDER self.old []) }
+        ensures leading { IfOk result (λ o. IfSome o (λ t. IsLeading F.ORDER O.cmp self.old (F.value t.0) t.1)) }
+        ensures rest { IfOk result (λ o. MatchOption o (SamePolynomial F.ORDER self.new [])
+            (λ t. SamePolynomial F.ORDER self.old ((F.value t.0, t.1) ∷ self.new))) }
+        ensures unchanged { OnErr result (SamePolynomial F.ORDER self.new self.old) }
+    {
+        let alloc = *self.tails.allocator();
+        let Some(i) = tails::settled::<F, O>(&mut self.tails) else {
+            return Ok(None);
+        };
+        let first = tails::first_of(alloc, self.tails.as_slice(), i)?;
+        tails::drop_first_of(&mut self.tails, i);
+        Ok(Some(first))
     }
 
     /// The polynomial.

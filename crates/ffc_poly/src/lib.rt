@@ -13,5 +13,6 @@ mod terms;
 mod tests;
 mod values;
 
+pub use accumulator::Accumulator;
 pub use poly::{Poly, TERM_LIMIT};
 pub use stop::PolyStop;
