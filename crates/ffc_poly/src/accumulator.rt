@@ -101,7 +101,7 @@ impl<F: Field, O: MonoOrder> Accumulator<F, O> {
         self.put(F::of(1).neg(), p)
     }
 
-    /// Subtracts c*m*q.
+    /// Subtracts c*m*q. Where it passes a limit, or there is no memory, nothing changes.
     pub fn subtract_multiple(
         &mut self,
         c: F,
@@ -110,6 +110,8 @@ impl<F: Field, O: MonoOrder> Accumulator<F, O> {
     ) -> Result<(), PolyStop>
         ensures difference { OnOk result (SamePolynomial F.ORDER self.new
             (difference F.ORDER self.old (term_product (F.value c) m.entry.powers.now q.now))) }
+        ensures fits { OnOk result (PassesTerms F.ORDER TERM_LIMIT
+            (difference F.ORDER self.old (term_product (F.value c) m.entry.powers.now q.now)) → ⊥) }
         ensures terms_over { IsErrOf result PolyStop.TermsOver
             → PassesTerms F.ORDER TERM_LIMIT (difference F.ORDER self.old (term_product (F.value c) m.entry.powers.now q.now)) }
         ensures degree_over { IsErrOf result PolyStop.DegreeOver ↔ PassesDegree F.ORDER DEGREE_LIMIT ((F.value c, m.entry.powers.now) ∷ []) q.now }
