@@ -1,5 +1,5 @@
 -- Leading terms of sums of ordered lists.
-use Rattle.std.proofs.Common.{◌≡◌, ◌≢◌, ◌⊎◌, ℕ, zero, suc, ◌+◌, ◌*◌, ◌%◌, ◌<◌, ◌≤◌, List, [], ◌∷◌, ◌++◌, length, get_or, drop, set, refl, sym, ap, ap₂, ◌∙◌, subst, inl, inr, arith, mod-eq_of_lt, length-append, add-mul}
+use Rattle.std.proofs.Common.{◌≡◌, ◌≢◌, ℕ, zero, suc, ◌+◌, ◌*◌, ◌%◌, ◌<◌, ◌≤◌, List, [], ◌∷◌, ◌++◌, length, get_or, drop, set, refl, sym, ap, ap₂, ◌∙◌, inl, inr, arith, mod-eq_of_lt, length-append, add-mul}
 use Rattle.std.proofs.Math.Nat.{zero-mod}
 use Rattle.std.proofs.lemmas.Bool.{cases_eq}
 use Rattle.std.proofs.lemmas.List.{get_or-set_same, get_or-set_other, length-set}
@@ -8,15 +8,14 @@ use Rattle.std.specs.declared.cmp.Ordering.TheVariants.{Greater}
 use Rattle.ffc_field.specs.Modular.{add_mod}
 use Rattle.ffc_ring.specs.Monomial.{Monomial}
 use Rattle.ffc_ring.specs.Polynomial.{Terms, written, coefficient, SamePolynomial, PassesTerms, AreItsMonomials}
-use Rattle.ffc_ring.proofs.PolynomialLemmas.{weighted, weighted-append, sum_alike, times_alike, coefficient-append, SamePolynomial-from_weighted, cases_monomial, written-at}
+use Rattle.ffc_ring.proofs.PolynomialLemmas.{weighted, sum_alike, times_alike, coefficient-append, SamePolynomial-from_weighted, cases_monomial, written-at}
 use Rattle.ffc_mono.specs.MonomialOrder.{IsMonomialOrder}
 use Rattle.ffc_mono.specs.Leading.{IsLeading}
 use Rattle.ffc_mono.proofs.LeadingLemmas.{greater_trans, not_itself}
-use Rattle.ffc_poly.specs.Ordered.{sum_of, IsAbove, IsOrdered}
+use Rattle.ffc_poly.specs.Ordered.{sum_of, IsOrdered}
 use Rattle.ffc_poly.specs.Tails.{AreOrdered, lead_of, AreEmpty, IsRival, IsTop}
 use Rattle.ffc_poly.proofs.Coefficients.{coefficient-none, coefficient-other, above_with, IsLeading-first}
-use Rattle.ffc_poly.proofs.TailLemmas.{weighted-set, same_sums_of, AreOrdered-set, AreOrdered-at}
-use Rattle.ffc_poly.proofs.TermLemmas.{first_and_rest}
+use Rattle.ffc_poly.proofs.TailLemmas.{weighted-set, same_sums_of, AreOrdered-at}
 
 -- a list opens into its first term and the rest
 weighted-first : (g : Monomial → ℕ) (x : Terms) → 0 < length x → weighted g x ≡ (get_or x 0 (0, [])).0 * g (get_or x 0 (0, [])).1 + weighted g (drop 1 x)

@@ -1,11 +1,11 @@
 -- Sums of ordered lists of terms, one of which is exchanged.
-use Rattle.std.proofs.Common.{◌≡◌, ◌≢◌, ◌⊎◌, ℕ, zero, suc, ◌+◌, ◌-◌, ◌*◌, ◌%◌, ◌<◌, ◌≤◌, List, [], ◌∷◌, ◌++◌, length, get_or, take, drop, set, refl, sym, ap, ap₂, ◌∙◌, subst, inl, inr, arith, add_assoc}
+use Rattle.std.proofs.Common.{◌≡◌, ℕ, zero, suc, ◌+◌, ◌-◌, ◌%◌, ◌<◌, ◌≤◌, List, [], ◌∷◌, ◌++◌, length, get_or, take, set, refl, sym, ap, ◌∙◌, subst, arith, add_assoc}
 use Rattle.std.proofs.Math.Nat.{add-mod-mod, mod-lt}
 use Rattle.std.proofs.lemmas.List.{get_or_default, get_or-take, length-take}
 use Rattle.std.specs.declared.cmp.Ordering.{Ordering}
 use Rattle.ffc_ring.specs.Monomial.{Monomial}
-use Rattle.ffc_ring.specs.Polynomial.{Terms, SamePolynomial, scaled}
-use Rattle.ffc_ring.proofs.PolynomialLemmas.{weighted, weighted-append, weighted-term_product, one_weighted, cancel_mod, sum_alike, SamePolynomial-from_weighted}
+use Rattle.ffc_ring.specs.Polynomial.{Terms, SamePolynomial}
+use Rattle.ffc_ring.proofs.PolynomialLemmas.{weighted, weighted-append, one_weighted, cancel_mod, sum_alike, SamePolynomial-from_weighted}
 use Rattle.ffc_poly.specs.Ordered.{sum_of, IsOrdered}
 use Rattle.ffc_poly.specs.Tails.{AreOrdered}
 

@@ -1,4 +1,4 @@
-use Rattle.std.proofs.Common.{◌≡◌, ◌++◌, length, drop, sym, ap, ◌∙◌, subst, inl, inr, arith}
+use Rattle.std.proofs.Common.{◌≡◌, ◌++◌, drop, sym, ap, ◌∙◌, subst, inl, inr, arith}
 use Rattle.std.specs.Prelude.{slice_range}
 use Rattle.ffc_mono.specs.declared.mono.TheConstants.{DEGREE_LIMIT}
 use Rattle.ffc_ring.specs.Polynomial.{SamePolynomial, scaled}

@@ -1,4 +1,3 @@
-use Rattle.std.proofs.Common.{length}
 use Rattle.std.specs.Prelude.{MatchOption}
 use Rattle.ffc_poly.specs.Tails.{AreEmpty, IsHighest}
 use Rattle.ffc_poly.proofs.tails.highest.Given as goal

@@ -1,4 +1,4 @@
-use Rattle.std.proofs.Common.{◌≡◌, ◌≢◌, ℕ, ◌+◌, ◌%◌, ◌<◌, List, [], ◌∷◌, length, get_or, drop, set, refl, sym, ap, ap₂, ◌∙◌, subst, arith, pos_of_ne-zero}
+use Rattle.std.proofs.Common.{◌≡◌, ℕ, ◌+◌, ◌%◌, ◌<◌, List, [], ◌∷◌, length, get_or, drop, set, refl, sym, ap, ap₂, ◌∙◌, subst, arith, pos_of_ne-zero}
 use Rattle.std.proofs.Math.Nat.{zero-mod, mod-mod}
 use Rattle.ffc_field.specs.Modular.{add_mod}
 use Rattle.ffc_mono.specs.declared.mono.TheConstants.{DEGREE_LIMIT}

@@ -1,4 +1,4 @@
-use Rattle.std.proofs.Common.{◌≡◌, ◌∷◌, ◌++◌, [], ◌%◌, refl, sym, ap, ap₂, ◌∙◌, subst, arith, mod-eq_of_lt, append_assoc, append-nil}
+use Rattle.std.proofs.Common.{◌≡◌, ◌∷◌, ◌++◌, [], ◌%◌, refl, sym, ap, ◌∙◌, subst, arith, mod-eq_of_lt, append_assoc, append-nil}
 use Rattle.ffc_mono.specs.declared.mono.TheConstants.{DEGREE_LIMIT}
 use Rattle.ffc_ring.specs.Polynomial.{SamePolynomial, scaled, written}
 use Rattle.ffc_ring.proofs.PolynomialLemmas.{same_sums}

@@ -1,6 +1,6 @@
-use Rattle.std.proofs.Common.{◌≡◌, ◌-◌, ◌++◌, sym, ◌∙◌, arith, mod-eq_of_lt}
+use Rattle.std.proofs.Common.{◌≡◌, ◌++◌, sym, ◌∙◌, arith, mod-eq_of_lt}
 use Rattle.std.proofs.lemmas.Result.{on_ok_weaker}
-use Rattle.ffc_ring.specs.Polynomial.{SamePolynomial, scaled, difference}
+use Rattle.ffc_ring.specs.Polynomial.{SamePolynomial, scaled}
 use Rattle.ffc_poly.specs.declared.poly.TheConstants.{TERM_LIMIT}
 use Rattle.ffc_poly.proofs.Clauses.{sum_by_one}
 use Rattle.ffc_poly.proofs.Coefficients.{PassesTerms-same}

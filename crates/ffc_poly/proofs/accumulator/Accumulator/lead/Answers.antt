@@ -1,14 +1,12 @@
-use Rattle.std.proofs.Common.{◌≡◌, ℕ, ◌%◌, List, [], ◌∷◌, get_or, drop, set, refl, sym, ap, ap₂, ◌∙◌, subst, subst₂, true≢false}
+use Rattle.std.proofs.Common.{◌≡◌, ◌%◌, List, [], get_or, refl, sym, ap, ◌∙◌, subst₂, true≢false}
 use Rattle.ffc_mono.specs.declared.mono.TheConstants.{DEGREE_LIMIT}
 use Rattle.ffc_mono.specs.Leading.{IsLeading}
-use Rattle.ffc_ring.specs.Monomial.{Monomial}
-use Rattle.ffc_ring.specs.Polynomial.{Terms, SamePolynomial, PassesTerms, written}
+use Rattle.ffc_ring.specs.Polynomial.{Terms, SamePolynomial, written}
 use Rattle.ffc_poly.specs.declared.poly.TheConstants.{TERM_LIMIT}
 use Rattle.ffc_poly.specs.Ordered.{sum_of}
-use Rattle.ffc_poly.specs.Tails.{AreOrdered, lead_of, IsTop}
+use Rattle.ffc_poly.specs.Tails.{lead_of, IsTop}
 use Rattle.ffc_poly.proofs.Coefficients.{PassesTerms-same}
-use Rattle.ffc_poly.proofs.LeadLemmas.{empty_sum, lead_is_leading, leading_same, leading_is_some, whole_is, rest_passes_less, IsOrdered-rest}
-use Rattle.ffc_poly.proofs.TailLemmas.{AreOrdered-set, AreOrdered-at}
+use Rattle.ffc_poly.proofs.LeadLemmas.{empty_sum, lead_is_leading, leading_same, leading_is_some}
 use Rattle.ffc_poly.proofs.accumulator.Accumulator.lead.Goals as goal
 
 pub invariant_of-self : goal.invariant_of-self

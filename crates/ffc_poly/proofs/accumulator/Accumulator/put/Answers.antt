@@ -3,7 +3,7 @@ use Rattle.ffc_mono.specs.declared.mono.TheConstants.{DEGREE_LIMIT}
 use Rattle.ffc_ring.specs.Polynomial.{SamePolynomial, scaled, written}
 use Rattle.ffc_ring.proofs.PolynomialLemmas.{same_sums}
 use Rattle.ffc_poly.specs.declared.poly.TheConstants.{TERM_LIMIT}
-use Rattle.ffc_poly.specs.Ordered.{sum_of, IsOrdered, multiplied}
+use Rattle.ffc_poly.specs.Ordered.{sum_of, multiplied}
 use Rattle.ffc_poly.specs.Tails.{AreOrdered}
 use Rattle.ffc_poly.proofs.Clauses.{SamePolynomial-multiplied, length-multiplied, length-term_product}
 use Rattle.ffc_poly.proofs.Coefficients.{PassesTerms-length, PassesTerms-same, PassesTerms-short, PassesTerms-long}

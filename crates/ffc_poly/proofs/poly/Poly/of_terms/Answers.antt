@@ -1,4 +1,4 @@
-use Rattle.std.proofs.Common.{◌≤◌, length, refl, inl, inr, arith}
+use Rattle.std.proofs.Common.{◌≤◌, length, refl, inl, inr}
 use Rattle.std.proofs.lemmas.Bool.{cases_lt}
 use Rattle.ffc_mono.specs.declared.mono.TheConstants.{DEGREE_LIMIT}
 use Rattle.ffc_poly.specs.declared.poly.TheConstants.{TERM_LIMIT}
