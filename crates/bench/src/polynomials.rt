@@ -1,7 +1,7 @@
 //! Products, sums and steps of a reduction on polynomials of a given size.
 use ffc_field::{BabyBear, Field, Goldilocks};
 use ffc_mono::{GradedReverseLex, Mono, MonoStop};
-use ffc_poly::{Poly, PolyStop};
+use ffc_poly::{Accumulator, Poly, PolyStop};
 use std::alloc::{AllocError, Global};
 use std::io;
 
@@ -91,10 +91,29 @@ fn steps<F: Field>(alloc: Global, count: u32, times: u32) -> Result<usize, Stop>
     Ok(p.len())
 }
 
+/// The same on an accumulator, with the leading term looked at after each step.
+fn accumulated<F: Field>(alloc: Global, count: u32, times: u32) -> Result<usize, Stop> {
+    let q = numbered::<F>(alloc, 0, SHORT, 6)?;
+    let m = Mono::from_pairs(alloc, &[(0, 1), (3, 1)])?;
+    let mut p = Accumulator::<F, GradedReverseLex>::new(alloc);
+    p.add(&numbered::<F>(alloc, 0, count, 6)?)?;
+    let mut leads = 0usize;
+    for _ in 0..times {
+        p.subtract_multiple(F::of(3), m.as_ref(), &q)?;
+        leads = leads.max(usize::from(p.lead()?.is_some()));
+        p.subtract_multiple(F::of(3).neg(), m.as_ref(), &q)?;
+        leads = leads.max(usize::from(p.lead()?.is_some()));
+    }
+    Ok(p.into_poly()?.len().max(leads))
+}
+
 /// The terms of the result of a case, with so many terms, done so many times.
 fn case<F: Field>(alloc: Global, kind: u32, count: u32, times: u32) -> Result<usize, Stop> {
     if kind == 3 {
         return steps::<F>(alloc, count, times);
+    }
+    if kind == 4 {
+        return accumulated::<F>(alloc, count, times);
     }
     let (a, b) = match kind {
         0 => (
@@ -130,11 +149,11 @@ fn print<R: Print, F: Field>(
 }
 
 /// Runs a case: 0 a product in six variables, 1 one in as many variables as terms, 2 a sum, 3 steps that subtract and
-/// add a multiple, and 4 more for the same over BabyBear in place of Goldilocks.
+/// add a multiple, 4 the same on an accumulator, and 5 more for the same over BabyBear in place of Goldilocks.
 pub fn run<R: Print>(rt: &R, alloc: Global, kind: u32, count: u32, times: u32) -> io::Result<()> {
-    if kind < 4 {
+    if kind < 5 {
         print::<R, Goldilocks>(rt, alloc, kind, count, times)
     } else {
-        print::<R, BabyBear>(rt, alloc, kind - 4, count, times)
+        print::<R, BabyBear>(rt, alloc, kind - 5, count, times)
     }
 }

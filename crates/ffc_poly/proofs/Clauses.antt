@@ -1,5 +1,5 @@
 -- What the clauses of a polynomial's operations say of values, refusals and zero.
-use Rattle.std.proofs.Common.{◌≡◌, ℕ, suc, ◌+◌, ◌-◌, ◌*◌, ◌%◌, ◌<◌, Bool, true, eqb, eq-eqb, List, [], ◌∷◌, ◌++◌, length, refl, sym, ap, ◌∙◌, inl, inr, arith, mul-one, zero-mul, eqb-true, mod-eq_of_lt, Result, Ok, Err, IfErr, IsErrAnd, IsErrOf}
+use Rattle.std.proofs.Common.{◌≡◌, ℕ, suc, ◌+◌, ◌-◌, ◌*◌, ◌%◌, ◌<◌, true, eqb, eq-eqb, [], ◌∷◌, ◌++◌, length, refl, sym, ap, ◌∙◌, inl, inr, arith, mul-one, zero-mul, eqb-true, mod-eq_of_lt, Result, Ok, Err, IfErr, IsErrAnd, IsErrOf}
 use Rattle.std.proofs.lemmas.Nat.{mul-mod_second}
 use Rattle.ffc_field.specs.Modular.{add_mod, sub_mod, mul_mod, neg_mod}
 use Rattle.ffc_ring.specs.Monomial.{Monomial, mono_value, mono_mul}
@@ -7,7 +7,7 @@ use Rattle.ffc_ring.specs.Polynomial.{Terms, written, coefficient, SamePolynomia
 use Rattle.ffc_ring.proofs.PolynomialLemmas.{weighted, weighted-term_product, SamePolynomial-from_weighted, one_value, poly_value-append, poly_value-product, poly_value-difference, value_sum-term_product, same_sums, coefficient-scaled, cases_monomial, written-at, written-off}
 use Rattle.ffc_poly.specs.declared.stop.PolyStop.{PolyStop}
 use Rattle.ffc_poly.specs.declared.stop.PolyStop.TheVariants.{DegreeOver, TermsOver, Memory}
-use Rattle.ffc_poly.specs.Ordered.{residues, multiplied, times}
+use Rattle.ffc_poly.specs.Ordered.{multiplied, times}
 use Rattle.ffc_poly.proofs.Merging.{weighted-multiplied}
 use Rattle.ffc_poly.proofs.ProductLemmas.{SamePolynomial-scaled_one}
 use Rattle.ffc_poly.proofs.Coefficients.{coefficient-none}

@@ -220,7 +220,7 @@ module _ (p : ℕ) (cmp : Monomial → Monomial → Ordering) (laws : IsMonomial
 
   -- ---- the leading term
 
-  above_with : (m : Monomial) (ts : Terms) → IsAbove cmp m ts → (n : Monomial) → coefficient p ts n ≢ 0 → cmp m n ≡ Greater
+  pub above_with : (m : Monomial) (ts : Terms) → IsAbove cmp m ts → (n : Monomial) → coefficient p ts n ≢ 0 → cmp m n ≡ Greater
   above_with m [] h n ne = absurd (ne (coefficient-none p n))
   above_with m (t ∷ ts) h n ne =
       elim (cases_monomial t.1 n) [

@@ -1,9 +1,11 @@
 mod Clauses
 mod Coefficients
 mod EqualityLemmas
+mod LeadLemmas
 mod Lists
 mod Merging
 mod MergingSteps
 mod ProductLemmas
+mod TailLemmas
 mod TermLemmas
 mod ValueLemmas

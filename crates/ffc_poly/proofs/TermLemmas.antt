@@ -1,5 +1,5 @@
 -- Coefficients and monomials side by side, as lists of terms.
-use Rattle.std.proofs.Common.{◌≡◌, ℕ, zero, suc, ◌+◌, ◌-◌, ◌<◌, ◌≤◌, List, [], ◌∷◌, ◌++◌, map, length, get_or, take, drop, refl, sym, ap, ap₂, ◌∙◌, arith, min, take_all, append_assoc, length-append, length-drop}
+use Rattle.std.proofs.Common.{◌≡◌, ℕ, zero, suc, ◌+◌, ◌-◌, ◌<◌, ◌≤◌, List, [], ◌∷◌, ◌++◌, map, length, get_or, take, drop, set, refl, sym, ap, ap₂, ◌∙◌, arith, min, take_all, append_assoc, length-append, length-drop}
 use Rattle.std.proofs.Math.Seq.{take-add, drop-nil}
 use Rattle.std.proofs.lemmas.List.{length-take, drop_more}
 use Rattle.std.specs.Prelude.{slice_range}
@@ -52,6 +52,12 @@ module _ {F : Type 0} (value : F → ℕ) where
   pub zipped-range : (from to : ℕ) (cs : List F) (ms : List Monomial) → slice_range (zipped value cs ms) from to ≡ zipped value (slice_range cs from to) (slice_range ms from to)
   zipped-range from to cs ms = ap (take (to - from)) (zipped-drop from cs ms) ∙ zipped-take (to - from) (drop from cs) (drop from ms)
 
+  pub zipped-set : (cs : List F) (ms : List Monomial) (i : ℕ) (c : F) → length cs ≡ length ms → i < length ms → zipped value (set cs i c) ms ≡ set (zipped value cs ms) i (value c, (get_or (zipped value cs ms) i (0, [])).1)
+  zipped-set cs [] i c e h = absurd (omega arith)
+  zipped-set [] (m ∷ ms) i c e h = absurd (omega arith)
+  zipped-set (k ∷ cs) (m ∷ ms) zero c e h = refl
+  zipped-set (k ∷ cs) (m ∷ ms) (suc i) c e h = ap (λ x. (value k, m) ∷ x) (zipped-set cs ms i c (omega arith) (omega arith))
+
   -- what is zipped depends on the residues alone
   zipped-values : (cs : List F) (ms : List Monomial) → zipped value cs ms ≡ zipped (λ (k : ℕ). k) (values_of value cs) ms
   zipped-values [] ms = refl
@@ -91,7 +97,7 @@ pub range_at : {A : Type 0} (xs : List A) (from to : ℕ) (d : A) → to ≡ fro
 range_at xs from to d e h =
     let one : to - from ≡ 1 = omega arith in ap₂ take one (drop_more xs from d (omega arith))
 
-drop_after : {A : Type 0} (n m : ℕ) (xs : List A) → drop n (drop m xs) ≡ drop (m + n) xs
+pub drop_after : {A : Type 0} (n m : ℕ) (xs : List A) → drop n (drop m xs) ≡ drop (m + n) xs
 drop_after n zero xs = ap (λ k. drop k xs) (omega arith)
 drop_after n (suc m) [] = drop-nil n ∙ sym (drop-nil (suc m + n))
 drop_after n (suc m) (x ∷ xs) =

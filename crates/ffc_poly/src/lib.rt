@@ -1,14 +1,18 @@
 //! Sparse polynomials over a field, in a monomial order.
 #![tactic(auto)]
 
+mod accumulator;
 mod poly;
 mod products;
 mod stop;
 mod sums;
+mod tail;
+mod tails;
 mod terms;
 #[cfg(test)]
 mod tests;
 mod values;
 
+pub use accumulator::Accumulator;
 pub use poly::{Poly, TERM_LIMIT};
 pub use stop::PolyStop;

@@ -105,6 +105,18 @@ impl<F: Field, O: MonoOrder> Poly<F, O> {
         })
     }
 
+    /// The polynomial of these terms, which are ordered and not too many.
+    pub(crate) fn of_terms(terms: TermList<F>) -> Self
+        requires ordered { IsOrdered F.ORDER O.cmp DEGREE_LIMIT terms }
+        requires fits { PassesTerms F.ORDER TERM_LIMIT terms → ⊥ }
+        ensures { result ≡ terms }
+    {
+        Poly {
+            terms,
+            order: PhantomData,
+        }
+    }
+
     /// The sum of any terms. With n terms it takes at most n comparisons for each halving of n, and copies each
     /// monomial at most so often.
     pub fn from_terms(alloc: Global, terms: &[(F, Mono)]) -> Result<Self, PolyStop>
@@ -147,7 +159,7 @@ impl<F: Field, O: MonoOrder> Poly<F, O> {
     }
 
     /// The terms, in strictly decreasing order.
-    fn listed(&self) -> &TermList<F>
+    pub(crate) fn listed(&self) -> &TermList<F>
         ensures value { result.now ≡ self.now }
         ensures ordered { IsOrdered F.ORDER O.cmp DEGREE_LIMIT self.now }
         ensures fits { length self.now ≤ TERM_LIMIT }

@@ -1,5 +1,5 @@
 //! Sums of terms in strictly decreasing order.
-ghost use Rattle.std.specs.Prelude.{◌≡◌, ◌≢◌, ◌≤◌, [], ◌++◌, length, IfOk};
+ghost use Rattle.std.specs.Prelude.{◌≡◌, ◌≢◌, ◌≤◌, [], ◌++◌, length, drop, IfOk};
 ghost use Rattle.ffc_ring.specs.Monomial.{IsMonomial, degree};
 ghost use Rattle.ffc_ring.specs.Polynomial.{SamePolynomial, scaled};
 ghost use Rattle.ffc_poly.specs.Ordered.{residues, IsOrdered, kept};
@@ -23,9 +23,29 @@ pub fn combined<F: Field, O: MonoOrder>(
     ensures ordered { IfOk result (λ v. IsOrdered F.ORDER O.cmp DEGREE_LIMIT v) }
     ensures same { IfOk result (λ v. SamePolynomial F.ORDER v (a.now ++ scaled (F.value c) b.now)) }
 {
+    combined_from::<F, O>(alloc, a, 0, c, b, 0)
+}
+
+/// The same for the terms of both from a place on.
+pub fn combined_from<F: Field, O: MonoOrder>(
+    alloc: Global,
+    a: &TermList<F>,
+    from_a: usize,
+    c: F,
+    b: &TermList<F>,
+    from_b: usize,
+) -> Result<TermList<F>, AllocError>
+    requires in_a { from_a ≤ length a.now }
+    requires in_b { from_b ≤ length b.now }
+    requires a_is { IsOrdered F.ORDER O.cmp DEGREE_LIMIT (drop from_a a.now) }
+    requires b_is { IsOrdered F.ORDER O.cmp DEGREE_LIMIT (drop from_b b.now) }
+    requires c_is { F.value c ≢ 0 }
+    ensures ordered { IfOk result (λ v. IsOrdered F.ORDER O.cmp DEGREE_LIMIT v) }
+    ensures same { IfOk result (λ v. SamePolynomial F.ORDER v (drop from_a a.now ++ scaled (F.value c) (drop from_b b.now))) }
+{
     let mut out = TermList::new(alloc);
-    let mut i = 0;
-    let mut j = 0;
+    let mut i = from_a;
+    let mut j = from_b;
     while i < a.len() && j < b.len() {
         let (s, m) = a.get(i);
         let (t, n) = b.get(j);

@@ -1,5 +1,5 @@
 //! Terms laid flat.
-ghost use Rattle.std.specs.Prelude.{◌≡◌, ℕ, ◌+◌, ◌<◌, ◌≤◌, [], ◌∷◌, ◌++◌, map, length, take, get_or, slice_range, IfOk, OnOk};
+ghost use Rattle.std.specs.Prelude.{◌≡◌, ℕ, ◌+◌, ◌<◌, ◌≤◌, [], ◌∷◌, ◌++◌, map, length, set, take, get_or, slice_range, IfOk, OnOk};
 ghost use Rattle.std.specs.Vec.{vec_len, vec_capacity};
 ghost use Rattle.ffc_field.specs.Modular.{mul_mod};
 ghost use Rattle.ffc_ring.specs.Monomial.{degree, mono_mul};
@@ -67,6 +67,14 @@ impl<F: Field> TermList<F> {
         ensures monomial { result.1.powers.now ≡ (get_or self.now i (0, [])).1 }
     {
         (self.coefficients[i], self.monomials.get(i))
+    }
+
+    /// Puts another coefficient in place of that of a term.
+    pub fn set_coefficient(&mut self, i: usize, c: F)
+        requires { i < length self.old }
+        ensures { self.new ≡ set self.old i (F.value c, (get_or self.old i (0, [])).1) }
+    {
+        self.coefficients[i] = c;
     }
 
     /// Appends a term.

@@ -1,4 +1,4 @@
-use crate::{Poly, PolyStop};
+use crate::{Accumulator, Poly, PolyStop};
 use ffc_field::{F5, Field, Goldilocks};
 use ffc_mono::{GradedReverseLex, Lex, Mono, MonoOrder, MonoStop};
 use std::alloc::Global;
@@ -129,6 +129,26 @@ fn sums_of_many_and_multiples(rt: HostRuntime) -> Result<(), Fail> {
     assert!(rt; is_sum(alloc, &less, &[(3, 1, 1), (1, 1, 0), (2, 0, 2), (4, 0, 1)])?);
     let back = less.add_multiple(F5::of(2), y.as_ref(), &whole)?;
     assert_eq!(rt; back, whole);
+    Ok(())
+}
+
+/// A polynomial less multiples of another, term by term from the greatest, by hand.
+#[test]
+fn accumulated_multiples(rt: HostRuntime) -> Result<(), Fail> {
+    let alloc = rt.alloc();
+    let a = sum::<F5, Lex>(alloc, &[(1, 2, 0), (3, 1, 1), (2, 0, 0)])?;
+    let b = sum::<F5, Lex>(alloc, &[(1, 1, 0), (1, 0, 1)])?;
+    let x = power(alloc, 0, 1)?;
+    let mut left = Accumulator::new(alloc);
+    left.add(&a)?;
+    left.subtract_multiple(F5::of(1), x.as_ref(), &b)?;
+    let first = left.take_lead()?;
+    assert!(rt; first.is_some_and(|t| t.0 == F5::of(2) && t.1.degree() == 2));
+    assert!(rt;
+        left.lead()?
+            .is_some_and(|t| t.0 == F5::of(2) && t.1.degree() == 0)
+    );
+    assert!(rt; is_sum(alloc, &left.into_poly()?, &[(2, 0, 0)])?);
     Ok(())
 }
 

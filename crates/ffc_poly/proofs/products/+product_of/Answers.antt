@@ -1,10 +1,10 @@
 use Rattle.std.proofs.Common.{◌≡◌, ◌<◌, ◌+◌, ◌-◌, ◌/◌, [], ◌∷◌, ◌++◌, append-nil, get_or, length, ◌%◌, sym, ap, ap₂, ◌∙◌, subst, arith, mod-eq_of_lt}
 use Rattle.std.proofs.lemmas.Result.{IfOk-weaker}
 use Rattle.std.specs.Prelude.{slice_range}
-use Rattle.ffc_ring.specs.Polynomial.{Terms, SamePolynomial, written, product, term_product, scaled}
+use Rattle.ffc_ring.specs.Polynomial.{SamePolynomial, written, product, term_product, scaled}
 use Rattle.ffc_ring.proofs.PolynomialLemmas.{product-append}
 use Rattle.ffc_mono.specs.declared.mono.TheConstants.{DEGREE_LIMIT}
-use Rattle.ffc_poly.specs.Ordered.{IsOrdered, ProductFits, RowFits, times}
+use Rattle.ffc_poly.specs.Ordered.{IsOrdered, RowFits, times}
 use Rattle.ffc_poly.proofs.Clauses.{sum_by_one}
 use Rattle.ffc_poly.proofs.Coefficients.{IsOrdered-at, ProductFits-at}
 use Rattle.ffc_poly.proofs.ProductLemmas.{SamePolynomial-halves, IsOrdered-times, SamePolynomial-times}

@@ -1,4 +1,4 @@
-use Rattle.std.proofs.Common.{◌≡◌, ◌%◌, length, ap, ◌∙◌}
+use Rattle.std.proofs.Common.{◌≡◌, ◌%◌, ap, ◌∙◌}
 use Rattle.std.proofs.lemmas.Result.{IfOk-weaker}
 use Rattle.std.specs.Prelude.{slice_range}
 use Rattle.ffc_ring.specs.Polynomial.{SamePolynomial, product, written}

@@ -1,4 +1,4 @@
-use Rattle.std.proofs.Common.{◌≡◌, ℕ, ◌<◌, ◌+◌, ◌++◌, ◌∷◌, [], length, get_or, take, take_all, refl, sym, ap, ap₂, ◌∙◌, arith, true≢false}
+use Rattle.std.proofs.Common.{◌≡◌, ℕ, ◌<◌, ◌++◌, ◌∷◌, [], length, get_or, take_all, refl, sym, ap, ap₂, ◌∙◌, arith, true≢false}
 use Rattle.std.proofs.lemmas.List.{take_more}
 use Rattle.ffc_ring.specs.Monomial.{Monomial}
 use Rattle.ffc_ring.specs.Polynomial.{Terms}

@@ -1,4 +1,4 @@
-use Rattle.std.proofs.Common.{◌≡◌, ◌^◌, ◌%◌, sym, ap, ◌∙◌, arith, mod-eq_of_lt}
+use Rattle.std.proofs.Common.{◌^◌, ◌%◌, sym, ap, ◌∙◌, mod-eq_of_lt}
 use Rattle.ffc_field.specs.Proth.{pow-one_exponent}
 use Rattle.ffc_poly.proofs.values.power_of.Goals as goal
 

@@ -1,4 +1,4 @@
-use Rattle.std.proofs.Common.{length, arith}
+use Rattle.std.proofs.Common.{arith}
 use Rattle.ffc_poly.specs.declared.poly.TheConstants.{TERM_LIMIT}
 use Rattle.ffc_poly.specs.declared.stop.PolyStop.TheVariants.{TermsOver}
 use Rattle.ffc_poly.specs.Ordered.{residues, IsOverTerms}

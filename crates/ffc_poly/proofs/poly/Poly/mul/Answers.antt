@@ -5,7 +5,7 @@ use Rattle.ffc_field.specs.Modular.{mul_mod}
 use Rattle.ffc_ring.specs.Polynomial.{SamePolynomial, product, written, PassesDegree, poly_value}
 use Rattle.ffc_mono.specs.declared.mono.TheConstants.{DEGREE_LIMIT}
 use Rattle.ffc_poly.specs.declared.poly.TheConstants.{TERM_LIMIT}
-use Rattle.ffc_poly.specs.Ordered.{residues, ProductFits, HasDegree, AreWithin, IsOverTerms}
+use Rattle.ffc_poly.specs.Ordered.{ProductFits, HasDegree, AreWithin, IsOverTerms}
 use Rattle.ffc_poly.proofs.Coefficients.{PassesDegree-within, PassesDegree-reached, ProductFits-within, PassesTerms-short}
 use Rattle.ffc_poly.proofs.Clauses.{nothing_product, product_nothing, value_of_product, no_degree, no_degree_memory}
 use Rattle.ffc_poly.proofs.poly.Poly.mul.Goals as goal

@@ -3,7 +3,7 @@ use Rattle.std.proofs.lemmas.Result.{on_ok_weaker}
 use Rattle.ffc_ring.specs.Polynomial.{SamePolynomial, scaled, written}
 use Rattle.ffc_poly.specs.declared.poly.TheConstants.{TERM_LIMIT}
 use Rattle.ffc_poly.specs.declared.stop.PolyStop.TheVariants.{TermsOver}
-use Rattle.ffc_poly.specs.Ordered.{residues, IsOverTerms}
+use Rattle.ffc_poly.specs.Ordered.{IsOverTerms}
 use Rattle.ffc_poly.proofs.Coefficients.{err_of}
 use Rattle.ffc_poly.proofs.poly.Poly.plus_times.Goals as goal
 

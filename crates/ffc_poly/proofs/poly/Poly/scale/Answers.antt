@@ -1,7 +1,7 @@
 use Rattle.std.proofs.Common.{◌≡◌, ◌≢◌, [], ◌++◌, ◌%◌, length, slice_range, sym, ap, ap₂, ◌∙◌, subst, arith}
 use Rattle.ffc_ring.specs.Polynomial.{written}
 use Rattle.ffc_mono.specs.declared.mono.TheConstants.{DEGREE_LIMIT}
-use Rattle.ffc_poly.specs.Ordered.{residues, IsOrdered, multiplied}
+use Rattle.ffc_poly.specs.Ordered.{IsOrdered, multiplied}
 use Rattle.ffc_poly.proofs.Merging.{IsOrdered-multiplied}
 use Rattle.ffc_poly.proofs.TermLemmas.{whole_range}
 use Rattle.ffc_poly.proofs.Clauses.{nothing_times, value_of_scaled, SamePolynomial-multiplied, length-multiplied}

@@ -3,7 +3,7 @@ use Rattle.std.proofs.lemmas.Bool.{false≢true}
 use Rattle.ffc_ring.specs.Monomial.{degree}
 use Rattle.ffc_ring.specs.Polynomial.{written, PassesDegree}
 use Rattle.ffc_mono.specs.declared.mono.TheConstants.{DEGREE_LIMIT}
-use Rattle.ffc_poly.specs.Ordered.{residues, IsOrdered, RowFits, HasDegree, AreWithin, times}
+use Rattle.ffc_poly.specs.Ordered.{IsOrdered, RowFits, HasDegree, AreWithin, times}
 use Rattle.ffc_poly.proofs.Coefficients.{PassesDegree-within, PassesDegree-reached_term, RowFits-within}
 use Rattle.ffc_poly.proofs.ProductLemmas.{IsOrdered-times, SamePolynomial-times}
 use Rattle.ffc_poly.proofs.Clauses.{nothing_times, value_of_term, no_degree_ok, no_degree_memory, length-times}

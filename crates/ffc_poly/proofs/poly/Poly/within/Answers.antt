@@ -1,9 +1,7 @@
 use Rattle.std.proofs.Common.{refl, arith}
 use Rattle.ffc_mono.specs.declared.mono.TheConstants.{DEGREE_LIMIT}
 use Rattle.ffc_poly.specs.declared.poly.TheConstants.{TERM_LIMIT}
-use Rattle.ffc_poly.specs.Ordered.{residues}
 use Rattle.ffc_poly.proofs.Coefficients.{PassesTerms-long, PassesTerms-short}
-use Rattle.ffc_poly.proofs.Lists.{length-residues}
 use Rattle.ffc_poly.proofs.poly.Poly.within.Goals as goal
 
 pub returns-then-len-gt-TERM_LIMIT-clause-over : goal.returns-then-len-gt-TERM_LIMIT-clause-over

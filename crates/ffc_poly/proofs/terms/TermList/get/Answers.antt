@@ -1,4 +1,4 @@
-use Rattle.std.proofs.Common.{◌<◌, length, get_or, [], sym, ap, ◌∙◌, arith}
+use Rattle.std.proofs.Common.{◌<◌, length, get_or, [], ap, ◌∙◌, arith}
 use Rattle.ffc_ring.specs.Polynomial.{Terms}
 use Rattle.ffc_poly.proofs.TermLemmas.{length-zipped, zipped-coefficient, zipped-monomial}
 use Rattle.ffc_poly.proofs.terms.TermList.get.Goals as goal

@@ -1,6 +1,6 @@
 use Rattle.std.proofs.Common.{◌≡◌, ◌≤◌, ◌+◌, ◌-◌, ◌++◌, length, drop}
 use Rattle.ffc_poly.proofs.Merging.{merged}
-use Rattle.ffc_poly.proofs.sums.combined.Given as goal
+use Rattle.ffc_poly.proofs.sums.combined_from.Given as goal
 
 abbrev pub invariant-loop-i : goal.invariant-loop-i
 invariant-loop-i g l =
@@ -10,7 +10,7 @@ invariant-loop-i g l =
     record {
       in_a : l.i ≤ length l.a;
       in_b : l.j ≤ length l.b;
-      so_far : l.out ++ merged p cmp k (drop l.i l.a) (drop l.j l.b) ≡ merged p cmp k l.a l.b;
+      so_far : l.out ++ merged p cmp k (drop l.i l.a) (drop l.j l.b) ≡ merged p cmp k (drop l.fn.from_a l.a) (drop l.fn.from_b l.b);
     }
 
 abbrev pub decreases-loop-i : goal.decreases-loop-i
