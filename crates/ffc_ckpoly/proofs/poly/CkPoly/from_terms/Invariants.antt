@@ -1,0 +1,11 @@
+use Rattle.std.proofs.Common.{◌≡◌, ◌++◌, drop}
+use Rattle.ffc_ckpoly.specs.Flat.{cut, Parts, as_written}
+use Rattle.ffc_ckpoly.proofs.poly.CkPoly.from_terms.Given as goal
+
+abbrev pub invariant-loop-term : goal.invariant-loop-term
+invariant-loop-term g l =
+    let value = g.F.Field.value in
+    record {
+      parts : Parts 0 l.buffer.marks.items l.buffer.powers.items;
+      so_far : cut value 0 l.buffer.marks.items l.buffer.powers.items ++ as_written value (drop l.term-index l.terms) (λ v. v.items) ≡ as_written value l.terms (λ v. v.items);
+    }

@@ -1,0 +1,10 @@
+//! The checker's polynomials over a prime field, written apart from those of the solver.
+#![tactic(auto)]
+
+mod buffer;
+mod merge;
+mod poly;
+mod powers;
+mod reading;
+
+pub use poly::CkPoly;
