@@ -1,5 +1,5 @@
 -- What sorted terms are: normal, with monomials; their degrees; and the products of each two.
-use Rattle.std.proofs.Common.{◌≡◌, ◌≢◌, ℕ, suc, ◌+◌, ◌-◌, ◌*◌, ◌%◌, ◌^◌, ◌<◌, ◌≤◌, max, fold, List, [], ◌∷◌, ◌++◌, length, drop, refl, sym, ap, ◌∙◌, arith, append-nil, length-drop, mod-eq_of_lt}
+use Rattle.std.proofs.Common.{ap₂, ◌≡◌, ◌≢◌, ℕ, suc, ◌+◌, ◌-◌, ◌*◌, ◌%◌, ◌^◌, ◌<◌, ◌≤◌, max, fold, List, [], ◌∷◌, ◌++◌, length, drop, refl, sym, ap, ◌∙◌, arith, append-nil, length-drop, mod-eq_of_lt}
 use Rattle.std.proofs.lemmas.Nat.{mul-mod_first}
 use Rattle.std.proofs.lemmas.Cmp.{tied_itself}
 use Rattle.std.specs.Borrow.{Bor}
@@ -86,11 +86,11 @@ fits_product a b h k f = product_fits (degree_of a) (degree_of b) a b h k (withi
 
 -- products
 
-append_monomials : (a b : Terms) → HaveMonomials a → HaveMonomials b → HaveMonomials (a ++ b)
+pub append_monomials : (a b : Terms) → HaveMonomials a → HaveMonomials b → HaveMonomials (a ++ b)
 append_monomials [] b h k = k
 append_monomials (t ∷ a) b h k = (h.0, h.1, append_monomials a b h.2 k)
 
-times_monomials : (p c : ℕ) (m : Monomial) (ts : Terms) → IsMonomial m → RowFits m ts → HaveMonomials (times p c m ts)
+pub times_monomials : (p c : ℕ) (m : Monomial) (ts : Terms) → IsMonomial m → RowFits m ts → HaveMonomials (times p c m ts)
 times_monomials p c m [] v f = tt
 times_monomials p c m (t ∷ ts) v f = (IsMonomial-mono_mul m t.1 v f.0, omega (arith, degree-mono_mul m t.1, f.1), times_monomials p c m ts v f.2)
 
@@ -123,3 +123,17 @@ minus_one p k j h e f =
 
 pub difference_of_both : (p j : ℕ) (r a b : Terms) → j ≡ p - 1 → SamePolynomial p r (a ++ scaled j b) → SamePolynomial p r (difference p a b)
 difference_of_both p j r a b e h m = h m ∙ ap (λ k. written (a ++ scaled k b) m % p) e
+
+-- the products of one written term
+
+pub fits_row : (m : Monomial) (ts : Terms) → HaveMonomials ts → degree m + degree_of ts < 2 ^ 64 → RowFits m ts
+fits_row m ts h f = row_fits (degree_of ts) m ts h (within_from 0 ts) f
+
+times_reduced : (p c : ℕ) (m : Monomial) (ts : Terms) → times p (c % p) m ts ≡ times p c m ts
+times_reduced p c m [] = refl
+times_reduced p c m (t ∷ ts) = ap₂ (λ (k : ℕ) (rest : Terms). (k, mono_mul m t.1) ∷ rest) (mul-mod_first c t.0 p) (times_reduced p c m ts)
+
+pub times_same : (p c k : ℕ) (m : Monomial) (ts : Terms) → k ≡ c % p → SamePolynomial p (times p k m ts) (term_product c m ts)
+times_same p c k m ts e n =
+    ap (λ j. written (times p j m ts) n % p) e ∙ ap (λ us. written us n % p) (times_reduced p c m ts)
+    ∙ SamePolynomial-from_weighted p (times p c m ts) (term_product c m ts) (λ g. weighted-times p c m g ts) n

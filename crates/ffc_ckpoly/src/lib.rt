@@ -5,6 +5,8 @@ mod buffer;
 mod merge;
 mod poly;
 mod powers;
+mod products;
 mod reading;
 
 pub use poly::CkPoly;
+pub use products::CkSum;

@@ -50,7 +50,7 @@ impl<F: Field> CkPoly<F> {
     }
 
     /// Its terms, in strictly decreasing order of their monomials.
-    fn borrowed(&self) -> Result<Vec<(F, &[Power])>, AllocError>
+    pub(crate) fn borrowed(&self) -> Result<Vec<(F, &[Power])>, AllocError>
         ensures terms { IfOk result (λ v. residues F.value v.items ≡ self.now) }
         ensures sorted { IsSorted F.ORDER self.now }
     {
@@ -76,7 +76,7 @@ impl<F: Field> CkPoly<F> {
     }
 
     /// The sum of the terms in a buffer.
-    fn sum_in(alloc: Global, buffer: &Buffer<F>) -> Result<Self, AllocError>
+    pub(crate) fn sum_in(alloc: Global, buffer: &Buffer<F>) -> Result<Self, AllocError>
         requires parts { Parts 0 buffer.now.marks.items buffer.now.powers.items }
         requires monomials { HaveMonomials (cut F.value 0 buffer.now.marks.items buffer.now.powers.items) }
         ensures sum { IfOk result (λ r. SamePolynomial F.ORDER r (cut F.value 0 buffer.now.marks.items buffer.now.powers.items)) }
