@@ -45,12 +45,7 @@ impl<F: Field> CkSum<F> {
     }
 
     /// Adds the product of a written term and a polynomial. It costs the terms of the polynomial.
-    pub fn with_product(
-        self,
-        c: u64,
-        m: &[(u32, u32)],
-        f: &CkPoly<F>,
-    ) -> Result<Self, AllocError>
+    pub fn with_product(self, c: u64, m: &[(u32, u32)], f: &CkPoly<F>) -> Result<Self, AllocError>
         requires m_is { IsMonomial m.now }
         requires fits { degree m.now + degree_of f.now < 2 ^ 64 }
         ensures { IfOk result (λ r. SamePolynomial F.ORDER r (self ++ term_product c m.now f.now)) }

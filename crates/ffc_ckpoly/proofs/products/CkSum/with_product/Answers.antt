@@ -1,5 +1,5 @@
 use Rattle.std.proofs.Common.{◌≡◌, ◌%◌, ◌++◌, refl, sym, ap, ap₂, ◌∙◌, subst}
-use Rattle.ffc_ring.specs.Polynomial.{SamePolynomial, written, term_product}
+use Rattle.ffc_ring.specs.Polynomial.{written, term_product}
 use Rattle.ffc_ring.proofs.PolynomialLemmas.{same_sums}
 use Rattle.ffc_ckpoly.specs.Flat.{cut, HaveMonomials, RowFits, times}
 use Rattle.ffc_ckpoly.specs.Sorted.{residues, word_order}

@@ -1,0 +1,8 @@
+//! The checker: the rules of certificates, line by line.
+#![tactic(auto)]
+
+mod stop;
+mod sums;
+
+pub use stop::LineStop;
+pub use sums::combine;
