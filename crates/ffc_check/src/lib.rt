@@ -3,6 +3,8 @@
 
 mod stop;
 mod sums;
+#[cfg(test)]
+mod tests;
 
 pub use stop::LineStop;
 pub use sums::combine;

@@ -7,6 +7,8 @@ mod poly;
 mod powers;
 mod products;
 mod reading;
+#[cfg(test)]
+mod tests;
 
 pub use poly::CkPoly;
 pub use products::CkSum;

@@ -3,5 +3,7 @@
 
 mod cores;
 mod marks;
+#[cfg(test)]
+mod tests;
 
 pub use cores::core_of;
