@@ -1,14 +1,14 @@
 //! Polynomials.
 ghost use Rattle.std.specs.Prelude.{◌≡◌, ◌≢◌, ℕ, ◌+◌, ◌^◌, ◌<◌, ◌++◌, [], length, IfOk};
 ghost use Rattle.ffc_field.specs.Modular.{add_mod, sub_mod, mul_mod};
-ghost use Rattle.ffc_ring.specs.Polynomial.{SamePolynomial, product, scaled, difference, poly_value};
+ghost use Rattle.ffc_ring.specs.Polynomial.{AreTerms, SamePolynomial, product, scaled, difference, poly_value};
 ghost use Rattle.ffc_trees.specs.Normal.{IsNormal, degree_of};
 ghost use Rattle.ffc_ckpoly.specs.Flat.{cut, Parts, HaveMonomials, as_written};
 ghost use Rattle.ffc_ckpoly.specs.Sorted.{residues, IsSorted, point_of};
 
 use crate::buffer::{Buffer, products_of, terms_of};
 use crate::merge::{sum_of, sum_with};
-use crate::powers::Power;
+use crate::powers::{Power, written_degree};
 use crate::reading::{greatest_degree, value_at};
 use ffc_field::Field;
 use std::alloc::{AllocError, Global};
@@ -89,13 +89,15 @@ impl<F: Field> CkPoly<F> {
 
     /// The sum of any terms.
     pub fn from_terms(alloc: Global, terms: &[(F, Vec<(u32, u32)>)]) -> Result<Self, AllocError>
-        requires { HaveMonomials (as_written F.value terms.now (λ v. v.items)) }
+        requires { AreTerms (as_written F.value terms.now (λ v. v.items)) }
         ensures sum { IfOk result (λ r. SamePolynomial F.ORDER r (as_written F.value terms.now (λ v. v.items))) }
         ensures normal { IfOk result (λ r. IsNormal F.ORDER r) }
     {
         let mut buffer = Buffer::new(alloc);
         for term in terms {
-            buffer.push_written(term.0, term.1.as_slice())?;
+            let powers = term.1.as_slice();
+            let _degree = written_degree(powers);
+            buffer.push_written(term.0, powers)?;
         }
         CkPoly::sum_in(alloc, &buffer)
     }

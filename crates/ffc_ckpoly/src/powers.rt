@@ -57,6 +57,24 @@ pub fn append_written(out: &mut Vec<Power>, m: &[(u32, u32)]) -> Result<(), Allo
     Ok(())
 }
 
+/// The sum of exponents of 32 bits: there are fewer than 2^32 variables, so it fits 64 bits.
+pub fn written_degree(m: &[(u32, u32)]) -> u64
+    requires { IsMonomial m.now }
+    ensures value { result ≡ degree m.now }
+    ensures fits { degree m.now < 2 ^ 64 }
+{
+    let mut sum = 0;
+    let mut next = 0;
+    for (variable, exponent) in m {
+        let fits = *variable;
+        let small = *exponent;
+        sum += small as u64;
+        next = fits as u64 + 1;
+    }
+    let _ = next;
+    sum
+}
+
 /// The sum of the exponents.
 pub fn degree(m: &[Power]) -> u64
     requires { degree m.now < 2 ^ 64 }
