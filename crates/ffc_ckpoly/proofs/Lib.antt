@@ -1,0 +1,9 @@
+pub mod FlatLemmas
+pub mod Lists
+pub mod Merging
+pub mod MergingSteps
+pub mod OrderLemmas
+pub mod PowerLemmas
+pub mod SortedLemmas
+pub mod Sums
+pub mod Values

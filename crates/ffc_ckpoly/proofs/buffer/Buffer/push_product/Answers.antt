@@ -1,0 +1,22 @@
+use Rattle.std.proofs.Common.{◌++◌, ◌∷◌, [], length, ap, ap₂, length-append, ◌∙◌, subst, sym, arith}
+use Rattle.ffc_ring.specs.Monomial.{mono_mul}
+use Rattle.ffc_ckpoly.specs.Flat.{cut, Parts}
+use Rattle.ffc_ckpoly.proofs.FlatLemmas.{cut-push, Parts-push}
+use Rattle.ffc_ckpoly.proofs.buffer.Buffer.push_product.Goals as goal
+
+pub returns-clause-terms : goal.returns-clause-terms
+returns-clause-terms g c =
+    let value = g.F.Field.value in
+    let ks = c.args.self.now.marks.items in
+    let ps = c.args.self.now.powers.items in
+    ap₂ (cut value 0) c.in_ok-push.ensures.items c.in_ok-append_product.ensures
+    ∙ cut-push value (mono_mul c.args.m.now c.args.n.now) (c.args.c, c.len-end.result) 0 ks ps c.requires.parts (omega (arith, c.len-end.ensures, ap length c.in_ok-append_product.ensures, length-append ps (mono_mul c.args.m.now c.args.n.now), c.append_product.new.out.ok))
+
+pub returns-clause-parts : goal.returns-clause-parts
+returns-clause-parts g c =
+    let value = g.F.Field.value in
+    let ks = c.args.self.now.marks.items in
+    let ps = c.args.self.now.powers.items in
+    subst (λ x. Parts 0 x c.append_product.new.out.items) (sym c.in_ok-push.ensures.items)
+    (subst (Parts 0 (ks ++ (c.args.c, c.len-end.result) ∷ [])) (sym c.in_ok-append_product.ensures)
+    (Parts-push value (mono_mul c.args.m.now c.args.n.now) (c.args.c, c.len-end.result) 0 ks ps c.requires.parts (omega (arith, c.len-end.ensures, ap length c.in_ok-append_product.ensures, length-append ps (mono_mul c.args.m.now c.args.n.now), c.append_product.new.out.ok))))
