@@ -1,5 +1,5 @@
 -- What a byte begins at a depth: outside of a form no token but a parenthesis.
-use Rattle.std.proofs.Common.{ℕ, zero, suc, ◌+◌, ◌<◌, if◌then◌else◌, Bool, true, false, List, [], ◌∷◌, arith}
+use Rattle.std.proofs.Common.{ℕ, zero, suc, ◌<◌, if◌then◌else◌, Bool, true, false, List, [], ◌∷◌, arith}
 use Rattle.ffc_lex.specs.declared.byte_classes.ByteClass.{ByteClass}
 use Rattle.ffc_lex.specs.declared.byte_classes.ByteClass.TheVariants as classes
 use Rattle.ffc_lex.specs.declared.tokens.TokenKind.{TokenKind}

@@ -42,7 +42,7 @@ past_place b place = by_test (b == 10)
     by_test false = inr (refl, omega arith)
 
 module _ (text : List ℕ) where
-  -- the token ends before so many bytes behind the place, and begins to the left of it
+  -- the token ends before so many bytes after the place, and begins to the left of it
   abbrev IsBehind : Place → ℕ → Token → Type 0
   IsBehind place behind t = (t.start + t.length ≤ place.index + behind) × IsPlaceBefore t.line t.column place.line place.column
 

@@ -12,7 +12,7 @@ is_numeral [] = false
 is_numeral (c ∷ []) = is_digit c
 is_numeral (c ∷ d ∷ ds) = if c == 48 then false else list_all is_digit (c ∷ d ∷ ds)
 
--- digits, and what comes behind them
+-- digits, and what comes after them
 abbrev pub digits : List ℕ → List ℕ
 digits word = take (prefix_len is_digit word) word
 
@@ -43,12 +43,12 @@ is_order_part (c ∷ cs) = if c == 109 then is_numeral cs else false
 abbrev pub is_residue : List ℕ → Bool
 is_residue word = if is_numeral (digits word) then is_order_part (after_digits word) else false
 
--- the same behind an optional minus sign
+-- the same after an optional minus sign
 abbrev pub is_signed_residue : List ℕ → Bool
 is_signed_residue [] = false
 is_signed_residue (c ∷ cs) = if c == 45 then is_residue cs else is_residue (c ∷ cs)
 
--- f, an optional minus sign, a numeral, m, and a numeral: what stands behind the # of a field literal
+-- f, an optional minus sign, a numeral, m, and a numeral: what stands after the # of a field literal
 unfoldable pub is_field_word : List ℕ → Bool
 is_field_word [] = false
 is_field_word (c ∷ cs) = if c == 102 then is_signed_residue cs else false

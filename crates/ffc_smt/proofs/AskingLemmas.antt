@@ -15,7 +15,7 @@ use Rattle.ffc_smt.specs.Asking.{Ask, ask, equality_asks, neighbours_asks, diffe
 use Rattle.ffc_smt.proofs.Extends.{Extends, extends_same, extends_further, interned_extends, equality_extends, difference_extends, neighbours_extend, differences_from_extend, differences_extend, exclusive_extends, implication_extends, implications_extend}
 use Rattle.ffc_smt.proofs.TableMaking.{IsAt, AllAt, EachAt, IsPlain, Good, at_stays, all_at_stays, each_all, booleans, one_field, plain_numbered, room_before, equality_good, not_good, difference_good, neighbours_good, differences_from_good, differences_good, implications_good, neighbours_some, differences_some, fixed_made, applied_good}
 
--- Steps: each node is asked for behind the first nodes, and before the last
+-- Steps: each node is asked for after the first nodes, and before the last
 
 abbrev IsStep : List Node → List Node → Ask → Type 0
 IsStep start final k = Extends start k.before × Extends (interned k.before k.node).nodes final
@@ -142,7 +142,7 @@ module _ (count : ℕ) where
   plain_fine : (ns : List Node) (n : Node) → IsGood ns → Fits ns n → IsPlain n → All Fine (ask ns n ∷ [])
   plain_fine ns n good fits plain = one_fine ns n good fits (plain_numbered ns n plain)
 
-  -- what is asked for behind these nodes, where they are not too many
+  -- what is asked for after these nodes, where they are not too many
   by_room : (ms final : List Node) (asks : List Ask) → AreSteps ms final asks → (length ms ≤ most_nodes → All Fine asks) → All Fine asks
   by_room ms final asks steps h i d inside room = h (room_before ms (get_or asks i d).before (steps i d inside).0 room) i d inside room
 

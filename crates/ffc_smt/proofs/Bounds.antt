@@ -7,19 +7,18 @@ use Rattle.ffc_term.specs.declared.node.Sort.{Sort}
 use Rattle.ffc_term.specs.declared.node.Sort.TheVariants as sort
 use Rattle.ffc_term.specs.contracts.node.NodePartialEq.TheImpl as by_parts
 use Rattle.ffc_term.specs.Nodes.{sort_at}
-use Rattle.ffc_term.specs.Tables.{IsWellFormed}
 use Rattle.ffc_smt.specs.Terms.{Operator, Not, And, Or, Xor, Implies, Equal, Distinct, Ite, Add, Mul, Neg, Bitsum, Term, Truth, Number, Constant, Variable, Defined, Applied, Let, Called, Terms, NoTerm, AndTerm, weight, weights}
 use Rattle.ffc_smt.specs.Meaning.{Env, found}
 use Rattle.ffc_smt.specs.Making.{AllMade, placed, interned, equality, neighbours, difference, differences_from, differences, exclusive, implication, implications, choice, conjoined, applied_made, variable_made, made, all_made}
 use Rattle.ffc_smt.specs.Bounds.{IsMade, AreDefined, AllDefined}
-use Rattle.ffc_smt.proofs.Extends.{Extends, front_well_formed, applied_extends, made_extends, all_made_extends}
-use Rattle.ffc_smt.proofs.Again.{made_again}
+use Rattle.ffc_smt.proofs.Extends.{Extends, made_extends, all_made_extends}
+use Rattle.ffc_smt.proofs.Again.{made_anew}
 
 placed_bound : (ns : List Node) (n : Node) (o : Option ℕ) → length (placed ns n o).nodes ≤ length ns + 1
 placed_bound ns n (Some id) = omega arith
 placed_bound ns n None = omega (arith, length-append ns (n ∷ []))
 
-interned_bound : (ns : List Node) (n : Node) → length (interned ns n).nodes ≤ length ns + 1
+pub interned_bound : (ns : List Node) (n : Node) → length (interned ns n).nodes ≤ length ns + 1
 unfolding interned
 interned_bound ns n = placed_bound ns n (position ((by_parts.ghosts).eq n) ns)
 
@@ -178,7 +177,7 @@ pub made_stays : (t : Term) (old new : List Node) → Extends old new → IsMade
 made_stays t old new (more, e) h = record { before = h.before; more = h.more ++ more; made_then = e ∙ ap (λ ns. ns ++ more) h.made_then ∙ append_assoc (made [] h.before t).nodes h.more more }
 
 mutual
-  defined_stays : (t : Term) (old new : List Node) → Extends old new → AreDefined old t → AreDefined new t
+  pub defined_stays : (t : Term) (old new : List Node) → Extends old new → AreDefined old t → AreDefined new t
   defined_stays (Truth b) old new further h = tt
   defined_stays (Number negative size p) old new further h = tt
   defined_stays (Constant k s) old new further h = tt
@@ -193,8 +192,8 @@ mutual
   all_defined_stays (AndTerm t ts) old new further h = (defined_stays t old new further h.0, all_defined_stays ts old new further h.1)
 
 -- a term that was made makes nothing
-pub made_nothing : (t : Term) (ns : List Node) → IsMade ns t → IsWellFormed ns → (made [] ns t).nodes ≡ ns
-made_nothing t ns h formed = ap (λ m. m.nodes) (made_again [] t [] [] h.before ns tt (h.more, h.made_then) formed)
+pub made_nothing : (t : Term) (ns : List Node) → IsMade ns t → (made [] ns t).nodes ≡ ns
+made_nothing t ns h = ap (λ m. m.nodes) (made_anew t [] h.before ns tt (h.more, h.made_then))
 
 more_weight : (w s : ℕ) → 1 ≤ w → s ≤ w * s
 more_weight w s h = let e = mul-le-mul_right s h in omega arith
@@ -211,36 +210,32 @@ with_body a m n c s w one two = omega arith
 mutual
   unfolding made weight
 
-  pub made_bound : (t : Term) (ids : Env ℕ) (ns : List Node) → AreDefined ns t → IsWellFormed (made ids ns t).nodes → length (made ids ns t).nodes ≤ length ns + weight t * weight t
-  made_bound (Truth b) ids ns h formed = interned_bound ns _
-  made_bound (Number negative size p) ids ns h formed = interned_bound ns _
-  made_bound (Constant k s) ids ns h formed = interned_bound ns _
-  made_bound (Variable name) ids ns h formed = variable_bound ns (found ids name)
-  made_bound (Defined t) ids ns h formed =
-      let e = ap (length {A = Node}) (made_nothing t ns h (front_well_formed ns (made [] ns t).nodes (made_extends t [] ns) formed)) in omega (arith, e)
-  made_bound (Applied op ts) ids ns h formed =
+  pub made_bound : (t : Term) (ids : Env ℕ) (ns : List Node) → AreDefined ns t → length (made ids ns t).nodes ≤ length ns + weight t * weight t
+  made_bound (Truth b) ids ns h = interned_bound ns _
+  made_bound (Number negative size p) ids ns h = interned_bound ns _
+  made_bound (Constant k s) ids ns h = interned_bound ns _
+  made_bound (Variable name) ids ns h = variable_bound ns (found ids name)
+  made_bound (Defined t) ids ns h =
+      let e = ap (length {A = Node}) (made_nothing t ns h) in omega (arith, e)
+  made_bound (Applied op ts) ids ns h =
       let m = all_made ids ns ts in
-      let before = front_well_formed m.nodes (applied_made op m.nodes m.ids).nodes (applied_extends op m.ids m.nodes) formed in
       whole_term _ (length m.nodes) (length ns) (count ts) (weights ts)
       (subst (λ n. length (applied_made op m.nodes m.ids).nodes ≤ length m.nodes + n * n + 1) (count_made ts ids ns) (applied_bound op m.ids m.nodes))
-      (all_made_bound ts ids ns h before)
-  made_bound (Let names ts t) ids ns h formed =
+      (all_made_bound ts ids ns h)
+  made_bound (Let names ts t) ids ns h =
       let m = all_made ids ns ts in
-      let before = front_well_formed m.nodes (made (zip names m.ids ++ ids) m.nodes t).nodes (made_extends t (zip names m.ids ++ ids) m.nodes) formed in
       with_body _ (length m.nodes) (length ns) (count ts) (weights ts) (weight t)
-      (made_bound t (zip names m.ids ++ ids) m.nodes (defined_stays t ns m.nodes (all_made_extends ts ids ns) h.1) formed) (all_made_bound ts ids ns h.0 before)
-  made_bound (Called names t ts) ids ns h formed =
+      (made_bound t (zip names m.ids ++ ids) m.nodes (defined_stays t ns m.nodes (all_made_extends ts ids ns) h.1)) (all_made_bound ts ids ns h.0)
+  made_bound (Called names t ts) ids ns h =
       let m = all_made ids ns ts in
-      let before = front_well_formed m.nodes (made (zip names m.ids) m.nodes t).nodes (made_extends t (zip names m.ids) m.nodes) formed in
       with_body _ (length m.nodes) (length ns) (count ts) (weights ts) (weight t)
-      (made_bound t (zip names m.ids) m.nodes (defined_stays t ns m.nodes (all_made_extends ts ids ns) h.1) formed) (all_made_bound ts ids ns h.0 before)
+      (made_bound t (zip names m.ids) m.nodes (defined_stays t ns m.nodes (all_made_extends ts ids ns) h.1)) (all_made_bound ts ids ns h.0)
 
-  pub all_made_bound : (ts : Terms) (ids : Env ℕ) (ns : List Node) → AllDefined ns ts → IsWellFormed (all_made ids ns ts).nodes
+  pub all_made_bound : (ts : Terms) (ids : Env ℕ) (ns : List Node) → AllDefined ns ts
       → length (all_made ids ns ts).nodes + count ts * count ts ≤ length ns + weights ts * weights ts + weights ts
-  all_made_bound NoTerm ids ns h formed = omega arith
-  all_made_bound (AndTerm t ts) ids ns h formed =
+  all_made_bound NoTerm ids ns h = omega arith
+  all_made_bound (AndTerm t ts) ids ns h =
       let m = made ids ns t in
       let rest = all_made ids m.nodes ts in
-      let before = front_well_formed m.nodes rest.nodes (all_made_extends ts ids m.nodes) formed in
       one_more (length rest.nodes) (length m.nodes) (length ns) (count ts) (weight t) (weights ts)
-      (made_bound t ids ns h.0 before) (all_made_bound ts ids m.nodes (all_defined_stays ts ns m.nodes (made_extends t ids ns) h.1) formed) (count_weighs ts) (weight_positive t)
+      (made_bound t ids ns h.0) (all_made_bound ts ids m.nodes (all_defined_stays ts ns m.nodes (made_extends t ids ns) h.1)) (count_weighs ts) (weight_positive t)

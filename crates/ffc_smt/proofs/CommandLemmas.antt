@@ -291,7 +291,7 @@ module _
     head_sorted kinds.Quoted head closing items = tt
     head_sorted _ head closing items = tt
 
-    form_sorted : (t : Tree) → IfSound (form_read l s t) IsCommand
+    pub form_sorted : (t : Tree) → IfSound (form_read l s t) IsCommand
     unfolding form_read
     form_sorted (Leaf w) = tt
     form_sorted (Group opening Empty closing) = tt

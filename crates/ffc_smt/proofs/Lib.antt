@@ -33,3 +33,5 @@ pub mod EffectLemmas
 pub mod AskingLemmas
 pub mod ChoiceLemmas
 pub mod OptionLemmas
+pub mod LightLemmas
+pub mod PartLemmas

@@ -33,7 +33,7 @@ module _ (M : Word → Type 0) where
       h closing (Contains-append_right (opening ∷ []) (tokens_of_items items ++ closing ∷ []) closing (Contains-push (tokens_of_items items) closing)),
     )
 
-    each_from_items : (ts : Trees) → ((w : Word) → Contains (tokens_of_items ts) w → M w) → EachTokens M ts
+    pub each_from_items : (ts : Trees) → ((w : Word) → Contains (tokens_of_items ts) w → M w) → EachTokens M ts
     each_from_items Empty h = tt
     each_from_items (First t ts) h =
         (each_from t (λ w has. h w (Contains-append_left (tokens_of t) (tokens_of_items ts) w has)), each_from_items ts (λ w has. h w (Contains-append_right (tokens_of t) (tokens_of_items ts) w has)))

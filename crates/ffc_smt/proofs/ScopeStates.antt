@@ -341,7 +341,7 @@ module _ (s : State) (h : HasParts s) where
   abbrev Names : Env Meant
   Names = (scope_of s).names
 
-  -- what a command brings speaks of the constants in scope
+  -- the terms in a command speak of the constants in scope
   abbrev Brings : Command → Type 0
   Brings c = IsCommandOf (λ locals t u. SpeaksOf Names t) (λ u. Unit {0}) c
 

@@ -1,4 +1,4 @@
--- What is in force at a check has a node that means it.
+-- What is active at a check has a node that means it.
 use Rattle.std.proofs.Common.{◌≡◌, ℕ, ◌≤◌, true, List, [], length, map, flat_map, reverse, Some, All, sym, ap, ◌∙◌, subst, append-nil}
 use Rattle.std.proofs.lemmas.List.Elements.{All-nil, All-append, All-weaker, All-map}
 use Rattle.ffc_term.specs.declared.node.Node.{Node}
@@ -41,7 +41,7 @@ HasNodeOf ns t u = HasNode ns t × (sort_at ns (made [] ns t).id ≡ u)
 pub has_node : (cs : List Sort) (count : ℕ) (ns : List Node) (t : Term) (u : Sort) → IsTableWith cs count ns → IsMadeTerm cs ns t u → HasNodeOf ns t u
 has_node cs count ns t u table h =
     let formed = table.table.well_formed in
-    let same = made_nothing t ns h.1 formed in
+    let same = made_nothing t ns h.1 in
     let new = made_good cs count ns t [] u [] ns h.0 tt table (subst (λ ms. length ms ≤ most_nodes) (sym same) formed.within) in (
       record {
         there = same;
@@ -51,7 +51,7 @@ has_node cs count ns t u table h =
       subst (λ ms. sort_at ms (made [] ns t).id ≡ u) same new.1.1,
     )
 
--- What is in force is true exactly where its nodes are
+-- What is active is true exactly where its nodes are
 
 true_element : (e : Element) → sort_of e ≡ sort.Bool → value_of e ≡ value.Bool true → e ≡ TruthValue true
 true_element (TruthValue b) s v = let same : b ≡ true = cc in ap TruthValue same
@@ -153,7 +153,7 @@ reads_terms s tree c h limit from t e =
             table = new.0.table;
             sort = new.1.1;
             means = λ A. made_kept A t.term [] [] s.nodes tt formed;
-            bound = made_bound t.term [] s.nodes defined formed;
+            bound = made_bound t.term [] s.nodes defined;
           },
     )
 

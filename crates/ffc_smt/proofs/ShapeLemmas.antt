@@ -92,7 +92,7 @@ token_alone next kinds.Keyword w e = refl
 token_alone next kinds.Str w e = refl
 token_alone next kinds.FieldLiteral w e = refl
 
--- the items of a part, and behind them others
+-- the items of a part, and after them others
 abbrev onto : Trees → Part → Part
 onto Empty p = p
 onto (First t ts) p = onto ts (with_tree t p)
@@ -101,7 +101,7 @@ onto_opening : (ts : Trees) (p : Part) → (onto ts p).opening ≡ p.opening
 onto_opening Empty p = refl
 onto_opening (First t ts) p = onto_opening ts (with_tree t p)
 
--- one tree behind another list of trees
+-- one tree after another list of trees
 abbrev joined : Trees → Trees → Trees
 joined Empty us = us
 joined (First t ts) us = First t (joined ts us)

@@ -136,7 +136,7 @@ abbrev TakesPlaced : Operator → List Placed → Type 0
 TakesPlaced op xs = (closing : Word) → misfits (wanted op (argument_sort (arguments xs) 0) (argument_sort (arguments xs) 1)) 0 (arguments xs) ≡ [] → missing (least op) closing (arguments xs) ≡ []
     → surplus (most op) (arguments xs) ≡ [] → Takes op (sorts_at xs) (result_sort op (argument_sort (arguments xs) 0) (argument_sort (arguments xs) 1))
 
--- what stands behind the first argument
+-- what follows the first argument
 behind_first : (want : ℕ → Wanted) (x : Placed) (rest : List Placed) (s : Sort) → ((j : ℕ) → 1 ≤ j → want j ≡ Only s) → misfits want 0 (arguments (x ∷ rest)) ≡ [] → AreAll s (sorts_at rest)
 behind_first want x rest s h mis = all_only want s rest 1 h ((both_none (misfit (want 0) x.0 (Sound x.1)) (misfits want 1 (arguments rest)) mis).1)
 

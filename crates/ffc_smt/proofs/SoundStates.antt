@@ -337,7 +337,7 @@ module _ (s : State) (h : IsSoundState s) where
   after_is_sound tree (GetValue asked) g room = same_from tree (GetValue asked) refl (asked_extends asked s.nodes) ((asked_good asked s.nodes g h.nodes room).0) tt
   after_is_sound tree _ g room = still_from tree _ refl refl tt
 
-  negation_sound : (t : Term) → IsSoundHere [] t sort.Bool → IsSoundHere [] (negated t) sort.Bool
+  pub negation_sound : (t : Term) → IsSoundHere [] t sort.Bool → IsSoundHere [] (negated t) sort.Bool
   negation_sound t g = (sort.Bool ∷ [], (g, tt), (refl, refl))
 
   pub command_is_fine : (l : Limits) (t : Tree) → IfSound (command_read l s t) Fine

@@ -202,7 +202,7 @@ module _ (P : Fault → Type 0) where
     AreArguments [] = Unit {0}
     AreArguments (a ∷ rest) = MayFail P a.at × ReadsAs P SpeaksOf a.read × AreArguments rest
 
-    own_at : (args : List Argument) → AreArguments args → All P (own_faults args)
+    pub own_at : (args : List Argument) → AreArguments args → All P (own_faults args)
     own_at [] h = All-nil P
     own_at (a ∷ rest) h = All-append P (faults a.read) (own_faults rest) h.1.0 (own_at rest h.2)
 
@@ -214,11 +214,11 @@ module _ (P : Fault → Type 0) where
         by_test true = All-nil P
         by_test false = one_fault P 10 at m
 
-    misfits_at : (want : ℕ → Wanted) (i : ℕ) (args : List Argument) → AreArguments args → All P (misfits want i args)
+    pub misfits_at : (want : ℕ → Wanted) (i : ℕ) (args : List Argument) → AreArguments args → All P (misfits want i args)
     misfits_at want i [] h = All-nil P
     misfits_at want i (a ∷ rest) h = All-append P (misfit (want i) a.at a.read) (misfits want (i + 1) rest) (misfit_at (want i) a.at a.read h.0) (misfits_at want (i + 1) rest h.2)
 
-    parameter_misfits_at : (ps : List Parameter) (args : List Argument) → AreArguments args → All P (parameter_misfits ps args)
+    pub parameter_misfits_at : (ps : List Parameter) (args : List Argument) → AreArguments args → All P (parameter_misfits ps args)
     parameter_misfits_at [] args h = All-nil P
     parameter_misfits_at (p ∷ ps) [] h = All-nil P
     parameter_misfits_at (p ∷ ps) (a ∷ rest) h =
@@ -285,11 +285,11 @@ module _ (P : Fault → Type 0) where
 
     -- Variables and their terms
 
-    abbrev AreBindings : List Binding → Type 0
+    abbrev pub AreBindings : List Binding → Type 0
     AreBindings [] = Unit {0}
     AreBindings (b ∷ bs) = ReadsAs P (λ n. MayFail P n.at) b.variable × ReadsAs P SpeaksOf b.value × AreBindings bs
 
-    bindings_at : (bs : List Binding) → AreBindings bs → All P (binding_faults bs)
+    pub bindings_at : (bs : List Binding) → AreBindings bs → All P (binding_faults bs)
     bindings_at [] h = All-nil P
     bindings_at (b ∷ bs) h =
         All-append P (faults b.variable ++ faults b.value) (binding_faults bs) (All-append P (faults b.variable) (faults b.value) h.0.0 h.1.0) (bindings_at bs h.2)
@@ -405,10 +405,10 @@ module _ (P : Fault → Type 0) where
           reads_behind P (λ t. W × SpeaksOf t) (λ t. W × SpeaksOf t) r (of_height limit opening) h
           (λ t g. reads_either P (λ u. W × SpeaksOf u) (nat_lt limit (height t.term)) (faulty 14 opening) (Sound t) (λ e. (one_fault P 14 opening m, tt)) (λ e. (All-nil P, g)))
 
-      abbrev ArgumentsAre : Trees → List Argument → Type 0
+      abbrev pub ArgumentsAre : Trees → List Argument → Type 0
       ArgumentsAre ts args = AreArguments args × (own_faults args ≡ [] → EachLeaves HasOrders ts)
 
-      abbrev BindingsAre : Trees → List Binding → Type 0
+      abbrev pub BindingsAre : Trees → List Binding → Type 0
       BindingsAre ts bs = AreBindings bs × (binding_faults bs ≡ [] → EachLeaves HasOrders ts)
 
       reads_application : (locals : Env Sort) (opening w closing : Word) (rest : Trees) (h : Head) → MayFail P opening → MayFail P w → MayFail P closing → EachIn (MayFail P) (items_of rest) → HeadSpeaks w h
@@ -448,7 +448,7 @@ module _ (P : Fault → Type 0) where
         reads_term (Group opening (First (Leaf w) rest) closing) locals m =
             reads_application locals opening w closing rest (head_of scope locals w) m.0 m.1.0 m.2 (each_in (MayFail P) rest m.1.1) (head_speaks w locals) (reads_let rest locals closing m.2 m.1.1) (reads_arguments rest locals m.1.1)
 
-        reads_arguments : (ts : Trees) (locals : Env Sort) → EachTokens (MayFail P) ts → ArgumentsAre ts (arguments_read limit scope locals ts)
+        pub reads_arguments : (ts : Trees) (locals : Env Sort) → EachTokens (MayFail P) ts → ArgumentsAre ts (arguments_read limit scope locals ts)
         reads_arguments Empty locals m = (tt, λ e. tt)
         reads_arguments (First t ts) locals m =
             let r = term_read limit scope locals t in
@@ -477,7 +477,7 @@ module _ (P : Fault → Type 0) where
             (λ b h. body_speaks (EachLeaves HasOrders bindings) V b (unless (no_more (items_of rest)) (term_read limit scope (locals_of b ++ locals) body)) h.0 h.1
             (then_no_more (EachLeaf HasOrders body) rest (term_read limit scope (locals_of b ++ locals) body) m.1.1 (reads_term body (locals_of b ++ locals) m.1.0)))
 
-        reads_bindings : (ts : Trees) (locals : Env Sort) → EachTokens (MayFail P) ts → BindingsAre ts (bindings_read limit scope locals ts)
+        pub reads_bindings : (ts : Trees) (locals : Env Sort) → EachTokens (MayFail P) ts → BindingsAre ts (bindings_read limit scope locals ts)
         reads_bindings Empty locals m = (tt, λ e. tt)
         reads_bindings (First t ts) locals m =
             let one = reads_binding t locals m.0 in

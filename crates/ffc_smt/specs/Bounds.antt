@@ -1,7 +1,6 @@
 -- How many nodes a term makes.
 use Rattle.std.specs.Prelude.{◌≡◌, ℕ, ◌+◌, ◌*◌, ◌≤◌, List, [], ◌++◌, length}
 use Rattle.ffc_term.specs.declared.node.Node.{Node}
-use Rattle.ffc_term.specs.Tables.{IsWellFormed}
 use Rattle.ffc_smt.specs.Terms.{Term, Truth, Number, Constant, Variable, Defined, Applied, Let, Called, Terms, NoTerm, AndTerm, weight}
 use Rattle.ffc_smt.specs.Meaning.{Env}
 use Rattle.ffc_smt.specs.Making.{made}
@@ -28,7 +27,7 @@ abbrev mutual
   AllDefined nodes NoTerm = Unit {0}
   AllDefined nodes (AndTerm t ts) = AreDefined nodes t × AllDefined nodes ts
 
--- A term makes at most as many nodes as its weight times its weight. (The pairs of a `distinct` are as many.)
+-- A term makes at most as many nodes as its weight times its weight, however many there are already. (The pairs of a
+-- `distinct` are as many.)
 abbrev pub WeightBoundsNodes : Type 0
-WeightBoundsNodes = (t : Term) (ids : Env ℕ) (nodes : List Node) → AreDefined nodes t → IsWellFormed (made ids nodes t).nodes
-    → length (made ids nodes t).nodes ≤ length nodes + weight t * weight t
+WeightBoundsNodes = (t : Term) (ids : Env ℕ) (nodes : List Node) → AreDefined nodes t → length (made ids nodes t).nodes ≤ length nodes + weight t * weight t

@@ -20,7 +20,7 @@ use Rattle.ffc_smt.specs.ScriptLaw.{HasNode, nodes_at}
 use Rattle.ffc_smt.specs.States.{IsSoundState}
 use Rattle.ffc_smt.specs.ScopedStates.{IsScopedState}
 
--- the terms in force at these numbers are true under the assignment
+-- the active terms at these numbers are true under the assignment
 abbrev pub TermsHoldAt : TableCheck → List ℕ → List Value → Type 0
 TermsHoldAt c numbers assignment = All (λ k. (t : Term) → slice_get (in_force c.check) k ≡ Some t → val [] assignment t ≡ TruthValue true) numbers
 
@@ -38,12 +38,12 @@ pub record HasConstantNode (c : TableCheck) (d : Declared) : Type 0 where
   pub counted : slice_get c.check.constants d.number ≡ Some d.sort
 
 pub record KeepsCheck (c : TableCheck) : Type 0 where
-  -- constants in scope increase, all constants of the cone are among them, and what is in force is Boolean
+  -- constants in scope increase, all constants of the cone are among them, and what is active is Boolean
   pub valid : IsValidCheck c.nodes (declared_nodes c) (nodes_in_force c) c.check.first_order
-  -- each term in force has its node
+  -- each active term has its node
   pub each : All (HasNode c.nodes) (in_force c.check)
   pub declared : All (HasConstantNode c) c.declared
-  -- an assignment makes the check true exactly where it gives every constant a value and makes all nodes in force true
+  -- an assignment makes the check true exactly where it gives every constant a value and makes all active nodes true
   pub holds : (assignment : List Value) → Holds c.check assignment ↔ (IsAssignment c.check.constants assignment × All (λ id. value_at c.nodes assignment id ≡ value.Bool true) (nodes_in_force c))
   -- at some numbers terms are true exactly where their nodes are
   pub some : (numbers : List ℕ) (assignment : List Value) → TermsHoldAt c numbers assignment ↔ NodesHoldAt c numbers assignment

@@ -108,7 +108,7 @@ assumption_asked s t = read_map (λ x. record { tree = t; term = x }) (assumptio
 abbrev pub is_named_word : Word → Bool
 is_named_word w = elim w.kind [ Keyword ↦ bytes_eq w.bytes (codes ":named") | _ ↦ false ]
 
--- behind `(!`: a term, `:named` and a name
+-- after `(!`: a term, `:named` and a name
 abbrev pub named_assertion : Limits → State → Word → List Tree → Read Command
 named_assertion l s closing items =
     read_map (λ p. Assert (Some (p.1.1.0)) p.0)
@@ -257,7 +257,7 @@ pub data When : Type 0 where
 
 pub record Reader : Type 0 where
   pub moment : When
-  -- from the parenthesis that closes the form, and the items behind the head
+  -- from the parenthesis that closes the form, and the items after the head
   pub read : Word → List Tree → Read Command
 
 abbrev pub alone : Command → Word → List Tree → Read Command

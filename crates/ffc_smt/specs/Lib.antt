@@ -30,3 +30,4 @@ pub mod OrderLaws
 pub mod Answering
 pub mod Asking
 pub mod StateRows
+pub mod PartFaults

@@ -26,7 +26,7 @@ abbrev pub placed : List Node → Node → Option ℕ → Made
 placed nodes n (Some id) = record { nodes = nodes; id = id }
 placed nodes n None = record { nodes = nodes ++ n ∷ []; id = length nodes }
 
--- the node n, where there is an equal one that one, else behind the others
+-- the node n, where there is an equal one that one, else after the others
 unfoldable pub interned : List Node → Node → Made
 interned nodes n = placed nodes n (position ((by_parts.ghosts).eq n) nodes)
 

@@ -1,4 +1,4 @@
--- What is in scope and in force: levels of assertions and names, SMT-LIB 2.6, sections 4.1.4 and 4.1.5.
+-- What is in scope and active: levels of assertions and names, SMT-LIB 2.6, sections 4.1.4 and 4.1.5.
 use Rattle.std.specs.Prelude.{ℕ, Bool, true, false, List, [], ◌∷◌, ◌++◌, length, flat_map, filter_map, reverse, if◌then◌else◌, Option, Some, None}
 use Rattle.ffc_term.specs.declared.node.Sort.{Sort}
 use Rattle.ffc_term.specs.declared.node.Node.{Node}

@@ -1,4 +1,4 @@
--- The law of whole scripts: what is in force at a check has a node, and that node means it. No premise is left but that
+-- The law of whole scripts: what is active at a check has a node, and that node means it. No premise is left but that
 -- the limit of nodes is no greater than the table's.
 use Rattle.std.specs.Prelude.{◌≡◌, ℕ, ◌+◌, ◌*◌, ◌≤◌, true, List, [], length, Some, All}
 use Rattle.ffc_term.specs.declared.node.Node.{Node}
@@ -37,9 +37,9 @@ nodes_at x = (after x.before x.tree x.command).nodes
 
 pub record KeepsValues (x : Step) : Type 0 where
   pub table : IsTable (nodes_at x)
-  -- what is in force at a check has a node, and that is Boolean
+  -- what is active at a check has a node, and that is Boolean
   pub checked : (c : Check) → check_of x ≡ Some c → All (λ t. HasNode (nodes_at x) t × (sort_at (nodes_at x) (made [] (nodes_at x) t).id ≡ sort.Bool)) (in_force c)
-  -- so an assignment makes true all that is in force exactly where it makes true all those nodes
+  -- so an assignment makes true all that is active exactly where it makes true all those nodes
   pub forced : (c : Check) → check_of x ≡ Some c → (assignment : List Value) → Holds c assignment → All (IsTrueAt (nodes_at x) assignment) (in_force c)
   pub holds : (c : Check) → check_of x ≡ Some c → (assignment : List Value) → IsAssignment c.constants assignment → All (IsTrueAt (nodes_at x) assignment) (in_force c) → Holds c assignment
   -- what a `get-value` asks for has nodes too
@@ -58,7 +58,7 @@ abbrev pub ReadsTerms : Step → Type 0
 ReadsTerms x = (limit : ℕ) (tree : Tree) (t : Sorted) → term_read limit (scope_of x.before) [] tree ≡ Sound t
     → AreDefined x.before.nodes t.term × (length (made [] x.before.nodes t.term).nodes ≤ most_nodes → MakesNodes x.before.nodes t)
 
--- For every text, each step that is a check, each term in force there and every assignment, the term's node in the nodes
+-- For every text, each step that is a check, each active term there and every assignment, the term's node in the nodes
 -- so far has the value of the term.
 abbrev pub ScriptsKeepValues : Type 0
 ScriptsKeepValues = (l : Limits) (text : List ℕ) → l.nodes ≤ most_nodes → All KeepsValues (reads_within l text).steps

@@ -1,4 +1,4 @@
--- What a script says: its commands and its end, what is in force at each check, and when that can be met. SMT-LIB 2.6,
+-- What a script says: its commands and its end, what is active at each check, and when that can be met. SMT-LIB 2.6,
 -- sections 3.9 and 4.
 use Rattle.std.specs.Prelude.{◌≡◌, ℕ, true, List, [], ◌∷◌, ◌++◌, length, drop, map, replicate, Option, Some, None, All}
 use Rattle.ffc_lex.specs.declared.tokens.TokenKind.{TokenKind}
@@ -103,11 +103,11 @@ IsAssignment [] (v ∷ vs) = ⊥
 IsAssignment (s ∷ ss) [] = ⊥
 IsAssignment (s ∷ ss) (v ∷ vs) = IsOfSort s v × IsAssignment ss vs
 
--- all that is in force is true
+-- all that is active is true
 abbrev pub Holds : Check → List Value → Type 0
 Holds c assignment = IsAssignment c.constants assignment × All (λ t. val [] assignment t ≡ TruthValue true) (in_force c)
 
--- nothing makes all that is in force true
+-- nothing makes all that is active true
 abbrev pub IsUnsatisfiable : Check → Type 0
 IsUnsatisfiable c = (assignment : List Value) → Holds c assignment → ⊥
 
@@ -137,7 +137,7 @@ with_step x script = record { steps = x ∷ script.steps; end = script.end }
 abbrev pub end_at : Fault → End
 end_at f = AtFault f.line f.column f.code
 
--- what forms say from a state on, where the text ends so behind them; what follows `exit` isn't looked at
+-- what forms say from a state on, where the text ends so after them; what follows `exit` isn't looked at
 unfoldable pub script_from : Limits → State → List Tree → End → Script
 script_from l s [] end = ended end
 script_from l s (t ∷ ts) end =
@@ -147,7 +147,7 @@ script_from l s (t ∷ ts) end =
       | Sound c ↦ with_step (record { before = s; tree = t; command = c }) (script_from l (after s t c) ts end)
     ]
 
--- the end of a text behind its last form
+-- the end of a text after its last form
 abbrev pub end_of_text : TextEnd → End
 end_of_text Between = Done
 end_of_text (Within f) = AtFault f.line f.column f.code

@@ -23,11 +23,11 @@ node_of nodes t = (made [] nodes t).id
 abbrev pub declared_nodes : TableCheck → List ℕ
 declared_nodes c = map (λ d. node_of c.nodes (Constant d.number d.sort)) c.declared
 
--- the nodes of the terms in force
+-- the nodes of the active terms
 abbrev pub nodes_in_force : TableCheck → List ℕ
 nodes_in_force c = map (node_of c.nodes) (in_force c.check)
 
--- the names of the terms in force: an assertion may have one, an assumption has none
+-- the names of the active terms: an assertion may have one, an assumption has none
 abbrev pub names_in_force : TableCheck → List (Option Name)
 names_in_force c = map (λ a. a.label) c.check.assertions ++ map (λ _. None) c.check.assumptions
 

@@ -256,7 +256,7 @@ order_of_sort w (sort.Field p) = Sound p
 abbrev pub field_read : Env Sort → Tree → Read ℕ
 field_read sorts t = behind (sort_read sorts t) (order_of_sort (front t))
 
--- behind `(as`
+-- after `(as`
 abbrev pub as_read : Scope → Word → List Tree → Read Sorted
 as_read scope closing items =
     read_map (λ parts. number_term parts.0 parts.1.0) (item closing constant_read (item closing (field_read scope.sorts) last) items)

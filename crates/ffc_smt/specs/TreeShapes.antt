@@ -23,7 +23,7 @@ abbrev mutual
 
 -- Reading from the left: the groups that are not closed, the innermost first
 
--- a parenthesis and the items behind it, the newest first
+-- a parenthesis and the items after it, the newest first
 pub record Part : Type 0 where
   pub opening : Word
   pub items : List Tree

@@ -48,11 +48,11 @@ unfoldable mutual
   tokens_of_items (First t ts) = tokens_of t ++ tokens_of_items ts
 
 -- What tokens are where they stand inside parentheses: the items before the parenthesis that closes the innermost pair,
--- that parenthesis, and what the tokens behind it are inside the next pair.
+-- that parenthesis, and what the tokens after it are inside the next pair.
 pub data Inside : Type 0 where
   Ended : Inside
   Items : Trees → Word → Inside → Inside
-  -- an item stands behind the last parenthesis, or one is not closed
+  -- an item stands after the last parenthesis, or one is not closed
   Torn : Inside
 
 abbrev pub with_item : Tree → Inside → Inside
@@ -60,7 +60,7 @@ with_item t Ended = Torn
 with_item t (Items items closing rest) = Items (First t items) closing rest
 with_item t Torn = Torn
 
--- a parenthesis opens what stands behind it
+-- a parenthesis opens what stands after it
 abbrev pub opened_by : Word → Inside → Inside
 opened_by opening Ended = Torn
 opened_by opening (Items items closing rest) = with_item (Group opening items closing) rest

@@ -2,7 +2,7 @@
 ghost use Rattle.ffc_smt.specs.Asking.{MakingUpToTheLimit};
 ghost use Rattle.ffc_smt.specs.CheckLaws.{ScriptsKeepChecks, StepsKeepChecks};
 ghost use Rattle.ffc_smt.specs.ScopedStates.{CommandsKeepScopes, ScriptsKeepScopes};
-ghost use Rattle.ffc_smt.specs.StepLaws.{StepsKeepValues};
+ghost use Rattle.ffc_smt.specs.StepLaws.{LightCommandsFit, StepsKeepValues};
 
 /// A level speaks of the constants of its own names and of the levels below it, and the first order is one of the
 /// solver's: so at the start, and so after each command.
@@ -15,7 +15,7 @@ pub fn scripts_keep_scopes()
     ensures { ScriptsKeepScopes }
 {}
 
-/// A command that is read at a sound state: what is in force, what is asked for and what is asserted, defined or declared
+/// A command that is read at a sound state: what is active, what is asked for and what is asserted, defined or declared
 /// has its node, which means it; and so has any other term that could be read there.
 pub fn steps_keep_values()
     ensures { StepsKeepValues }
@@ -34,4 +34,9 @@ pub fn scripts_keep_checks()
 /// Each node that a function asks for fits the table so far, also where all of them are too many.
 pub fn making_up_to_the_limit()
     ensures { MakingUpToTheLimit }
+{}
+
+/// A command that is light for the nodes that are left is not refused for its nodes.
+pub fn light_commands_fit()
+    ensures { LightCommandsFit }
 {}

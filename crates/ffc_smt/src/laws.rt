@@ -89,7 +89,7 @@ pub fn scripts_keep_states()
     ensures { ScriptsKeepStates }
 {}
 
-/// For every text, each step that is a check, each term in force there and every assignment, the term's node in the
+/// For every text, each step that is a check, each active term there and every assignment, the term's node in the
 /// nodes so far has the value of the term.
 pub fn scripts_keep_values()
     ensures { ScriptsKeepValues }

@@ -3,6 +3,7 @@ ghost use Rattle.ffc_smt.specs.Answering.{KeepingEffectsKeep, OptionsAreSet};
 ghost use Rattle.ffc_smt.specs.FaultLaws.{FaultsAreAtTokens, FirstFaultIsLeftmost, TreesAreInOrder};
 ghost use Rattle.ffc_smt.specs.GoingOn.{ReadingGoesOn};
 ghost use Rattle.ffc_smt.specs.OrderLaws.{OrdersAreTheEight};
+ghost use Rattle.ffc_smt.specs.PartFaults.{LeastFaultIsAnswered, PartsFaultsAreAtTokens};
 ghost use Rattle.ffc_smt.specs.TreeShapes.{TreesAreDetermined};
 
 /// Every fault of a tree is at a token of it.
@@ -18,6 +19,16 @@ pub fn trees_are_in_order()
 /// The fault that is answered is the leftmost: of two lists, all of the one left of all of the other, the left one's.
 pub fn first_fault_is_leftmost()
     ensures { FirstFaultIsLeftmost }
+{}
+
+/// A fault of the list that no other is before is the one that is answered.
+pub fn least_fault_is_answered()
+    ensures { LeastFaultIsAnswered }
+{}
+
+/// The faults of arguments and of a `let`'s variables are at tokens of them.
+pub fn parts_faults_are_at_tokens()
+    ensures { PartsFaultsAreAtTokens }
 {}
 
 /// The tree of a form is determined by its tokens, and is read from them from the left.

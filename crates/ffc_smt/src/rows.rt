@@ -17,7 +17,7 @@ pub fn first_faults()
     ensures { AreFirstFaults }
 {}
 
-/// Levels, names and what is in force.
+/// Levels, names and what is active.
 pub fn levels()
     ensures { AreLevels }
 {}

@@ -1,18 +1,16 @@
 -- Sorts, degrees and lengths follow from the children's, and stay.
-use Rattle.std.proofs.Common.{◌≡◌, ℕ, zero, suc, ◌+◌, ◌*◌, ◌<◌, max, List, [], ◌∷◌, ◌++◌, length, take, fold, get_or, slice_index, All, Contains, refl, sym, ap, ap₂, ◌∙◌, subst, arith, get_or-take, length-take}
-use Rattle.std.proofs.lemmas.List.Elements.{All-cons, All-nil, All-weaker, All-contains, All-get_or, Contains-append_right, Contains-get_or}
-use Rattle.std.proofs.lemmas.Option.{slice_get_within}
-use Rattle.ffc_field.specs.Orders.{IsOrder}
+use Rattle.std.proofs.Common.{◌≡◌, ℕ, ◌+◌, ◌*◌, ◌<◌, max, List, [], ◌∷◌, ◌++◌, length, take, fold, get_or, slice_index, All, Contains, refl, sym, ap, ap₂, ◌∙◌, subst, arith, get_or-take, length-take}
+use Rattle.std.proofs.lemmas.List.Elements.{All-nil, All-weaker, All-contains, Contains-append_right, Contains-get_or}
 use Rattle.ffc_term.specs.declared.node.Node.{Node}
 use Rattle.ffc_term.specs.declared.node.Node.TheVariants.{True, False, BoolConst, FieldConst, Num, Not, And, Or, Iff, Xor, IteBool, IteField, Eq, Add, Mul, Neg, Bitsum}
 use Rattle.ffc_term.specs.declared.node.Sort.{Sort}
 use Rattle.ffc_term.specs.declared.node.Sort.TheVariants as sort
 use Rattle.ffc_term.specs.Nodes.{IsNodeAt, children, sorts, sort_in, sort_at, sort_of_node}
 use Rattle.ffc_term.specs.Measuring.{number_in, degrees, lengths, degree_at, length_at, degree_of_node, length_of_node}
-use Rattle.ffc_term.specs.Tables.{Fits, AreOfOneField, IsFieldAt, IsWellFormed, IsTable}
+use Rattle.ffc_term.specs.Tables.{Fits, AreOfOneField, IsFieldAt, IsWellFormed}
 use Rattle.ffc_term.specs.Growth.{field_children}
 use Rattle.ffc_term.proofs.InTurn.{get_or-in_turn, take-in_turn-append}
-use Rattle.ffc_term.proofs.TableLemmas.{sorts-take, sort_at-is, sort_at-take, sort_at-append}
+use Rattle.ffc_term.proofs.TableLemmas.{sort_at-is, sort_at-take}
 use Rattle.ffc_term.proofs.WalkLemmas.{child_below}
 
 -- Children

@@ -1,12 +1,12 @@
 -- What holds of sorts, degrees and lengths in every table: they follow from those of the children, and stay when nodes
--- come behind. The field nodes among a node's children, and the two sides of an equality, are of one order.
-use Rattle.std.specs.Prelude.{◌≡◌, ℕ, ◌<◌, List, [], ◌∷◌, ◌++◌, Contains, All, length}
+-- come after. The field nodes among a node's children, and the two sides of an equality, are of one order.
+use Rattle.std.specs.Prelude.{◌≡◌, ℕ, ◌<◌, List, [], ◌∷◌, ◌++◌, All, length}
 use Rattle.ffc_field.specs.Orders.{IsOrder}
 use Rattle.ffc_term.specs.declared.node.Node.{Node}
 use Rattle.ffc_term.specs.declared.node.Node.TheVariants.{IteField, Eq, Add, Mul, Neg, Bitsum}
 use Rattle.ffc_term.specs.Nodes.{IsNodeAt, sorts, sort_at, sort_of_node}
 use Rattle.ffc_term.specs.Measuring.{degrees, lengths, degree_at, length_at, degree_of_node, length_of_node}
-use Rattle.ffc_term.specs.Tables.{IsTable, IsFieldAt}
+use Rattle.ffc_term.specs.Tables.{IsTable, IsFieldAt, CanCut}
 
 pub record MeasuresFollowFromChildren : Type 0 where
   pub sort : (nodes : List Node) (id : ℕ) (n : Node) → IsTable nodes → IsNodeAt nodes id n → sort_at nodes id ≡ sort_of_node (sorts nodes) n
@@ -32,3 +32,7 @@ field_children _ = []
 pub record FieldChildrenAreOfOneOrder : Type 0 where
   pub sides : (nodes : List Node) (id a b : ℕ) → IsTable nodes → IsNodeAt nodes id (Eq a b) → (p : ℕ) × IsOrder p × IsFieldAt nodes p a × IsFieldAt nodes p b
   pub parts : (nodes : List Node) (id p : ℕ) (n : Node) → IsTable nodes → IsNodeAt nodes id n → IsFieldAt nodes p id → IsOrder p × All (IsFieldAt nodes p) (field_children n)
+
+-- What was put behind a table may be dropped.
+abbrev pub GrownTablesCanBeCut : Type 0
+GrownTablesCanBeCut = (nodes more : List Node) → IsTable nodes → CanCut (nodes ++ more) (length nodes)

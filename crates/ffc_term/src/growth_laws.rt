@@ -1,5 +1,5 @@
 //! What holds of sorts, degrees and lengths in every table, for the crates above.
-ghost use Rattle.ffc_term.specs.Growth.{FieldChildrenAreOfOneOrder, MeasuresFollowFromChildren, MeasuresStay};
+ghost use Rattle.ffc_term.specs.Growth.{FieldChildrenAreOfOneOrder, GrownTablesCanBeCut, MeasuresFollowFromChildren, MeasuresStay};
 
 /// A node's sort, degree and length follow from those of its children.
 pub fn measures_follow_from_children()
@@ -14,4 +14,9 @@ pub fn measures_stay()
 /// The field children of a node are of one order, which is that of the node unless it is an equality.
 pub fn field_children_are_of_one_order()
     ensures { FieldChildrenAreOfOneOrder }
+{}
+
+/// What was put behind a table may be dropped.
+pub fn grown_tables_can_be_cut()
+    ensures { GrownTablesCanBeCut }
 {}
