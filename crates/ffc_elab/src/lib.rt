@@ -1,8 +1,10 @@
 //! The elaborator of scripts: from forms to commands and nodes. So far: its parts below names and commands.
 #![tactic(auto)]
 
+mod applying;
 mod numbers;
 mod operators;
 
+pub use applying::{equality, put};
 pub use numbers::{Signed, constant_of, is_order, literal_number, literal_order, number_of, order_of, residue_of, signed_of, size_of_digits};
 pub use operators::{Operator, Wanted, operator_named};
