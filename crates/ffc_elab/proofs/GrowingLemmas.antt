@@ -1,21 +1,25 @@
 -- Nodes that are put into a table one after another.
-use Rattle.std.proofs.Common.{◌≡◌, ℕ, ◌+◌, ◌<◌, ◌≤◌, ◌↔◌, ◌⊎◌, inl, inr, List, [], ◌∷◌, ◌++◌, length, take, Result, Ok, Err, IfOk, OnErr, IsErrOf, Contains, refl, sym, ap, ◌∙◌, subst, arith, append_assoc, append-nil, length-append}
+use Rattle.std.proofs.Common.{◌≡◌, ℕ, ◌+◌, ◌<◌, ◌≤◌, ◌↔◌, ◌⊎◌, inl, inr, List, [], ◌∷◌, ◌++◌, length, take, drop, get_or, zero, suc, Result, Ok, Err, IfOk, OnErr, IsErrOf, Contains, refl, sym, ap, ◌∙◌, subst, arith, append_assoc, append-nil, length-append}
 use Rattle.ffc_term.specs.declared.node.Node.{Node}
 use Rattle.ffc_term.specs.declared.node.Node.TheVariants as node
 use Rattle.ffc_term.specs.declared.node.Sort.{Sort}
 use Rattle.ffc_term.specs.declared.node.Sort.TheVariants as sort
 use Rattle.ffc_term.specs.declared.table.TermStop.{TermStop}
 use Rattle.ffc_term.specs.declared.table.TermStop.TheVariants as stop
+use Rattle.std.proofs.lemmas.List.{drop_more, drop_all}
 use Rattle.std.proofs.lemmas.Option.{slice_get_within}
 use Rattle.std.proofs.lemmas.List.Elements.{All-weaker}
 use Rattle.ffc_term.specs.Nodes.{IsNodeAt, sort_at, sorts, sort_of_node}
 use Rattle.ffc_term.proofs.TableLemmas.{sort_at-is}
 use Rattle.ffc_term.specs.Tables.{IsTable, IsInterned, most_nodes}
-use Rattle.ffc_smt.specs.Making.{Made, interned, equality, equality_of, difference, implication, implications, exclusive}
+use Rattle.ffc_smt.specs.Making.{Made, interned, equality, equality_of, difference, implication, implications, exclusive, AllMade, with_id, neighbours, differences_from, differences}
 use Rattle.ffc_smt.specs.Asking.{IsSortAt}
-use Rattle.ffc_smt.proofs.Extends.{Extends, longer, sort_stays, interned_at, interned_extends, exclusive_extends}
+use Rattle.ffc_smt.proofs.Extends.{Extends, longer, sort_stays, interned_at, interned_extends, exclusive_extends, implication_extends, extends_same, extends_further, neighbours_extend, differences_from_extend, differences_extend}
 use Rattle.ffc_smt.proofs.InterningLemmas.{interned_absent, interning_is_one}
-use Rattle.ffc_elab.specs.Growing.{Grows, IsDone, IsLeft, Makes, AreAlike, AreAllAt}
+use Rattle.ffc_elab.specs.Growing.{Grows, IsDone, IsLeft, Makes, AreAlike, AreAllAt, AreDone, AreLeft, IsGoing, implied}
+
+abbrev the_all : List Node → List ℕ → AllMade
+the_all nodes ids = record { nodes = nodes; ids = ids }
 
 pub grows_same : (ns : List Node) → IsTable ns → Grows ns ns
 grows_same ns table = record { more = []; put = sym (append-nil ns); table = table }
@@ -129,3 +133,133 @@ exclusive_none ns a = refl
 -- a part that did not fit is a part of the whole
 pub left_of_whole : (old new : List Node) (part whole : Made) (cause : TermStop) → Extends part.nodes whole.nodes → IsLeft old new part cause → IsLeft old new whole cause
 left_of_whole old new part whole cause further h = record { full = λ c. let long = longer part.nodes whole.nodes further in omega (arith, h.full c, long); grows = h.grows }
+
+-- `Xor` from the left, as far as it has come
+
+pub exclusive_goes : (ns : List Node) (a : ℕ) (rest : List ℕ) (i : ℕ) → i < length rest → exclusive ns a (drop i rest) ≡ exclusive ns a (get_or rest i 0 ∷ drop (i + 1) rest)
+exclusive_goes ns a rest i h = ap (exclusive ns a) (drop_more rest i 0 h)
+
+pub exclusive_ends : (ns : List Node) (a : ℕ) (rest : List ℕ) (i : ℕ) → length rest ≤ i → exclusive ns a (drop i rest) ≡ record { nodes = ns; id = a }
+exclusive_ends ns a rest i h = ap (exclusive ns a) (drop_all i rest h) ∙ exclusive_none ns a
+
+-- Implications from the right
+
+pub implied_last : (ns : List Node) (a : ℕ) → implied ns (a ∷ []) ≡ record { nodes = ns; id = a }
+unfolding implications
+implied_last ns a = refl
+
+pub implied_then : (old mid : List Node) (a made : ℕ) (rest : List ℕ) → 0 < length rest → implied old rest ≡ record { nodes = mid; id = made } → implied old (a ∷ rest) ≡ implication mid a made
+unfolding implications
+implied_then old mid a made [] h e = absurd (omega arith)
+implied_then old mid a made (b ∷ rest) h e = ap (λ (m : Made). implication m.nodes a m.id) e
+
+implied_tail : (old : List Node) (a : ℕ) (rest : List ℕ) → 0 < length rest → Extends (implied old rest).nodes (implied old (a ∷ rest)).nodes
+unfolding implications
+implied_tail old a [] h = absurd (omega arith)
+implied_tail old a (b ∷ rest) h = let last = implications old b rest in implication_extends last.nodes a last.id
+
+pub implied_front : (old : List Node) (ids : List ℕ) (k : ℕ) → k < length ids → Extends (implied old (drop k ids)).nodes (implied old ids).nodes
+implied_front old [] k h = absurd (omega arith)
+implied_front old (a ∷ rest) zero h = extends_same (implied old (a ∷ rest)).nodes
+implied_front old (a ∷ rest) (suc k) h =
+    extends_further (implied old (drop k rest)).nodes (implied old rest).nodes (implied old (a ∷ rest)).nodes (implied_front old rest k (omega arith)) (implied_tail old a rest (omega arith))
+
+-- Several nodes
+
+pub going_begins : (ns : List Node) (wanted : AllMade) (before : List ℕ) → IsTable ns → IsGoing ns ns wanted wanted before before
+going_begins ns wanted before table = record { ids = []; whole = refl; listed = sym (append-nil before); grows = grows_same ns table }
+
+pub going_more : (old mid new : List Node) (wanted now next : AllMade) (before so_far after more : List ℕ) → IsGoing old mid wanted now before so_far → Grows mid new
+    → now ≡ record { nodes = next.nodes; ids = more ++ next.ids } → after ≡ so_far ++ more → IsGoing old new wanted next before after
+going_more old mid new wanted now next before so_far after more g h e l = record {
+  ids = g.ids ++ more;
+  whole = g.whole ∙ ap (λ (m : AllMade). the_all m.nodes (g.ids ++ m.ids)) e ∙ ap (the_all next.nodes) (sym (append_assoc g.ids more next.ids));
+  listed = l ∙ ap (λ t. t ++ more) g.listed ∙ append_assoc before g.ids more;
+  grows = grows_further old mid new g.grows h;
+}
+
+pub going_ends : (old now : List Node) (wanted : AllMade) (before after : List ℕ) → IsGoing old now wanted (record { nodes = now; ids = [] }) before after → AreDone old now wanted before after
+going_ends old now wanted before after g = record { ids = g.ids; made = g.whole ∙ ap (the_all now) (append-nil g.ids); listed = g.listed; grows = g.grows }
+
+whole_nodes : (wanted others : AllMade) (ids : List ℕ) → wanted ≡ record { nodes = others.nodes; ids = ids ++ others.ids } → length wanted.nodes ≡ length others.nodes
+whole_nodes wanted others ids e = ap (λ (m : AllMade). length m.nodes) e
+
+pub going_left : (old mid new : List Node) (wanted now : AllMade) (before so_far : List ℕ) (part : Made) (cause : TermStop) → IsGoing old mid wanted now before so_far
+    → Extends part.nodes now.nodes → IsLeft mid new part cause → AreLeft old new wanted cause
+going_left old mid new wanted now before so_far part cause g further h = record {
+  full = λ c. let long = longer part.nodes now.nodes further in let same = whole_nodes wanted now g.ids g.whole in omega (arith, h.full c, long, same);
+  grows = grows_further old mid new g.grows h.grows;
+}
+
+pub going_left_all : (old mid new : List Node) (wanted now part : AllMade) (before so_far : List ℕ) (cause : TermStop) → IsGoing old mid wanted now before so_far
+    → Extends part.nodes now.nodes → AreLeft mid new part cause → AreLeft old new wanted cause
+going_left_all old mid new wanted now part before so_far cause g further h = record {
+  full = λ c. let long = longer part.nodes now.nodes further in let same = whole_nodes wanted now g.ids g.whole in omega (arith, h.full c, long, same);
+  grows = grows_further old mid new g.grows h.grows;
+}
+
+pub left_all_memory : (old new : List Node) (wanted : AllMade) → Grows old new → AreLeft old new wanted stop.Memory
+left_all_memory old new wanted g = record { full = λ c. cc; grows = g }
+
+-- The equality of each with the next
+
+pub neighbours_then : (ns new : List Node) (a b id : ℕ) (rest : List ℕ) → equality ns a b ≡ record { nodes = new; id = id }
+    → neighbours ns a (b ∷ rest) ≡ record { nodes = (neighbours new b rest).nodes; ids = (id ∷ []) ++ (neighbours new b rest).ids }
+unfolding neighbours
+neighbours_then ns new a b id rest e = ap (λ (m : Made). with_id m.id (neighbours m.nodes b rest)) e
+
+pub neighbours_begins : (ns : List Node) (a b : ℕ) (rest : List ℕ) → Extends (equality ns a b).nodes (neighbours ns a (b ∷ rest)).nodes
+unfolding neighbours
+neighbours_begins ns a b rest = let m = equality ns a b in neighbours_extend rest m.nodes b
+
+pub neighbours_goes : (ns : List Node) (a : ℕ) (rest : List ℕ) (i : ℕ) → i < length rest → neighbours ns a (drop i rest) ≡ neighbours ns a (get_or rest i 0 ∷ drop (i + 1) rest)
+neighbours_goes ns a rest i h = ap (neighbours ns a) (drop_more rest i 0 h)
+
+neighbours_none : (ns : List Node) (a : ℕ) → neighbours ns a [] ≡ record { nodes = ns; ids = [] }
+unfolding neighbours
+neighbours_none ns a = refl
+
+pub neighbours_ends : (ns : List Node) (a : ℕ) (rest : List ℕ) (i : ℕ) → length rest ≤ i → neighbours ns a (drop i rest) ≡ record { nodes = ns; ids = [] }
+neighbours_ends ns a rest i h = ap (neighbours ns a) (drop_all i rest h) ∙ neighbours_none ns a
+
+-- The difference of a node from each
+
+pub differences_from_then : (ns new : List Node) (a b id : ℕ) (rest : List ℕ) → difference ns a b ≡ record { nodes = new; id = id }
+    → differences_from ns a (b ∷ rest) ≡ record { nodes = (differences_from new a rest).nodes; ids = (id ∷ []) ++ (differences_from new a rest).ids }
+unfolding differences_from
+differences_from_then ns new a b id rest e = ap (λ (m : Made). with_id m.id (differences_from m.nodes a rest)) e
+
+pub differences_from_begins : (ns : List Node) (a b : ℕ) (rest : List ℕ) → Extends (difference ns a b).nodes (differences_from ns a (b ∷ rest)).nodes
+unfolding differences_from
+differences_from_begins ns a b rest = let m = difference ns a b in differences_from_extend rest m.nodes a
+
+pub differences_from_goes : (ns : List Node) (a : ℕ) (rest : List ℕ) (i : ℕ) → i < length rest → differences_from ns a (drop i rest) ≡ differences_from ns a (get_or rest i 0 ∷ drop (i + 1) rest)
+differences_from_goes ns a rest i h = ap (differences_from ns a) (drop_more rest i 0 h)
+
+differences_from_none : (ns : List Node) (a : ℕ) → differences_from ns a [] ≡ record { nodes = ns; ids = [] }
+unfolding differences_from
+differences_from_none ns a = refl
+
+pub differences_from_ends : (ns : List Node) (a : ℕ) (rest : List ℕ) (i : ℕ) → length rest ≤ i → differences_from ns a (drop i rest) ≡ record { nodes = ns; ids = [] }
+differences_from_ends ns a rest i h = ap (differences_from ns a) (drop_all i rest h) ∙ differences_from_none ns a
+
+-- The differences of all pairs
+
+pub differences_then : (ns new : List Node) (a : ℕ) (rest ids : List ℕ) → differences_from ns a rest ≡ record { nodes = new; ids = ids }
+    → differences ns (a ∷ rest) ≡ record { nodes = (differences new rest).nodes; ids = ids ++ (differences new rest).ids }
+unfolding differences
+differences_then ns new a rest ids e = ap (λ (m : AllMade). the_all (differences m.nodes rest).nodes (m.ids ++ (differences m.nodes rest).ids)) e
+
+pub differences_begins : (ns : List Node) (a : ℕ) (rest : List ℕ) → Extends (differences_from ns a rest).nodes (differences ns (a ∷ rest)).nodes
+unfolding differences
+differences_begins ns a rest = let m = differences_from ns a rest in differences_extend rest m.nodes
+
+pub differences_goes : (ns : List Node) (ids : List ℕ) (i : ℕ) → i < length ids → differences ns (drop i ids) ≡ differences ns (get_or ids i 0 ∷ drop (i + 1) ids)
+differences_goes ns ids i h = ap (differences ns) (drop_more ids i 0 h)
+
+differences_none : (ns : List Node) → differences ns [] ≡ record { nodes = ns; ids = [] }
+unfolding differences
+differences_none ns = refl
+
+pub differences_ends : (ns : List Node) (ids : List ℕ) (i : ℕ) → length ids ≤ i → differences ns (drop i ids) ≡ record { nodes = ns; ids = [] }
+differences_ends ns ids i h = ap (differences ns) (drop_all i ids h) ∙ differences_none ns

@@ -76,3 +76,10 @@ MakesAll old new wanted before after (Err cause) = AreLeft old new wanted cause
 abbrev pub implied : List Node → List ℕ → Made
 implied nodes [] = record { nodes = nodes; id = 0 }
 implied nodes (a ∷ rest) = implications nodes a rest
+
+-- Some of several nodes are made: what is to be made is these, and then the others from the present table on.
+pub record IsGoing (old now : List Node) (wanted others : AllMade) (before so_far : List ℕ) : Type 0 where
+  pub ids : List ℕ
+  pub whole : wanted ≡ record { nodes = others.nodes; ids = ids ++ others.ids }
+  pub listed : so_far ≡ before ++ ids
+  pub grows : Grows old now

@@ -1,14 +1,17 @@
 //! The nodes that functions make of the nodes of their arguments.
-ghost use Rattle.std.specs.Prelude.{◌≡◌, ◌<◌, length};
+ghost use Rattle.std.specs.Prelude.{◌≡◌, ◌<◌, ◌≤◌, length, IfOk};
 ghost use Rattle.ffc_term.specs.declared.node.Sort.TheVariants as sort;
 ghost use Rattle.ffc_term.specs.Nodes.{sort_at};
 ghost use Rattle.ffc_term.specs.Tables.{Fits, IsNumbered, IsFieldIte};
 ghost use Rattle.ffc_smt.specs.Asking.{IsSortAt};
 ghost use Rattle.ffc_smt.specs.Making as making;
-ghost use Rattle.ffc_elab.specs.Growing.{AllOfOneSort, AreAlike, AreAllAt, AreOfOneSort, Makes, MakesAll, implied};
+ghost use Rattle.ffc_smt.specs.Terms as term;
+ghost use Rattle.ffc_elab.specs.Operators.{operator_of};
+ghost use Rattle.ffc_elab.specs.Growing.{AllOfOneSort, AreAlike, AreTaken, AreAllAt, AreOfOneSort, Makes, MakesAll, implied};
 
+use crate::operators::Operator;
 use ffc_term::{Node, NodeId, NodeList, NodeTable, Sort, TermStop};
-use std::alloc::Global;
+use std::alloc::{AllocError, Global};
 
 /// The number of a node, which is put behind the others where it is new.
 pub fn put(table: &mut NodeTable, node: Node) -> Result<NodeId, TermStop>
@@ -174,4 +177,48 @@ pub fn choice(
             made
         }
     }
+}
+
+fn list(alloc: Global, ids: &[NodeId]) -> Result<NodeList, AllocError>
+    ensures { IfOk result (λ made. made ≡ ids.now) }
+{
+    Ok(NodeList::new(Vec::from_slice(alloc, ids)?))
+}
+
+/// That each is equal to the next.
+pub fn all_equal(
+    table: &mut NodeTable,
+    alloc: Global,
+    ids: &[NodeId],
+) -> Result<NodeId, TermStop>
+    requires some { 2 ≤ length ids.now }
+    requires alike { AllOfOneSort table.old ids.now }
+    ensures { Makes table.old table.new (making.applied_made term.Equal table.old ids.now) result }
+{
+    if ids.len() == 2 {
+        return equality(table, ids[0], ids[1]);
+    }
+    let _before = table.len();
+    let mut parts = Vec::new(alloc);
+    neighbours(table, ids[0], &ids[1..], &mut parts)?;
+    put(table, Node::And(NodeList::new(parts)))
+}
+
+/// That no two are equal.
+pub fn all_distinct(
+    table: &mut NodeTable,
+    alloc: Global,
+    ids: &[NodeId],
+) -> Result<NodeId, TermStop>
+    requires some { 2 ≤ length ids.now }
+    requires alike { AllOfOneSort table.old ids.now }
+    ensures { Makes table.old table.new (making.applied_made term.Distinct table.old ids.now) result }
+{
+    if ids.len() == 2 {
+        return difference(table, ids[0], ids[1]);
+    }
+    let _before = table.len();
+    let mut parts = Vec::new(alloc);
+    differences(table, ids, &mut parts)?;
+    put(table, Node::And(NodeList::new(parts)))
 }
