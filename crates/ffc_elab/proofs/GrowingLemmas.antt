@@ -263,3 +263,7 @@ differences_none ns = refl
 
 pub differences_ends : (ns : List Node) (ids : List ℕ) (i : ℕ) → length ids ≤ i → differences ns (drop i ids) ≡ record { nodes = ns; ids = [] }
 differences_ends ns ids i h = ap (differences ns) (drop_all i ids h) ∙ differences_none ns
+
+-- several nodes that did not fit are a part of the whole
+pub left_part : (old new : List Node) (part : AllMade) (whole : Made) (cause : TermStop) → Extends part.nodes whole.nodes → AreLeft old new part cause → IsLeft old new whole cause
+left_part old new part whole cause further h = record { full = λ c. let long = longer part.nodes whole.nodes further in omega (arith, h.full c, long); grows = h.grows }
