@@ -1,13 +1,14 @@
 -- What a function makes of the nodes of its arguments, by how many they are.
-use Rattle.std.proofs.Common.{◌≡◌, ℕ, ◌+◌, ◌-◌, ◌<◌, ◌≤◌, List, [], ◌∷◌, length, take, drop, get_or, All, refl, sym, ap, ◌∙◌, subst, arith}
+use Rattle.std.proofs.Common.{◌≡◌, ℕ, ◌+◌, ◌-◌, ◌<◌, ◌≤◌, List, [], ◌∷◌, length, take, drop, get_or, All, Result, refl, sym, ap, ◌∙◌, subst, arith}
 use Rattle.std.proofs.lemmas.List.{take_all, length-drop}
 use Rattle.std.proofs.lemmas.List.Elements.{All-cons, All-nil, All-head, All-tail}
 use Rattle.ffc_term.specs.declared.node.Node.{Node}
 use Rattle.ffc_term.specs.declared.node.Node.TheVariants as node
 use Rattle.ffc_term.specs.declared.node.Sort.{Sort}
 use Rattle.ffc_term.specs.declared.node.Sort.TheVariants as sort
+use Rattle.ffc_term.specs.declared.table.TermStop.{TermStop}
 use Rattle.ffc_term.specs.Nodes.{sort_at}
-use Rattle.ffc_term.specs.Tables.{IsTable, AreBoolean, Fits, constant_count, most_nodes}
+use Rattle.ffc_term.specs.Tables.{IsTable, AreBoolean, AreOfOneField, Fits, constant_count, most_nodes}
 use Rattle.ffc_smt.specs.Terms.{Operator, Not, And, Or, Xor, Implies, Equal, Distinct, Ite, Add, Mul, Neg, Bitsum}
 use Rattle.ffc_smt.specs.Making.{Made, AllMade, interned, equality, difference, neighbours, differences, exclusive, implications, conjoined, choice, applied_made}
 use Rattle.ffc_smt.specs.WellSorted.{AreAll, IsField, Takes}
@@ -15,7 +16,7 @@ use Rattle.ffc_smt.specs.States.{IsTableWith}
 use Rattle.ffc_smt.specs.Asking.{Ask, ask, IsSortAt, AreSortsAt, FitsThere, AsksFit, applied_asks}
 use Rattle.ffc_smt.proofs.Extends.{Extends, interned_extends}
 use Rattle.ffc_smt.proofs.TableMaking.{AllAt, booleans, neighbours_good, differences_good, neighbours_some, differences_some}
-use Rattle.ffc_elab.specs.Growing.{AreAlike, AreAllAt, implied}
+use Rattle.ffc_elab.specs.Growing.{AreAlike, AreAllAt, Makes, implied}
 
 -- a slice up to the end
 pub up_to_end : (ids : List ℕ) (k : ℕ) → take (length ids - k) (drop k ids) ≡ drop k ids
@@ -223,3 +224,71 @@ ite_takes ns (z ∷ x ∷ y ∷ []) (c ∷ a ∷ b ∷ []) s h g = record {
   condition = subst (λ u. IsSortAt ns u c) h.0 g.0;
   alike = record { sort = x; first = g.1.0; second = subst (λ u. IsSortAt ns u b) h.1 g.1.1.0 };
 }
+
+-- What each makes
+
+pub not_made : (ids : List ℕ) (ns : List Node) → length ids ≡ 1 → applied_made Not ns ids ≡ interned ns (node.Not (get_or ids 0 0))
+unfolding applied_made
+not_made [] ns h = absurd (omega arith)
+not_made (a ∷ []) ns h = refl
+not_made (a ∷ b ∷ ids) ns h = absurd (omega arith)
+
+pub neg_made : (ids : List ℕ) (ns : List Node) → length ids ≡ 1 → applied_made Neg ns ids ≡ interned ns (node.Neg (get_or ids 0 0))
+unfolding applied_made
+neg_made [] ns h = absurd (omega arith)
+neg_made (a ∷ []) ns h = refl
+neg_made (a ∷ b ∷ ids) ns h = absurd (omega arith)
+
+pub and_made : (ids : List ℕ) (ns : List Node) → 1 ≤ length ids → applied_made And ns ids ≡ interned ns (node.And ids)
+unfolding applied_made
+and_made [] ns h = absurd (omega arith)
+and_made (a ∷ ids) ns h = refl
+
+pub or_made : (ids : List ℕ) (ns : List Node) → 1 ≤ length ids → applied_made Or ns ids ≡ interned ns (node.Or ids)
+unfolding applied_made
+or_made [] ns h = absurd (omega arith)
+or_made (a ∷ ids) ns h = refl
+
+pub add_made : (ids : List ℕ) (ns : List Node) → 1 ≤ length ids → applied_made Add ns ids ≡ interned ns (node.Add ids)
+unfolding applied_made
+add_made [] ns h = absurd (omega arith)
+add_made (a ∷ ids) ns h = refl
+
+pub mul_made : (ids : List ℕ) (ns : List Node) → 1 ≤ length ids → applied_made Mul ns ids ≡ interned ns (node.Mul ids)
+unfolding applied_made
+mul_made [] ns h = absurd (omega arith)
+mul_made (a ∷ ids) ns h = refl
+
+pub bitsum_made : (ids : List ℕ) (ns : List Node) → 1 ≤ length ids → applied_made Bitsum ns ids ≡ interned ns (node.Bitsum ids)
+unfolding applied_made
+bitsum_made [] ns h = absurd (omega arith)
+bitsum_made (a ∷ ids) ns h = refl
+
+pub xor_made : (ids : List ℕ) (ns : List Node) → 2 ≤ length ids → applied_made Xor ns ids ≡ exclusive ns (get_or ids 0 0) (drop 1 ids)
+unfolding applied_made
+xor_made [] ns h = absurd (omega arith)
+xor_made (a ∷ []) ns h = absurd (omega arith)
+xor_made (a ∷ b ∷ ids) ns h = refl
+
+pub implies_made : (ids : List ℕ) (ns : List Node) → 2 ≤ length ids → applied_made Implies ns ids ≡ implied ns ids
+unfolding applied_made
+implies_made [] ns h = absurd (omega arith)
+implies_made (a ∷ []) ns h = absurd (omega arith)
+implies_made (a ∷ b ∷ ids) ns h = refl
+
+pub ite_made : (ids : List ℕ) (ns : List Node) → length ids ≡ 3 → applied_made Ite ns ids ≡ choice (sort_at ns (get_or ids 1 0)) ns (get_or ids 0 0) (get_or ids 1 0) (get_or ids 2 0)
+unfolding applied_made
+ite_made [] ns h = absurd (omega arith)
+ite_made (a ∷ []) ns h = absurd (omega arith)
+ite_made (a ∷ b ∷ []) ns h = absurd (omega arith)
+ite_made (a ∷ b ∷ c ∷ []) ns h = refl
+ite_made (a ∷ b ∷ c ∷ d ∷ ids) ns h = absurd (omega arith)
+
+pub as_made : (old new : List Node) (w v : Made) (r : Result ℕ TermStop) → w ≡ v → Makes old new v r → Makes old new w r
+as_made old new w v r e h = subst (λ (m : Made). Makes old new m r) (sym e) h
+
+pub booleans_of : (ns : List Node) (n : ℕ) (ids : List ℕ) → 0 < n → Booleans ns n ids → AreBoolean ns ids
+booleans_of ns n ids some h = record { some = omega (arith, some, h.long); each = h.each }
+
+pub field_of : (ns : List Node) (n : ℕ) (ids : List ℕ) → 0 < n → FieldsOf ns n ids → AreOfOneField ns ids
+field_of ns n ids some h = record { some = omega (arith, some, h.1.long); order = h.0; each = h.1.each }

@@ -222,3 +222,30 @@ pub fn all_distinct(
     differences(table, ids, &mut parts)?;
     put(table, Node::And(NodeList::new(parts)))
 }
+
+/// The node of a function of these nodes. Where it does not fit the table, a part of what it needs may be there.
+pub fn apply(
+    table: &mut NodeTable,
+    alloc: Global,
+    op: Operator,
+    ids: &[NodeId],
+) -> Result<NodeId, TermStop>
+    requires { AreTaken (operator_of op) table.old ids.now }
+    ensures { Makes table.old table.new (making.applied_made (operator_of op) table.old ids.now) result }
+{
+    let _before = table.len();
+    match op {
+        Operator::Not => put(table, Node::Not(ids[0])),
+        Operator::And => put(table, Node::And(list(alloc, ids)?)),
+        Operator::Or => put(table, Node::Or(list(alloc, ids)?)),
+        Operator::Xor => exclusive(table, ids[0], &ids[1..]),
+        Operator::Implies => implications(table, alloc, ids),
+        Operator::Equal => all_equal(table, alloc, ids),
+        Operator::Distinct => all_distinct(table, alloc, ids),
+        Operator::Ite => choice(table, ids[0], ids[1], ids[2]),
+        Operator::Add => put(table, Node::Add(list(alloc, ids)?)),
+        Operator::Mul => put(table, Node::Mul(list(alloc, ids)?)),
+        Operator::Neg => put(table, Node::Neg(ids[0])),
+        Operator::Bitsum => put(table, Node::Bitsum(list(alloc, ids)?)),
+    }
+}

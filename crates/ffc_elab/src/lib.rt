@@ -6,7 +6,7 @@ mod numbers;
 mod operators;
 
 pub use applying::{
-    all_distinct, all_equal, choice, difference, differences, differences_from, equality, exclusive, implication, implications,
+    all_distinct, all_equal, apply, choice, difference, differences, differences_from, equality, exclusive, implication, implications,
     neighbours, put,
 };
 pub use numbers::{Signed, constant_of, is_order, literal_number, literal_order, number_of, order_of, residue_of, signed_of, size_of_digits};
