@@ -1,3 +1,4 @@
 pub mod Operators
 pub mod Numbers
 pub mod Growing
+pub mod Heads
