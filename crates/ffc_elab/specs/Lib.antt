@@ -2,3 +2,4 @@ pub mod Operators
 pub mod Numbers
 pub mod Growing
 pub mod Heads
+pub mod Words
