@@ -1,5 +1,5 @@
 -- What a function makes of the nodes of its arguments, by how many they are.
-use Rattle.std.proofs.Common.{◌≡◌, ℕ, ◌+◌, ◌-◌, ◌<◌, ◌≤◌, List, [], ◌∷◌, length, take, drop, get_or, All, Result, refl, sym, ap, ◌∙◌, subst, arith}
+use Rattle.std.proofs.Common.{◌≡◌, ℕ, ◌-◌, ◌<◌, ◌≤◌, List, [], ◌∷◌, length, take, drop, get_or, Result, refl, sym, ap, subst, arith}
 use Rattle.std.proofs.lemmas.List.{take_all, length-drop}
 use Rattle.std.proofs.lemmas.List.Elements.{All-cons, All-nil, All-head, All-tail}
 use Rattle.ffc_term.specs.declared.node.Node.{Node}
@@ -8,12 +8,12 @@ use Rattle.ffc_term.specs.declared.node.Sort.{Sort}
 use Rattle.ffc_term.specs.declared.node.Sort.TheVariants as sort
 use Rattle.ffc_term.specs.declared.table.TermStop.{TermStop}
 use Rattle.ffc_term.specs.Nodes.{sort_at}
-use Rattle.ffc_term.specs.Tables.{IsTable, AreBoolean, AreOfOneField, Fits, constant_count, most_nodes}
-use Rattle.ffc_smt.specs.Terms.{Operator, Not, And, Or, Xor, Implies, Equal, Distinct, Ite, Add, Mul, Neg, Bitsum}
-use Rattle.ffc_smt.specs.Making.{Made, AllMade, interned, equality, difference, neighbours, differences, exclusive, implications, conjoined, choice, applied_made}
+use Rattle.ffc_term.specs.Tables.{IsTable, AreBoolean, AreOfOneField, constant_count, most_nodes}
+use Rattle.ffc_smt.specs.Terms.{Not, And, Or, Xor, Implies, Equal, Distinct, Ite, Add, Mul, Neg, Bitsum}
+use Rattle.ffc_smt.specs.Making.{Made, AllMade, interned, equality, difference, neighbours, differences, exclusive, conjoined, choice, applied_made}
 use Rattle.ffc_smt.specs.WellSorted.{AreAll, IsField, Takes}
 use Rattle.ffc_smt.specs.States.{IsTableWith}
-use Rattle.ffc_smt.specs.Asking.{Ask, ask, IsSortAt, AreSortsAt, FitsThere, AsksFit, applied_asks}
+use Rattle.ffc_smt.specs.Asking.{IsSortAt, AreSortsAt}
 use Rattle.ffc_smt.proofs.Extends.{Extends, interned_extends}
 use Rattle.ffc_smt.proofs.TableMaking.{AllAt, booleans, neighbours_good, differences_good, neighbours_some, differences_some}
 use Rattle.ffc_elab.specs.Growing.{AreAlike, AreAllAt, Makes, implied}

@@ -16,7 +16,7 @@ use Rattle.ffc_smt.specs.Making.{Made, interned, equality, equality_of, differen
 use Rattle.ffc_smt.specs.Asking.{IsSortAt}
 use Rattle.ffc_smt.proofs.Extends.{Extends, longer, sort_stays, interned_at, interned_extends, exclusive_extends, implication_extends, extends_same, extends_further, neighbours_extend, differences_from_extend, differences_extend}
 use Rattle.ffc_smt.proofs.InterningLemmas.{interned_absent, interning_is_one}
-use Rattle.ffc_elab.specs.Growing.{Grows, IsDone, IsLeft, Makes, AreAlike, AreAllAt, AreDone, AreLeft, IsGoing, implied}
+use Rattle.ffc_elab.specs.Growing.{Grows, IsLeft, Makes, AreAlike, AreAllAt, AreDone, AreLeft, IsGoing, implied}
 
 abbrev the_all : List Node → List ℕ → AllMade
 the_all nodes ids = record { nodes = nodes; ids = ids }

@@ -1,11 +1,10 @@
 -- The commands by name.
-use Rattle.std.proofs.Common.{◌≡◌, ℕ, Bool, true, false, List, [], ◌∷◌, ◌++◌, map, if◌then◌else◌, Option, Some, None, IfSome, IfNone, is_some, refl, sym, ap, ◌∙◌, rules}
+use Rattle.std.proofs.Common.{◌≡◌, ℕ, Bool, true, false, List, [], ◌∷◌, ◌++◌, if◌then◌else◌, Option, Some, None, IfSome, IfNone, is_some, refl, sym, ap, ◌∙◌, rules}
 use Rattle.std.specs.Str.{bytes_eq}
-use Rattle.std.proofs.lemmas.Slice.Eq.{bytes_eq-Decides}
 use Rattle.ffc_smt.specs.Terms.{Name}
 use Rattle.ffc_smt.specs.Meaning.{Env, found}
 use Rattle.ffc_smt.specs.Scopes.{State}
-use Rattle.ffc_smt.specs.CommandReading.{Limits, Reader, readers}
+use Rattle.ffc_smt.specs.CommandReading.{Limits, readers}
 use Rattle.ffc_elab.specs.declared.heads.Head.{Head}
 use Rattle.ffc_elab.specs.Heads.{head_name, earlier_heads, later_heads}
 

@@ -1,5 +1,4 @@
 -- The functions of the theories and what sorts they take, as the elaborator has them.
-use Rattle.std.specs.Prelude.{Option, Some, None, option_map}
 use Rattle.ffc_elab.specs.declared.operators.Operator.{Operator}
 use Rattle.ffc_elab.specs.declared.operators.Operator.TheVariants as code
 use Rattle.ffc_elab.specs.declared.operators.Wanted.{Wanted}

@@ -47,11 +47,7 @@ pub fn difference(table: &mut NodeTable, a: NodeId, b: NodeId) -> Result<NodeId,
 }
 
 /// `Xor` from the left.
-pub fn exclusive(
-    table: &mut NodeTable,
-    first: NodeId,
-    rest: &[NodeId],
-) -> Result<NodeId, TermStop>
+pub fn exclusive(table: &mut NodeTable, first: NodeId, rest: &[NodeId]) -> Result<NodeId, TermStop>
     requires first { IsSortAt table.old sort.Bool first }
     requires rest { AreAllAt table.old sort.Bool rest.now }
     ensures { Makes table.old table.new (making.exclusive table.old first rest.now) result }
@@ -158,12 +154,7 @@ pub fn differences(
 }
 
 /// The choice between two nodes of one sort.
-pub fn choice(
-    table: &mut NodeTable,
-    c: NodeId,
-    a: NodeId,
-    b: NodeId,
-) -> Result<NodeId, TermStop>
+pub fn choice(table: &mut NodeTable, c: NodeId, a: NodeId, b: NodeId) -> Result<NodeId, TermStop>
     requires condition { IsSortAt table.old sort.Bool c }
     requires alike { AreAlike table.old a b }
     ensures { Makes table.old table.new (making.choice (sort_at table.old a) table.old c a b) result }
@@ -186,11 +177,7 @@ fn list(alloc: Global, ids: &[NodeId]) -> Result<NodeList, AllocError>
 }
 
 /// That each is equal to the next.
-pub fn all_equal(
-    table: &mut NodeTable,
-    alloc: Global,
-    ids: &[NodeId],
-) -> Result<NodeId, TermStop>
+pub fn all_equal(table: &mut NodeTable, alloc: Global, ids: &[NodeId]) -> Result<NodeId, TermStop>
     requires some { 2 ≤ length ids.now }
     requires alike { AllOfOneSort table.old ids.now }
     ensures { Makes table.old table.new (making.applied_made term.Equal table.old ids.now) result }

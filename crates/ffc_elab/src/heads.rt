@@ -112,11 +112,26 @@ impl Head {
     {
         match self {
             Head::SetLogic => !logic,
-            Head::SetOption | Head::GetOption | Head::SetInfo | Head::GetInfo | Head::Echo
-            | Head::Reset | Head::Exit => true,
-            Head::DeclareConst | Head::DeclareFun | Head::DefineSort | Head::DefineFun | Head::Assert
-            | Head::CheckSat | Head::CheckSatAssuming | Head::GetUnsatCore
-            | Head::GetUnsatAssumptions | Head::GetModel | Head::GetValue | Head::Push | Head::Pop
+            Head::SetOption
+            | Head::GetOption
+            | Head::SetInfo
+            | Head::GetInfo
+            | Head::Echo
+            | Head::Reset
+            | Head::Exit => true,
+            Head::DeclareConst
+            | Head::DeclareFun
+            | Head::DefineSort
+            | Head::DefineFun
+            | Head::Assert
+            | Head::CheckSat
+            | Head::CheckSatAssuming
+            | Head::GetUnsatCore
+            | Head::GetUnsatAssumptions
+            | Head::GetModel
+            | Head::GetValue
+            | Head::Push
+            | Head::Pop
             | Head::ResetAssertions => logic,
         }
     }

@@ -12,7 +12,9 @@ pub fn number_of(digits: &[u8]) -> u64
 {
     let mut number = 0u64;
     for digit in digits {
-        number = number.saturating_mul(10).saturating_add(u64::from(digit.saturating_sub(b'0')));
+        number = number
+            .saturating_mul(10)
+            .saturating_add(u64::from(digit.saturating_sub(b'0')));
     }
     number
 }
@@ -39,7 +41,13 @@ fn longer(size: Option<u128>, digit: u8) -> Option<u128>
 pub fn is_order(p: u64) -> bool
     ensures { result ≡ numbers.is_order p }
 {
-    p == 2 || p == 3 || p == 5 || p == 17 || p == 65537 || p == 2_013_265_921 || p == 2_130_706_433
+    p == 2
+        || p == 3
+        || p == 5
+        || p == 17
+        || p == 65537
+        || p == 2_013_265_921
+        || p == 2_130_706_433
         || p == 18_446_744_069_414_584_321
 }
 
@@ -98,7 +106,11 @@ pub fn signed_of(text: &[u8]) -> Option<Signed>
     match text {
         [] => None,
         [first, digits @ ..] => {
-            if *first == b'-' { with_sign(true, digits) } else { with_sign(false, text) }
+            if *first == b'-' {
+                with_sign(true, digits)
+            } else {
+                with_sign(false, text)
+            }
         }
     }
 }
@@ -107,7 +119,11 @@ pub fn signed_of(text: &[u8]) -> Option<Signed>
 pub fn constant_of(name: &[u8]) -> Option<Signed>
     ensures { option_map signed_as result ≡ small_only (numbers.constant_of name.now) }
 {
-    if name.starts_with(b"ff") { signed_of(&name[2..]) } else { None }
+    if name.starts_with(b"ff") {
+        signed_of(&name[2..])
+    } else {
+        None
+    }
 }
 
 /// How many bytes stand before the first `m`.
@@ -131,7 +147,11 @@ pub fn literal_order(bytes: &[u8]) -> Option<u64>
     ensures { result ≡ order_only (numbers.literal_order bytes.now) }
 {
     let end = m_place(bytes);
-    if end < bytes.len() { order_of(&bytes[end + 1..]) } else { order_of(b"") }
+    if end < bytes.len() {
+        order_of(&bytes[end + 1..])
+    } else {
+        order_of(b"")
+    }
 }
 
 /// The residue of a number.
@@ -141,5 +161,9 @@ pub fn residue_of(n: Signed, p: u64) -> u64
     ensures below { result < p }
 {
     let rest = (n.size % u128::from(p)) as u64;
-    if n.negative && rest > 0 { p - rest } else { rest }
+    if n.negative && rest > 0 {
+        p - rest
+    } else {
+        rest
+    }
 }

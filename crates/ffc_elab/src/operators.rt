@@ -97,7 +97,11 @@ impl Operator {
         match self {
             Operator::Not | Operator::And | Operator::Or | Operator::Neg | Operator::Bitsum => 1,
             Operator::Ite => 3,
-            Operator::Xor | Operator::Implies | Operator::Equal | Operator::Distinct | Operator::Add
+            Operator::Xor
+            | Operator::Implies
+            | Operator::Equal
+            | Operator::Distinct
+            | Operator::Add
             | Operator::Mul => 2,
         }
     }
@@ -109,8 +113,15 @@ impl Operator {
         match self {
             Operator::Not | Operator::Neg => Some(1),
             Operator::Ite => Some(3),
-            Operator::And | Operator::Or | Operator::Xor | Operator::Implies | Operator::Equal
-            | Operator::Distinct | Operator::Add | Operator::Mul | Operator::Bitsum => None,
+            Operator::And
+            | Operator::Or
+            | Operator::Xor
+            | Operator::Implies
+            | Operator::Equal
+            | Operator::Distinct
+            | Operator::Add
+            | Operator::Mul
+            | Operator::Bitsum => None,
         }
     }
 
@@ -123,7 +134,11 @@ impl Operator {
                 Wanted::Only(Sort::Bool)
             }
             Operator::Equal | Operator::Distinct => {
-                if place == 0 { Wanted::AnySort } else { same_as(first) }
+                if place == 0 {
+                    Wanted::AnySort
+                } else {
+                    same_as(first)
+                }
             }
             Operator::Ite => {
                 if place == 0 {
@@ -136,7 +151,11 @@ impl Operator {
             }
             Operator::Neg => Wanted::AnyField,
             Operator::Add | Operator::Mul | Operator::Bitsum => {
-                if place == 0 { Wanted::AnyField } else { same_as(first) }
+                if place == 0 {
+                    Wanted::AnyField
+                } else {
+                    same_as(first)
+                }
             }
         }
     }
@@ -147,9 +166,16 @@ impl Operator {
     {
         match self {
             Operator::Ite => second.unwrap_or(Sort::Bool),
-            Operator::Add | Operator::Mul | Operator::Neg | Operator::Bitsum => first.unwrap_or(Sort::Bool),
-            Operator::Not | Operator::And | Operator::Or | Operator::Xor | Operator::Implies
-            | Operator::Equal | Operator::Distinct => Sort::Bool,
+            Operator::Add | Operator::Mul | Operator::Neg | Operator::Bitsum => first.unwrap_or(
+                Sort::Bool,
+            ),
+            Operator::Not
+            | Operator::And
+            | Operator::Or
+            | Operator::Xor
+            | Operator::Implies
+            | Operator::Equal
+            | Operator::Distinct => Sort::Bool,
         }
     }
 }

@@ -11,7 +11,11 @@ pub fn name_of(kind: TokenKind, bytes: &[u8]) -> Option<&[u8]>
     ensures { option_copied result ≡ name_by_kind kind bytes.now }
 {
     match kind {
-        TokenKind::Symbol => if is_reserved(bytes) { None } else { Some(bytes) },
+        TokenKind::Symbol => if is_reserved(bytes) {
+            None
+        } else {
+            Some(bytes)
+        },
         TokenKind::Quoted => Some(between_bars(bytes)),
         TokenKind::LeftParen
         | TokenKind::RightParen

@@ -1,11 +1,9 @@
-use Rattle.std.proofs.Common.{◌≡◌, ◌<◌, ◌≤◌, List, ◌++◌, length, drop, take, get_or, sym, ap, ◌∙◌, subst, arith}
+use Rattle.std.proofs.Common.{◌<◌, ◌++◌, length, sym, ap, ◌∙◌, subst, arith}
 use Rattle.std.proofs.lemmas.Result.{err_from_is_err_and}
-use Rattle.std.proofs.lemmas.List.{length-drop}
 use Rattle.ffc_term.specs.declared.node.Node.TheVariants as node
 use Rattle.ffc_smt.specs.Terms as term
-use Rattle.ffc_smt.specs.Making.{Made, interned, differences, conjoined, applied_made}
+use Rattle.ffc_smt.specs.Making.{Made, interned, differences, applied_made}
 use Rattle.ffc_smt.proofs.Extends.{Extends}
-use Rattle.ffc_elab.specs.Growing.{AreAllAt}
 use Rattle.ffc_elab.proofs.GrowingLemmas.{makes_after, left_part}
 use Rattle.ffc_elab.proofs.ApplyingLemmas.{distinct_two, distinct_many, differences_boolean, conjoined_then, conjoined_begins}
 use Rattle.ffc_elab.proofs.applying.all_distinct.Goals as goal

@@ -1,14 +1,13 @@
-use Rattle.std.proofs.Common.{◌≡◌, ℕ, ◌<◌, ◌≤◌, List, [], ◌∷◌, length, drop, take, get_or, refl, sym, ap, ◌∙◌, subst, arith}
+use Rattle.std.proofs.Common.{◌≡◌, ℕ, List, get_or, sym, ap, ◌∙◌, subst, arith}
 use Rattle.ffc_term.specs.declared.node.Node.{Node}
 use Rattle.ffc_term.specs.declared.node.Node.TheVariants as node
 use Rattle.ffc_term.specs.declared.node.Sort.TheVariants as sort
-use Rattle.ffc_term.specs.Tables.{AreBoolean, AreOfOneField}
-use Rattle.ffc_smt.specs.WellSorted.{Takes}
+use Rattle.ffc_term.specs.Tables.{AreOfOneField}
 use Rattle.ffc_smt.specs.Making.{interned, applied_made}
 use Rattle.ffc_elab.specs.declared.operators.Operator.{Operator}
 use Rattle.ffc_elab.specs.declared.operators.Operator.TheVariants as code
 use Rattle.ffc_elab.specs.Operators.{operator_of}
-use Rattle.ffc_elab.specs.Growing.{AreTaken, AreAllAt, Makes}
+use Rattle.ffc_elab.specs.Growing.{AreTaken}
 use Rattle.ffc_elab.proofs.ApplyingLemmas as lemma
 use Rattle.ffc_elab.proofs.applying.apply.Goals as goal
 

@@ -1,5 +1,4 @@
 use Rattle.std.proofs.Common.{sym, ◌∙◌}
-use Rattle.ffc_term.specs.declared.node.Sort.TheVariants as sort
 use Rattle.ffc_elab.proofs.ChoosingLemmas.{ite_makes}
 use Rattle.ffc_elab.proofs.applying.choice.Goals as goal
 

@@ -1,8 +1,5 @@
-use Rattle.std.proofs.Common.{ap, sym, refl, ◌∙◌}
-use Rattle.ffc_smt.specs.Making.{interned, equality, equality_of}
-use Rattle.ffc_term.specs.Nodes.{sort_at}
-use Rattle.ffc_term.specs.declared.node.Sort.TheVariants as sort
-use Rattle.ffc_elab.proofs.GrowingLemmas.{makes_after, grows_same}
+use Rattle.std.proofs.Common.{sym, ◌∙◌}
+use Rattle.ffc_smt.specs.Making.{equality}
 use Rattle.ffc_elab.proofs.applying.equality.Goals as goal
 
 pub returns-in-Bool : goal.returns-in-Bool

@@ -1,10 +1,10 @@
-use Rattle.std.proofs.Common.{◌≡◌, ◌+◌, ◌<◌, List, ◌∷◌, length, drop, get_or, refl, sym, ◌∙◌, subst, arith}
+use Rattle.std.proofs.Common.{◌+◌, drop, get_or, refl, sym, ◌∙◌, subst}
 use Rattle.std.proofs.lemmas.Result.{err_from_is_err_and}
 use Rattle.ffc_term.specs.declared.node.Node.TheVariants as node
 use Rattle.ffc_term.specs.declared.node.Sort.TheVariants as sort
 use Rattle.ffc_smt.specs.Making.{Made, interned, exclusive}
 use Rattle.ffc_smt.proofs.Extends.{Extends}
-use Rattle.ffc_elab.proofs.GrowingLemmas.{left_wider, bool_at, grows_same, grows_further, all_at_stays, exclusive_then, exclusive_begins, exclusive_goes, exclusive_ends}
+use Rattle.ffc_elab.proofs.GrowingLemmas.{left_wider, bool_at, grows_further, all_at_stays, exclusive_then, exclusive_begins, exclusive_goes, exclusive_ends}
 use Rattle.ffc_elab.proofs.applying.exclusive.Goals as goal
 
 pub returns-in_err-made : goal.returns-in_err-made

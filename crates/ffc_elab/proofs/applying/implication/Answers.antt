@@ -1,11 +1,10 @@
-use Rattle.std.proofs.Common.{◌≡◌, List, ℕ, [], ◌∷◌, arith, refl, ◌∙◌}
+use Rattle.std.proofs.Common.{◌≡◌, [], ◌∷◌, arith, refl, ◌∙◌}
 use Rattle.std.proofs.lemmas.Result.{err_from_is_err_and}
 use Rattle.ffc_term.specs.declared.node.Node.TheVariants as node
 use Rattle.ffc_term.specs.declared.node.Sort.TheVariants as sort
-use Rattle.ffc_term.specs.Tables.{AreBoolean}
 use Rattle.ffc_smt.specs.Making.{interned, implication}
 use Rattle.ffc_smt.proofs.TableMaking.{booleans}
-use Rattle.ffc_elab.proofs.GrowingLemmas.{makes_after, left_of_whole, left_memory, sort_at_stays, bool_at, implication_then, implication_begins}
+use Rattle.ffc_elab.proofs.GrowingLemmas.{makes_after, left_of_whole, sort_at_stays, bool_at, implication_then, implication_begins}
 use Rattle.ffc_elab.proofs.applying.implication.Goals as goal
 
 pub returns-in_err-negated : goal.returns-in_err-negated
