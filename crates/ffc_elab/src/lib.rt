@@ -6,6 +6,8 @@ mod heads;
 mod numbers;
 mod operators;
 mod options;
+#[cfg(test)]
+mod tests;
 mod words;
 
 pub use applying::{
