@@ -1,0 +1,4 @@
+pub mod GrowingLemmas
+pub mod ChoosingLemmas
+pub mod ApplyingLemmas
+pub mod HeadLemmas
