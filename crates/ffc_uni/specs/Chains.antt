@@ -33,7 +33,7 @@ pairs_over (true ∷ ds) = 2 + pairs_over ds
 abbrev pub pair_count : ℕ → ℕ
 pair_count p = pairs_over (digits_of p)
 
--- a is quotient times f, and the remainder
+-- a is the quotient times f, plus the remainder
 abbrev pub IsDivision : ℕ → Coefficients → Coefficients → Pair → Type 0
 IsDivision p f a step = SameUnivariate p a (plus (times step.0 f) step.1)
 

@@ -41,7 +41,7 @@ impl<F: Field> Steps<F> {
         }
     }
 
-    /// Appends a pair. Where memory is wanting, it is gone, and the steps are as before.
+    /// Appends a pair. Out of memory, the pair is dropped, and the steps are as before.
     fn push(&mut self, pair: (Uni<F>, Uni<F>)) -> Result<(), AllocError>
         ensures ok { OnOk result (self.new ≡ self.old ++ pair ∷ []) }
         ensures err { OnErr result (self.new ≡ self.old) }

@@ -53,6 +53,9 @@ returns-clause-identity g c =
     ∙ answer.identity k
     ∙ ap (λ l. coefficient_at (product_of_roots p l) k % p) listed
 
+pub returns-clause-short : goal.returns-clause-short
+returns-clause-short g c = (c.in_ok-is_answer.ensures c.if-not-branch.false).short
+
 pub returns-clause-increasing : goal.returns-clause-increasing
 returns-clause-increasing g c =
     let value = g.F.Field.value in
