@@ -142,24 +142,25 @@ fn sixth_roots_of_unity(rt: HostRuntime) -> Result<(), Fail> {
     Ok(())
 }
 
+/// The numbers from 0 on, so many.
+fn numbers(alloc: Global, count: u64) -> Result<Vec<u64>, Fail> {
+    let mut out = Vec::new(alloc);
+    for n in 0..count {
+        out.push(n)?;
+    }
+    Ok(out)
+}
+
 /// All residues of a small field, and 64 roots in a large one.
 #[test]
 fn many_roots(rt: HostRuntime) -> Result<(), Fail> {
-    let mut listed = Vec::new(rt.alloc());
-    for n in 0..64u64 {
-        listed.push(n)?;
-    }
-    assert!(rt; finds::<F17>(&rt, rt.alloc(), &[1], &listed[..17], &listed[..17])?);
-    assert!(rt; finds::<BabyBear>(&rt, rt.alloc(), &[1], &listed, &listed)?);
-    assert!(rt;
-        finds::<Goldilocks>(
-            &rt,
-            rt.alloc(),
-            &[18446744069414584314, 0, 1],
-            &listed,
-            &listed
-        )?
-    );
+    let alloc = rt.alloc();
+    let few = numbers(alloc, 17)?;
+    let many = numbers(alloc, 64)?;
+    let without = [18446744069414584314, 0, 1];
+    assert!(rt; finds::<F17>(&rt, alloc, &[1], &few, &few)?);
+    assert!(rt; finds::<BabyBear>(&rt, alloc, &[1], &many, &many)?);
+    assert!(rt; finds::<Goldilocks>(&rt, alloc, &without, &many, &many)?);
     Ok(())
 }
 

@@ -1,5 +1,5 @@
 //! Polynomials in one variable.
-ghost use Rattle.std.specs.Prelude.{◌≡◌, ◌≢◌, ℕ, ◌<◌, ◌≤◌, ◌-◌, ◌↔◌, [], length, map, max, IsTrue, IfOk};
+ghost use Rattle.std.specs.Prelude.{◌≡◌, ◌≢◌, ℕ, ◌+◌, ◌<◌, ◌≤◌, ◌-◌, ◌↔◌, [], length, map, max, IsTrue, IfOk};
 ghost use Rattle.ffc_field.specs.Modular.{mul_mod};
 ghost use Rattle.ffc_uni.specs.Equality.{same_coefficients};
 ghost use Rattle.ffc_uni.specs.Rows.{leading};
@@ -136,6 +136,7 @@ impl<F: Field> Uni<F> {
     /// The product: each pair of coefficients is multiplied once.
     pub fn mul(&self, other: &Self) -> Result<Self, AllocError>
         ensures product { IfOk result (λ r. SameUnivariate F.ORDER r (times self.now other.now)) }
+        ensures short { IfOk result (λ r. length r ≤ length self.now + (length other.now - 1)) }
         ensures value { IfOk result (λ r. (x : ℕ) → value_of F.ORDER x r ≡ mul_mod F.ORDER (value_of F.ORDER x self.now) (value_of F.ORDER x other.now)) }
     {
         let alloc = *self.coefs.allocator();
