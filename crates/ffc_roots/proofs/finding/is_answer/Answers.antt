@@ -1,4 +1,4 @@
-use Rattle.std.proofs.Common.{◌≡◌, ℕ, ◌%◌, List, length, map, sym, ap, ◌∙◌, arith}
+use Rattle.std.proofs.Common.{◌≡◌, ℕ, List, length, map, sym, ap, ◌∙◌, arith}
 use Rattle.ffc_uni.specs.Univariate.{times}
 use Rattle.ffc_uni.proofs.Coefficients.{plus_alike}
 use Rattle.ffc_roots.proofs.Lists.{length-residues}

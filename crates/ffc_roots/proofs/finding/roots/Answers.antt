@@ -2,7 +2,7 @@ use Rattle.std.proofs.Common.{◌≡◌, ◌-◌, ◌%◌, ◌<◌, All, refl, m
 use Rattle.std.specs.List.{slice_index_or}
 use Rattle.std.proofs.lemmas.List.Elements.{All-map}
 use Rattle.std.specs.List.Sorted.{IsStrictlyIncreasing}
-use Rattle.ffc_uni.specs.Univariate.{coefficient_at, SameUnivariate, minus, multiple, times, plus, indeterminate, product_of_roots}
+use Rattle.ffc_uni.specs.Univariate.{coefficient_at, SameUnivariate, minus, multiple, times, indeterminate, product_of_roots}
 use Rattle.ffc_uni.specs.Chains.{last_remainder}
 use Rattle.ffc_uni.proofs.ChainLemmas.{zeros_of_chains}
 use Rattle.ffc_uni.proofs.Coefficients.{plus_alike, multiple_alike, times_alike_second}
