@@ -1,5 +1,5 @@
 -- Elements of a field as lists of residues.
-use Rattle.std.proofs.Common.{◌≡◌, ℕ, zero, suc, ◌+◌, ◌<◌, List, [], ◌∷◌, length, map, get_or, refl, sym, ap, arith}
+use Rattle.std.proofs.Common.{◌≡◌, ℕ, zero, suc, ◌<◌, List, [], ◌∷◌, length, map, get_or, refl, sym, ap, arith}
 use Rattle.std.specs.List.{slice_index}
 
 module _ {F : Type 0} (value : F → ℕ) where

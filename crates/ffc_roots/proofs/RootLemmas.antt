@@ -1,12 +1,12 @@
 -- Which residues are roots of combinations and of products of factors X - root.
-use Rattle.std.proofs.Common.{◌≡◌, ◌≢◌, ℕ, zero, suc, ◌+◌, ◌-◌, ◌*◌, ◌%◌, ◌<◌, ◌≤◌, ◌⊎◌, inl, inr, List, [], ◌∷◌, length, Contains, All, refl, sym, ap, ap₂, ◌∙◌, subst, arith, mod-eq_of_lt, mod-lt}
+use Rattle.std.proofs.Common.{◌≡◌, ℕ, suc, ◌+◌, ◌-◌, ◌*◌, ◌%◌, ◌<◌, inl, inr, List, [], ◌∷◌, Contains, All, sym, ap, ap₂, ◌∙◌, subst, arith, mod-eq_of_lt, mod-lt}
 use Rattle.std.proofs.Math.Nat.{mod-mod, add-mod, add-mod_right, mul-mod_right, zero-mod}
 use Rattle.std.proofs.lemmas.Bool.{cases_lt}
 use Rattle.ffc_field.specs.Modular.{IsPrime, add_mod, mul_mod}
 use Rattle.ffc_field.proofs.Primes.{no_zero_product, zero_multiple}
-use Rattle.ffc_uni.specs.Univariate.{Coefficients, SameUnivariate, plus, minus, multiple, times, product_of_roots, sum_at, value_of, indeterminate}
+use Rattle.ffc_uni.specs.Univariate.{Coefficients, SameUnivariate, plus, multiple, times, product_of_roots, sum_at, value_of, indeterminate}
 use Rattle.ffc_uni.proofs.ValueLemmas.{one_value, sum_at-multiple, sum_at-plus, value_of-plus, value_of-times}
-use Rattle.ffc_roots.specs.Roots.{IsRoot, AreRoots, IsAnswer, IsCombination, without_x}
+use Rattle.ffc_roots.specs.Roots.{AreRoots, IsAnswer, IsCombination, without_x}
 
 -- p times a number leaves nothing
 whole_multiple : (p x : ℕ) → 0 < p → (x + (p - 1) * x) % p ≡ 0

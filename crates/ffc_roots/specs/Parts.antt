@@ -8,7 +8,7 @@ pub record IsParted {F : Type 0} (f : Coefficients) (parts : Parts F) : Type 0 w
   pub fewer : length parts.first < length f
   pub rest : length parts.first + length parts.second ≤ length f + 1
 
--- how often a list of so many coefficients can be parted, and once more
+-- how many polynomials are taken apart at most, from one with so many coefficients on
 abbrev pub weight : ℕ → ℕ
 weight n = max 1 (2 * n - 3)
 

@@ -40,7 +40,7 @@ fn are_increasing<F: Field>(elements: &[F]) -> bool
     true
 }
 
-/// Whether each of them is a root of f.
+/// Whether each of these elements is a root of f.
 fn are_roots<F: Field>(f: &Uni<F>, elements: &[F]) -> bool
     ensures { IsTrue result → All (λ x. value_of F.ORDER x f.now ≡ 0) (map F.value elements.now) }
 {
@@ -52,7 +52,8 @@ fn are_roots<F: Field>(f: &Uni<F>, elements: &[F]) -> bool
     true
 }
 
-/// Whether these are roots of f in increasing order, and a*f + b*h is the product of the X - root.
+/// Whether these are roots of f in increasing order, a*f + b*h is the product of the X - root, and neither cofactor has more
+/// coefficients than f.
 fn is_answer<F: Field>(
     alloc: Global,
     f: &Uni<F>,
@@ -66,6 +67,10 @@ fn is_answer<F: Field>(
         return Ok(false);
     }
     if !are_roots(f, roots) {
+        return Ok(false);
+    }
+    let most = f.coefs().len();
+    if common.a.coefs().len() > most || common.b.coefs().len() > most {
         return Ok(false);
     }
     let sum = common.a.mul(f)?.add(&common.b.mul(h)?)?;
@@ -110,7 +115,7 @@ fn sorted_roots<F: Field>(
 }
 
 /// All roots of f in the field, in increasing order, with the identity that proves them. The chain takes at most 126
-/// units, each residue that the roots are parted by at most 128 more.
+/// units, and each residue that is tried to part roots at most 128 more.
 ///
 /// # Errors
 ///
@@ -121,6 +126,7 @@ pub fn roots<F: Field>(alloc: Global, f: &Uni<F>, meter: &mut Meter) -> Result<R
     ensures increasing { IfOk result (λ r. IsStrictlyIncreasing r.zeros) }
     ensures chain { IfOk result (λ r. IsChain F.ORDER f.now r.chain.steps) }
     ensures lower { IfOk result (λ r. AreLower f.now r.chain.steps) }
+    ensures short { IfOk result (λ r. (length r.a ≤ length f.now) × (length r.b ≤ length f.now)) }
     ensures identity { IfOk result (λ r. IsCombination F.ORDER f.now (without_x F.ORDER (last_remainder indeterminate r.chain.steps)) r.a r.b (product_of_roots F.ORDER r.zeros)) }
     ensures full { IsErrOf result stops.Spent → total meter.new ≡ meter.new.budget }
     ensures chained { IsChained meter.old meter.new }

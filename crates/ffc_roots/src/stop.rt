@@ -1,4 +1,4 @@
-//! Why roots were not found.
+//! The error of a search for roots.
 use ffc_base::Spent;
 use ffc_uni::UniStop;
 use std::alloc::{AllocError, AllocFailed};

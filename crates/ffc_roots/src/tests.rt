@@ -15,15 +15,16 @@ fn elements<F: Field>(alloc: Global, numbers: &[u64]) -> Result<Vec<F>, Fail> {
     Ok(row)
 }
 
-/// Whether a polynomial has just these roots.
+/// Whether a polynomial has just these roots, found with so many units.
 fn has_roots<F: Field>(
     rt: &impl Abort,
     alloc: Global,
     f: &Uni<F>,
+    budget: u64,
     wanted: &[u64],
 ) -> Result<bool, Fail> {
     assert!(rt; f.coefs().len() >= 2);
-    let mut meter = Meter::new(1_000_000);
+    let mut meter = Meter::new(budget);
     match roots(alloc, f, &mut meter) {
         Ok(found) => {
             let zeros = found.zeros.as_slice();
@@ -44,40 +45,62 @@ fn finds<F: Field>(
 ) -> Result<bool, Fail> {
     let factor = Uni::from_coefs(alloc, elements::<F>(alloc, factor)?.as_slice())?;
     let product = Uni::from_roots(alloc, elements::<F>(alloc, listed)?.as_slice())?;
-    has_roots::<F>(rt, alloc, &factor.mul(&product)?, wanted)
+    has_roots::<F>(rt, alloc, &factor.mul(&product)?, 1_000_000, wanted)
 }
 
-/// Roots that are listed, once or more, with 0 and the last residue among them, and a factor that has none: X^2 less a number
-/// that is no square, by Python's powers.
+/// Whether a factor that has no root in the field, what is listed, and both together have just the roots that are wanted.
+fn finds_each<F: Field>(
+    rt: &impl Abort,
+    alloc: Global,
+    without: &[u64],
+    listed: &[u64],
+    wanted: &[u64],
+) -> Result<bool, Fail> {
+    Ok(
+        finds::<F>(rt, alloc, without, &[], &[])?
+            && finds::<F>(rt, alloc, &[1], listed, wanted)?
+            && finds::<F>(rt, alloc, without, listed, wanted)?,
+    )
+}
+
+/// Some of the listed roots are multiple ones, and 0 and the last residue are among them. The factor without roots is
+/// X^2 + X + 1 over two elements, and else X^2 less a number that is no square, by Python's powers.
 #[test]
 fn listed_roots(rt: HostRuntime) -> Result<(), Fail> {
     let alloc = rt.alloc();
-    assert!(rt; finds::<F2>(&rt, alloc, &[1, 1, 1], &[0, 1, 1], &[0, 1])?);
-    assert!(rt; finds::<F2>(&rt, alloc, &[1, 1, 1], &[], &[])?);
-    assert!(rt; finds::<F3>(&rt, alloc, &[1, 0, 1], &[2, 0, 0], &[0, 2])?);
-    assert!(rt; finds::<F5>(&rt, alloc, &[3, 0, 1], &[4, 1, 0, 4], &[0, 1, 4])?);
-    assert!(rt; finds::<F17>(&rt, alloc, &[14, 0, 1], &[16, 3, 5, 0], &[0, 3, 5, 16])?);
+    assert!(rt; finds_each::<F2>(&rt, alloc, &[1, 1, 1], &[0, 1, 1], &[0, 1])?);
+    assert!(rt; finds_each::<F3>(&rt, alloc, &[1, 0, 1], &[2, 0, 0], &[0, 2])?);
+    assert!(rt; finds_each::<F5>(&rt, alloc, &[3, 0, 1], &[4, 1, 0, 4], &[0, 1, 4])?);
+    assert!(rt; finds_each::<F17>(&rt, alloc, &[14, 0, 1], &[16, 3, 5, 0, 3], &[0, 3, 5, 16])?);
     assert!(rt;
-        finds::<F65537>(
+        finds_each::<F65537>(
             &rt,
             alloc,
             &[65534, 0, 1],
-            &[65536, 7, 7, 2],
-            &[2, 7, 65536]
+            &[65536, 7, 7, 2, 0],
+            &[0, 2, 7, 65536]
         )?
     );
     assert!(rt;
-        finds::<BabyBear>(
+        finds_each::<BabyBear>(
             &rt,
             alloc,
             &[2013265910, 0, 1],
-            &[2013265920, 0, 9],
+            &[2013265920, 0, 9, 9],
             &[0, 9, 2013265920]
         )?
     );
-    assert!(rt; finds::<KoalaBear>(&rt, alloc, &[2130706430, 0, 1], &[5], &[5])?);
     assert!(rt;
-        finds::<Goldilocks>(
+        finds_each::<KoalaBear>(
+            &rt,
+            alloc,
+            &[2130706430, 0, 1],
+            &[5, 2130706432, 0, 5],
+            &[0, 5, 2130706432]
+        )?
+    );
+    assert!(rt;
+        finds_each::<Goldilocks>(
             &rt,
             alloc,
             &[18446744069414584314, 0, 1],
@@ -88,24 +111,56 @@ fn listed_roots(rt: HostRuntime) -> Result<(), Fail> {
     Ok(())
 }
 
-/// X^2 - X + 1 has the two primitive sixth roots of unity: the second is 1 less the first.
+/// Polynomials of degree 1 and 2, by hand.
+#[test]
+fn low_degrees(rt: HostRuntime) -> Result<(), Fail> {
+    let alloc = rt.alloc();
+    assert!(rt; finds::<F5>(&rt, alloc, &[4, 0, 1], &[], &[1, 4])?);
+    assert!(rt; finds::<F5>(&rt, alloc, &[1, 2], &[], &[2])?);
+    assert!(rt; finds::<F2>(&rt, alloc, &[1, 1], &[], &[1])?);
+    assert!(rt; finds::<F17>(&rt, alloc, &[0, 3], &[], &[0])?);
+    assert!(rt; finds::<Goldilocks>(&rt, alloc, &[18446744069414584320, 1], &[], &[1])?);
+    Ok(())
+}
+
+/// X^2 - 7 has no root over Goldilocks, and 256 units are enough to say so.
+#[test]
+fn seven_is_no_square(rt: HostRuntime) -> Result<(), Fail> {
+    let f = elements::<Goldilocks>(rt.alloc(), &[18446744069414584314, 0, 1])?;
+    let f = Uni::from_coefs(rt.alloc(), f.as_slice())?;
+    assert!(rt; has_roots::<Goldilocks>(&rt, rt.alloc(), &f, 256, &[])?);
+    Ok(())
+}
+
+/// X^2 - X + 1 has the two primitive sixth roots of unity, which are found with 1,536 units: the second is 1 less the first.
 #[test]
 fn sixth_roots_of_unity(rt: HostRuntime) -> Result<(), Fail> {
     let f = elements::<Goldilocks>(rt.alloc(), &[1, 18446744069414584320, 1])?;
     let f = Uni::from_coefs(rt.alloc(), f.as_slice())?;
-    assert!(rt; has_roots::<Goldilocks>(&rt, rt.alloc(), &f, &[4294967296, 18446744065119617026])?);
+    let wanted = [4294967296, 18446744065119617026];
+    assert!(rt; has_roots::<Goldilocks>(&rt, rt.alloc(), &f, 1536, &wanted)?);
     Ok(())
+}
+
+/// The numbers from 0 on, so many.
+fn numbers(alloc: Global, count: u64) -> Result<Vec<u64>, Fail> {
+    let mut out = Vec::new(alloc);
+    for n in 0..count {
+        out.push(n)?;
+    }
+    Ok(out)
 }
 
 /// All residues of a small field, and 64 roots in a large one.
 #[test]
 fn many_roots(rt: HostRuntime) -> Result<(), Fail> {
-    let mut listed = Vec::new(rt.alloc());
-    for n in 0..64u64 {
-        listed.push(n)?;
-    }
-    assert!(rt; finds::<F17>(&rt, rt.alloc(), &[1], &listed[..17], &listed[..17])?);
-    assert!(rt; finds::<BabyBear>(&rt, rt.alloc(), &[1], &listed, &listed)?);
+    let alloc = rt.alloc();
+    let few = numbers(alloc, 17)?;
+    let many = numbers(alloc, 64)?;
+    let without = [18446744069414584314, 0, 1];
+    assert!(rt; finds::<F17>(&rt, alloc, &[1], &few, &few)?);
+    assert!(rt; finds::<BabyBear>(&rt, alloc, &[1], &many, &many)?);
+    assert!(rt; finds::<Goldilocks>(&rt, alloc, &without, &many, &many)?);
     Ok(())
 }
 

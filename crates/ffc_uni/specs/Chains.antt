@@ -1,7 +1,7 @@
 -- The power X^p modulo a polynomial f, by repeated squaring: for each binary digit of p after the first a square, and
 -- where the digit is 1 a product with X, each with its quotient and remainder modulo f (Knuth, "The Art of Computer
 -- Programming", volume 2, section 4.6.3; Cohen, "A Course in Computational Algebraic Number Theory", section 1.2).
-use Rattle.std.specs.Prelude.{◌≡◌, ℕ, zero, suc, ◌+◌, ◌/◌, ◌%◌, ◌^◌, ◌==◌, ◌<◌, Bool, true, false, List, [], ◌∷◌, ◌++◌, length}
+use Rattle.std.specs.Prelude.{◌≡◌, ℕ, zero, suc, ◌+◌, ◌/◌, ◌%◌, ◌^◌, ◌==◌, ◌<◌, ◌≤◌, Bool, true, false, List, [], ◌∷◌, ◌++◌, length}
 use Rattle.ffc_uni.specs.Univariate.{Coefficients, SameUnivariate, indeterminate, plus, times}
 
 -- a quotient and a remainder
@@ -33,7 +33,7 @@ pairs_over (true ∷ ds) = 2 + pairs_over ds
 abbrev pub pair_count : ℕ → ℕ
 pair_count p = pairs_over (digits_of p)
 
--- a is quotient times f, and the remainder
+-- a is the quotient times f, plus the remainder
 abbrev pub IsDivision : ℕ → Coefficients → Coefficients → Pair → Type 0
 IsDivision p f a step = SameUnivariate p a (plus (times step.0 f) step.1)
 
@@ -56,10 +56,10 @@ abbrev pub last_remainder : Coefficients → List Pair → Coefficients
 last_remainder r [] = r
 last_remainder r (s ∷ steps) = last_remainder s.1 steps
 
--- each remainder is of lower degree than f
+-- each remainder is of lower degree than f, and no quotient has more coefficients
 abbrev pub AreLower : Coefficients → List Pair → Type 0
 AreLower f [] = Unit {0}
-AreLower f (s ∷ steps) = (length s.1 < length f) × AreLower f steps
+AreLower f (s ∷ steps) = (length s.1 < length f) × (length s.0 ≤ length f) × AreLower f steps
 
 -- the steps with those of one more digit
 abbrev pub IsWithDigit : ℕ → Coefficients → Bool → List Pair → List Pair → Type 0

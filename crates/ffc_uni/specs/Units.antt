@@ -1,4 +1,4 @@
--- The units that a chain takes from the meter, and where it stops.
+-- The units that a chain or a power takes from the meter, and where it stops.
 use Rattle.std.specs.Prelude.{◌≡◌, ℕ, ◌+◌, ◌<◌, ◌≤◌, Result, MatchResult}
 use Rattle.ffc_base.specs.Metering.{Spending, total}
 use Rattle.ffc_uni.specs.declared.stop.UniStop.{UniStop}
@@ -8,7 +8,7 @@ use Rattle.ffc_uni.specs.declared.stop.UniStop.TheVariants.{Spent, Memory}
 abbrev pub chained : Spending → ℕ → Spending
 chained s n = record s { chains = s.chains + n }
 
--- Fewer than the units that are needed were taken, and the meter is full; or memory was wanting before more were.
+-- Fewer than the units that are needed were taken, and the meter is full; or it ran out of memory before more were.
 abbrev pub IsStopped : ℕ → Spending → Spending → UniStop → Type 0
 IsStopped needed old new Spent = (n : ℕ) × (n < needed) × (new ≡ chained old n) × (total new ≡ new.budget)
 IsStopped needed old new Memory = (n : ℕ) × (n ≤ needed) × (new ≡ chained old n)

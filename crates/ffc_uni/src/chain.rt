@@ -1,5 +1,5 @@
 //! The power of X to the field's order, modulo a polynomial.
-ghost use Rattle.std.specs.Prelude.{◌≡◌, ◌≢◌, ℕ, ◌+◌, ◌<◌, ◌≤◌, [], ◌∷◌, ◌++◌, length, IfOk, OnOk, OnErr, IsErrOf};
+ghost use Rattle.std.specs.Prelude.{◌≡◌, ◌≢◌, ℕ, ◌+◌, ◌-◌, ◌<◌, ◌≤◌, [], ◌∷◌, ◌++◌, length, IfOk, OnOk, OnErr, IsErrOf};
 ghost use Rattle.ffc_base.specs.Metering.{total};
 ghost use Rattle.ffc_uni.specs.declared.stop.UniStop.TheVariants as stops;
 ghost use Rattle.ffc_uni.specs.Univariate.{SameUnivariate, times};
@@ -41,7 +41,7 @@ impl<F: Field> Steps<F> {
         }
     }
 
-    /// Appends a pair. Where memory is wanting, it is gone, and the steps are as before.
+    /// Appends a pair. Out of memory, the pair is dropped, and the steps are as before.
     fn push(&mut self, pair: (Uni<F>, Uni<F>)) -> Result<(), AllocError>
         ensures ok { OnOk result (self.new ≡ self.old ++ pair ∷ []) }
         ensures err { OnErr result (self.new ≡ self.old) }
@@ -78,7 +78,8 @@ pub struct Chain<F: Field> {
 
 /// The polynomial X.
 fn indeterminate<F: Field>(alloc: Global) -> Result<Uni<F>, AllocError>
-    ensures { IfOk result (λ x. SameUnivariate F.ORDER x polynomials.indeterminate) }
+    ensures same { IfOk result (λ x. SameUnivariate F.ORDER x polynomials.indeterminate) }
+    ensures short { IfOk result (λ x. length x ≤ 2) }
 {
     let mut coefs = Vec::new(alloc);
     coefs.push(F::of(0))?;
@@ -98,6 +99,7 @@ pub(crate) fn divided_product<F: Field>(
     requires inverse { mul_mod F.ORDER (leading f.now) (F.value inverse) ≡ 1 }
     ensures division { IfOk result (λ s. IsDivision F.ORDER f.now (times a.now b.now) s) }
     ensures lower { IfOk result (λ s. length s.1 < length f.now) }
+    ensures short { IfOk result (λ s. length s.0 ≤ length a.now + (length b.now - 1) - (length f.now - 1)) }
     ensures counted { IsCounted 1 meter.old meter.new result }
 {
     meter.take(Unit::Chain)?;
@@ -115,7 +117,9 @@ fn append_digit<F: Field>(
     meter: &mut Meter,
 ) -> Result<(), UniStop>
     requires x { SameUnivariate F.ORDER x.now polynomials.indeterminate }
-    requires f { f.now ≢ [] }
+    requires short { length x.now ≤ 2 }
+    requires f { 2 ≤ length f.now }
+    requires lower { AreLower f.now steps.old }
     requires inverse { mul_mod F.ORDER (leading f.now) (F.value inverse) ≡ 1 }
     ensures steps { OnOk result (IsWithDigit F.ORDER f.now one steps.old steps.new) }
     ensures counted { IsCounted (pairs_over (one ∷ [])) meter.old meter.new result }
@@ -132,7 +136,7 @@ fn append_digit<F: Field>(
 
 /// The steps of the order's binary digits after the first, from the highest.
 fn digit_steps<F: Field>(alloc: Global, f: &Uni<F>, meter: &mut Meter) -> Result<Steps<F>, UniStop>
-    requires { f.now ≢ [] }
+    requires { 2 ≤ length f.now }
     ensures chain { IfOk result (λ steps. IsChain F.ORDER f.now steps) }
     ensures lower { IfOk result (λ steps. AreLower f.now steps) }
     ensures counted { IsCounted (pair_count F.ORDER) meter.old meter.new result }

@@ -1,4 +1,4 @@
-//! Polynomials in one variable over a field, and the power of the variable modulo one.
+//! Polynomials in one variable over a field, and powers modulo a polynomial.
 #![tactic(auto)]
 
 mod chain;

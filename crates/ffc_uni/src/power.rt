@@ -1,4 +1,4 @@
-//! Powers of polynomials modulo one.
+//! Powers of polynomials modulo a polynomial.
 ghost use Rattle.std.specs.Prelude.{◌≡◌, ◌≢◌, ◌<◌, ◌≤◌, [], ◌∷◌, length, IfOk, OnOk, IsErrOf};
 ghost use Rattle.ffc_base.specs.Metering.{total};
 ghost use Rattle.ffc_field.specs.Modular.{mul_mod};

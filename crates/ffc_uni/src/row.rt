@@ -64,7 +64,8 @@ fn add_shifted<F: Field>(out: &mut [F], place: usize, c: F, row: &[F])
 
 /// The product, with a multiple of b for each coefficient of a, all in one buffer.
 pub fn product<F: Field>(alloc: Global, a: &[F], b: &[F]) -> Result<Vec<F>, AllocError>
-    ensures { IfOk result (λ v. SameUnivariate F.ORDER (map F.value v.items) (times (map F.value a.now) (map F.value b.now))) }
+    ensures product { IfOk result (λ v. SameUnivariate F.ORDER (map F.value v.items) (times (map F.value a.now) (map F.value b.now))) }
+    ensures short { IfOk result (λ v. length v.items ≤ length a.now + (length b.now - 1)) }
 {
     let mut out = Vec::new(alloc);
     out.resize(b.len().saturating_sub(1), F::of(0))?;

@@ -1,13 +1,13 @@
-//! Why a chain was not made.
+//! The error of a chain or a power.
 use ffc_base::Spent;
 use std::alloc::AllocError;
 
-/// Why a chain was not made.
+/// Why a chain or a power was not made.
 #[derive(Clone, Copy, Debug, PartialEq, Eq)]
 pub enum UniStop {
     /// The budget is spent.
     Spent,
-    /// Memory was wanting.
+    /// Out of memory.
     Memory,
 }
 

@@ -1,9 +1,9 @@
 //! Polynomials in one variable.
-ghost use Rattle.std.specs.Prelude.{◌≡◌, ◌≢◌, ℕ, ◌<◌, ◌≤◌, ◌-◌, ◌↔◌, [], length, map, max, IsTrue, IfOk};
+ghost use Rattle.std.specs.Prelude.{◌≡◌, ◌≢◌, ℕ, ◌+◌, ◌<◌, ◌≤◌, ◌-◌, ◌↔◌, [], length, map, max, IsTrue, IfOk};
 ghost use Rattle.ffc_field.specs.Modular.{mul_mod};
 ghost use Rattle.ffc_uni.specs.Equality.{same_coefficients};
 ghost use Rattle.ffc_uni.specs.Rows.{leading};
-ghost use Rattle.ffc_uni.specs.Univariate.{SameUnivariate, IsNormal, plus, minus, multiple, times, product_of_roots, value_of, IsRemainder};
+ghost use Rattle.ffc_uni.specs.Univariate.{SameUnivariate, IsNormal, plus, minus, multiple, times, product_of_roots, value_of};
 
 use crate::row;
 use ffc_field::Field;
@@ -136,6 +136,7 @@ impl<F: Field> Uni<F> {
     /// The product: each pair of coefficients is multiplied once.
     pub fn mul(&self, other: &Self) -> Result<Self, AllocError>
         ensures product { IfOk result (λ r. SameUnivariate F.ORDER r (times self.now other.now)) }
+        ensures short { IfOk result (λ r. length r ≤ length self.now + (length other.now - 1)) }
         ensures value { IfOk result (λ r. (x : ℕ) → value_of F.ORDER x r ≡ mul_mod F.ORDER (value_of F.ORDER x self.now) (value_of F.ORDER x other.now)) }
     {
         let alloc = *self.coefs.allocator();
@@ -168,17 +169,7 @@ impl<F: Field> Uni<F> {
         self.div_rem_with(by, by.leading_inverse())
     }
 
-    /// The remainder of the division by another polynomial.
-    pub fn rem(&self, by: &Self) -> Result<Self, AllocError>
-        requires { by.now ≢ [] }
-        ensures remainder { IfOk result (λ r. IsRemainder F.ORDER by.now self.now r) }
-        ensures lower { IfOk result (λ r. length r < length by.now) }
-    {
-        let (_, remainder) = self.div_rem(by)?;
-        Ok(remainder)
-    }
-
-    /// The same, with the inverse of the leading coefficient of `by` at hand, so that many divisions find it once.
+    /// As `div_rem`, with the inverse of the leading coefficient of `by` at hand, so that many divisions find it once.
     pub(crate) fn div_rem_with(&self, by: &Self, inverse: F) -> Result<(Self, Self), AllocError>
         requires nonzero { by.now ≢ [] }
         requires inverse { mul_mod F.ORDER (leading by.now) (F.value inverse) ≡ 1 }

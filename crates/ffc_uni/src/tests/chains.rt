@@ -29,7 +29,7 @@ fn chain<F: Field>(
             assert_eq!(rt; meter.count(Unit::Chain), budget);
             Ok(None)
         }
-        Err(UniStop::Memory) => panic!(rt; "memory was wanting"),
+        Err(UniStop::Memory) => panic!(rt; "out of memory"),
     }
 }
 

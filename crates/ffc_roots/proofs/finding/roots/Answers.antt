@@ -2,7 +2,7 @@ use Rattle.std.proofs.Common.{◌≡◌, ◌-◌, ◌%◌, ◌<◌, All, refl, m
 use Rattle.std.specs.List.{slice_index_or}
 use Rattle.std.proofs.lemmas.List.Elements.{All-map}
 use Rattle.std.specs.List.Sorted.{IsStrictlyIncreasing}
-use Rattle.ffc_uni.specs.Univariate.{coefficient_at, SameUnivariate, minus, multiple, times, plus, indeterminate, product_of_roots}
+use Rattle.ffc_uni.specs.Univariate.{coefficient_at, SameUnivariate, minus, multiple, times, indeterminate, product_of_roots}
 use Rattle.ffc_uni.specs.Chains.{last_remainder}
 use Rattle.ffc_uni.proofs.ChainLemmas.{zeros_of_chains}
 use Rattle.ffc_uni.proofs.Coefficients.{plus_alike, multiple_alike, times_alike_second}
@@ -52,6 +52,9 @@ returns-clause-identity g c =
     plus_alike p first first (times b (without_x p last)) (times b c.in_ok-h.h) (λ j. refl) (times_alike_second p b (without_x p last) c.in_ok-h.h (λ j. sym (same j))) k
     ∙ answer.identity k
     ∙ ap (λ l. coefficient_at (product_of_roots p l) k % p) listed
+
+pub returns-clause-short : goal.returns-clause-short
+returns-clause-short g c = (c.in_ok-is_answer.ensures c.if-not-branch.false).short
 
 pub returns-clause-increasing : goal.returns-clause-increasing
 returns-clause-increasing g c =

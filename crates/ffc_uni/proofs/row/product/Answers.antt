@@ -55,8 +55,8 @@ loop-place-preserved g c =
           ∙ product_step p place (value x) (map value old) b (map value new) rest (times (map value a) b) added so_far k;
     }
 
-pub returns : goal.returns
-returns g c =
+pub returns-clause-product : goal.returns-clause-product
+returns-clause-product g c =
     let value = g.F.Field.value in
     let p = g.F.Field.ORDER in
     let a = c.args.a.now in

@@ -1,4 +1,4 @@
-use Rattle.std.proofs.Common.{◌≡◌, ◌+◌, ◌-◌, ◌≤◌, ◌++◌, ◌%◌, length, map, max, take, replicate, vec_len, sym, ap, ap₂, ◌∙◌, refl, arith, mod-eq_of_lt}
+use Rattle.std.proofs.Common.{◌≡◌, ◌-◌, ◌≤◌, ◌++◌, ◌%◌, length, map, take, replicate, vec_len, ap, ◌∙◌, refl, arith, mod-eq_of_lt}
 use Rattle.std.proofs.lemmas.List.{take_all}
 use Rattle.ffc_uni.specs.Univariate.{coefficient_at, plus, multiple}
 use Rattle.ffc_uni.proofs.Coefficients.{plus_alike}
