@@ -30,14 +30,18 @@ pub trait Field: Copy + Eq {
     fn mul(self, other: Self) -> Self
         ensures { value result ≡ mul_mod ORDER (value self) (value other) };
 
+    /// The sum with a product, for rows and sums of multiples: one reduction in place of two.
+    fn add_scaled(self, scale: Self, other: Self) -> Self
+        ensures { value result ≡ add_mod ORDER (value self) (mul_mod ORDER (value scale) (value other)) };
+
     fn neg(self) -> Self
         ensures { value result ≡ neg_mod ORDER (value self) };
 
-    /// To the power `e`; to the power 0 each element is 1. At most 128 products.
+    /// To the power `e`; to the power 0 each element is 1. At most 127 products.
     fn pow(self, e: u64) -> Self
         ensures { value result ≡ pow_mod ORDER (value self) e };
 
-    /// The element that times this one is 1; 0 has none. At most 128 products.
+    /// The element that times this one is 1; 0 has none. At most 127 products.
     fn inv(self) -> Option<Self>
         ensures zero { IsNone result ↔ (value self ≡ 0) }
         ensures inverse { IfSome result (λ y. mul_mod ORDER (value self) (value y) ≡ 1) };

@@ -78,23 +78,31 @@ impl<W: Word, O: Order<W>> Field for Residue<W, O> {
         Residue::new(O::reduce(self.residue() as u128 * other.residue() as u128))
     }
 
+    fn add_scaled(self, scale: Self, other: Self) -> Self {
+        let product = scale.residue() as u128 * other.residue() as u128;
+        Residue::new(O::reduce(self.residue() as u128 + product))
+    }
+
     fn neg(self) -> Self {
         Residue::new(difference(O::ORDER, 0, self.residue()))
     }
 
-    /// By repeated squaring (Knuth, The Art of Computer Programming, volume 2, 4.6.3): at most 128 products.
+    /// By repeated squaring (Knuth, The Art of Computer Programming, volume 2, 4.6.3): at most 127 products.
     fn pow(self, e: u64) -> Self {
+        if e == 0 {
+            return Self::of(1);
+        }
         let mut product = Self::of(1);
         let mut square = self;
         let mut rest = e;
-        while rest > 0 {
+        while rest > 1 {
             if rest % 2 == 1 {
                 product = product.mul(square);
             }
             square = square.mul(square);
             rest /= 2;
         }
-        product
+        product.mul(square)
     }
 
     /// The power to the order less 2, by Fermat's theorem.

@@ -8,6 +8,7 @@ pub mod PowerLemmas
 pub mod Products
 pub mod ReachedLemmas
 pub mod RingLemmas
+pub mod RootProducts
 pub mod Rows
 pub mod StepLemmas
 pub mod UnitLemmas

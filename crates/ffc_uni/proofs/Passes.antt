@@ -1,8 +1,8 @@
 -- What a pass over a row computes, place by place, and the polynomial that it is.
-use Rattle.std.proofs.Common.{◌≡◌, ℕ, zero, suc, ◌+◌, ◌-◌, ◌*◌, ◌/◌, ◌%◌, ◌<◌, ◌≤◌, [], ◌∷◌, length, refl, sym, ap, ◌∙◌, arith, mod-lt}
+use Rattle.std.proofs.Common.{◌≡◌, ℕ, zero, suc, ◌+◌, ◌-◌, ◌*◌, ◌/◌, ◌%◌, ◌<◌, ◌≤◌, [], ◌∷◌, length, refl, sym, ap, ◌∙◌, arith, mod-lt, add_comm}
 use Rattle.std.proofs.Math.Nat.{add-mul, add-mul-mod_self_left, div-add-mod, mod-mod, add-mod-mod}
-use Rattle.std.proofs.lemmas.Nat.{mul-mod_second}
-use Rattle.ffc_field.specs.Modular.{add_mod, sub_mod, mul_mod}
+use Rattle.std.proofs.lemmas.Nat.{mul-mod_first, mul-mod_second}
+use Rattle.ffc_field.specs.Modular.{add_mod, sub_mod, mul_mod, neg_mod}
 use Rattle.ffc_uni.specs.Univariate.{Coefficients, coefficient_at, SameUnivariate, plus, multiple, times}
 use Rattle.ffc_uni.specs.Rows.{leading}
 use Rattle.ffc_uni.proofs.Coefficients.{coefficient_at-plus, coefficient_at-multiple}
@@ -32,6 +32,14 @@ restored p q b c positive =
 
 pub added_product : (p y c r : ℕ) → add_mod p y (mul_mod p c r) % p ≡ (y + c * r) % p
 added_product p y c r = mod-mod (y + c * r % p) p ∙ add-mod-mod y (c * r) p
+
+-- a multiple added with the negation, and a difference
+pub negated_scaled : (p q b c : ℕ) → 0 < p → q ≤ p → add_mod p c (mul_mod p (neg_mod p q) b) ≡ sub_mod p c (mul_mod p q b)
+negated_scaled p q b c positive within =
+    ap (add_mod p c) (mul-mod_first (p - q) b p)
+    ∙ add-mod-mod c ((p - q) * b) p
+    ∙ ap (λ n. n % p) (add_comm c ((p - q) * b))
+    ∙ negated_product p q b c positive within
 
 -- one step of Horner's rule
 pub horner_step : (p r x s : ℕ) → add_mod p r (mul_mod p x (s % p)) ≡ (r + x * s) % p

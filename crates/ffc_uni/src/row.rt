@@ -27,7 +27,7 @@ pub fn value_at<F: Field>(row: &[F], x: F) -> F
 {
     let mut value = F::of(0);
     for place in (0..row.len()).rev() {
-        value = row[place].add(x.mul(value));
+        value = row[place].add_scaled(x, value);
     }
     value
 }
@@ -38,7 +38,7 @@ fn add_multiple<F: Field>(out: &mut [F], c: F, row: &[F])
     ensures { SameUnivariate F.ORDER (map F.value out.new) (plus (map F.value out.old) (multiple (F.value c) (map F.value row.now))) }
 {
     for (place, coef) in row.iter().enumerate() {
-        out[place] = out[place].add(c.mul(*coef));
+        out[place] = out[place].add_scaled(c, *coef);
     }
 }
 
@@ -80,10 +80,11 @@ pub fn product<F: Field>(alloc: Global, a: &[F], b: &[F]) -> Result<Vec<F>, Allo
 fn times_root<F: Field>(out: &mut [F], root: F) -> F
     ensures { SameUnivariate F.ORDER (map F.value out.new ++ F.value result ∷ []) (times ((F.ORDER - F.value root) ∷ 1 ∷ []) (map F.value out.old)) }
 {
+    let scale = root.neg();
     let mut below = F::of(0);
     for place in 0..out.len() {
         let coef = out[place];
-        out[place] = below.sub(root.mul(coef));
+        out[place] = below.add_scaled(scale, coef);
         below = coef;
     }
     below
@@ -91,7 +92,8 @@ fn times_root<F: Field>(out: &mut [F], root: F) -> F
 
 /// The product of the X - root, in one buffer.
 pub fn root_product<F: Field>(alloc: Global, roots: &[F]) -> Result<Vec<F>, AllocError>
-    ensures { IfOk result (λ v. SameUnivariate F.ORDER (map F.value v.items) (product_of_roots F.ORDER (map F.value roots.now))) }
+    ensures product { IfOk result (λ v. SameUnivariate F.ORDER (map F.value v.items) (product_of_roots F.ORDER (map F.value roots.now))) }
+    ensures long { IfOk result (λ v. length v.items ≡ length roots.now + 1) }
 {
     let mut out = Vec::new(alloc);
     out.push(F::of(1))?;
@@ -120,10 +122,11 @@ fn subtract_shifted<F: Field>(window: &mut [F], low: F, q: F, by: &[F])
     requires cancels { mul_mod F.ORDER (F.value q) (leading (map F.value by.now)) ≡ leading (F.value low ∷ map F.value window.old) }
     ensures { SameUnivariate F.ORDER (plus (multiple (F.value q) (map F.value by.now)) (map F.value window.new)) (F.value low ∷ map F.value window.old) }
 {
+    let scale = q.neg();
     let mut below = low;
     for place in 0..window.len() {
         let coef = window[place];
-        window[place] = below.sub(q.mul(by[place]));
+        window[place] = below.add_scaled(scale, by[place]);
         below = coef;
     }
 }

@@ -3,7 +3,7 @@ ghost use Rattle.std.specs.Prelude.{◌≡◌, ◌≢◌, ℕ, ◌+◌, ◌<◌,
 ghost use Rattle.ffc_field.specs.Modular.{mul_mod};
 ghost use Rattle.ffc_uni.specs.Equality.{same_coefficients};
 ghost use Rattle.ffc_uni.specs.Rows.{leading};
-ghost use Rattle.ffc_uni.specs.Univariate.{SameUnivariate, IsNormal, plus, minus, multiple, times, product_of_roots, value_of};
+ghost use Rattle.ffc_uni.specs.Univariate.{SameUnivariate, IsNormal, IsRemainder, plus, minus, multiple, times, product_of_roots, value_of};
 
 use crate::row;
 use ffc_field::Field;
@@ -145,7 +145,8 @@ impl<F: Field> Uni<F> {
 
     /// The product of the X - root: one pass over it for each root.
     pub fn from_roots(alloc: Global, roots: &[F]) -> Result<Self, AllocError>
-        ensures { IfOk result (λ r. SameUnivariate F.ORDER r (product_of_roots F.ORDER (map F.value roots.now))) }
+        ensures product { IfOk result (λ r. SameUnivariate F.ORDER r (product_of_roots F.ORDER (map F.value roots.now))) }
+        ensures long { IfOk result (λ r. length r ≡ length roots.now + 1) }
     {
         Ok(Self::from_row(row::root_product(alloc, roots)?))
     }
@@ -167,6 +168,16 @@ impl<F: Field> Uni<F> {
         ensures short { IfOk result (λ d. length d.0 ≤ length self.now - (length by.now - 1)) }
     {
         self.div_rem_with(by, by.leading_inverse())
+    }
+
+    /// The remainder of the division by another polynomial.
+    pub fn rem(&self, by: &Self) -> Result<Self, AllocError>
+        requires { by.now ≢ [] }
+        ensures remainder { IfOk result (λ r. IsRemainder F.ORDER by.now self.now r) }
+        ensures lower { IfOk result (λ r. length r < length by.now) }
+    {
+        let (_, remainder) = self.div_rem(by)?;
+        Ok(remainder)
     }
 
     /// As `div_rem`, with the inverse of the leading coefficient of `by` at hand, so that many divisions find it once.

@@ -19,9 +19,9 @@ loop-place-preserved g c =
     let within : place < length out = omega arith in
     let row_left = left_at row place r c.loop-place-test.true c.index-row-place.is in
     let out_left = left_at out place y within c.index-out-place.is in
-    written_at value out place c.add.result (add_mod p (value y) (mul_mod p k (value r))) _ within
-    (c.add.ensures ∙ ap (add_mod p (value y)) c.mul.ensures)
-    ∙ ap (λ l. map value (take place out) ++ (add_mod p (value y) (mul_mod p k (value r)) ∷ with_multiple p k (map value (drop (place + 1) row)) (map value l))) (unwritten_behind out place c.add.result)
+    written_at value out place c.add_scaled.result (add_mod p (value y) (mul_mod p k (value r))) _ within
+    c.add_scaled.ensures
+    ∙ ap (λ l. map value (take place out) ++ (add_mod p (value y) (mul_mod p k (value r)) ∷ with_multiple p k (map value (drop (place + 1) row)) (map value l))) (unwritten_behind out place c.add_scaled.result)
     ∙ ap₂ (λ l m. map value (take place out) ++ with_multiple p k (map value l) (map value m)) (sym row_left) (sym out_left)
     ∙ c.loop-place.invariant
 

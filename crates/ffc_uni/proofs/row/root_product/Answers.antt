@@ -1,4 +1,4 @@
-use Rattle.std.proofs.Common.{◌≡◌, ◌-◌, ◌++◌, ◌∷◌, ◌%◌, [], map, drop, sym, ap, ◌∙◌}
+use Rattle.std.proofs.Common.{◌≡◌, ◌+◌, ◌-◌, ◌++◌, ◌∷◌, ◌%◌, [], length, map, drop, sym, ap, ◌∙◌, arith, length-append}
 use Rattle.std.proofs.lemmas.List.{map-append}
 use Rattle.ffc_uni.specs.Univariate.{coefficient_at, times, product_of_roots}
 use Rattle.ffc_uni.proofs.Coefficients.{times_alike_second}
@@ -19,9 +19,14 @@ loop-place-preserved g c =
     let left = left_before roots place root c.loop-place-test.true c.loop-place.auto.place c.index-roots-place.is in
     let pushed : map value c.push-in-loop-place.new.self.items ≡ map value new ++ value top ∷ [] =
     ap (map value) (c.in_ok-push-2.ensures.items ∙ ap (λ l. l ++ top ∷ []) kept) ∙ map-append value new (top ∷ []) in
-    λ k.
-    ap (λ l. coefficient_at l k % p) pushed
-    ∙ c.times_root-top.ensures k
-    ∙ ap (λ l. coefficient_at (times factor (map value l)) k % p) c.as_mut_slice.ensures.value
-    ∙ times_alike_second p factor (map value c.loop-place.out.items) (product_of_roots p (map value (drop place roots))) c.loop-place.invariant k
-    ∙ ap (λ l. coefficient_at (product_of_roots p (map value l)) k % p) (sym left)
+    let longer : length c.push-in-loop-place.new.self.items ≡ length new + 1 =
+    ap length (c.in_ok-push-2.ensures.items ∙ ap (λ l. l ++ top ∷ []) kept) ∙ length-append new (top ∷ []) in
+    record {
+      product = λ k.
+          ap (λ l. coefficient_at l k % p) pushed
+          ∙ c.times_root-top.ensures k
+          ∙ ap (λ l. coefficient_at (times factor (map value l)) k % p) c.as_mut_slice.ensures.value
+          ∙ times_alike_second p factor (map value c.loop-place.out.items) (product_of_roots p (map value (drop place roots))) c.loop-place.invariant.product k
+          ∙ ap (λ l. coefficient_at (product_of_roots p (map value l)) k % p) (sym left);
+      long = omega (arith, c.loop-place.invariant.long, c.times_root-top.auto.out, ap length c.as_mut_slice.ensures.value);
+    }

@@ -1,4 +1,4 @@
-use Rattle.std.proofs.Common.{map, drop}
+use Rattle.std.proofs.Common.{◌≡◌, ◌+◌, length, map, drop}
 use Rattle.ffc_uni.specs.Univariate.{SameUnivariate, product_of_roots}
 use Rattle.ffc_uni.proofs.row.root_product.Given as goal
 
@@ -6,4 +6,7 @@ abbrev pub invariant-loop-place : goal.invariant-loop-place
 invariant-loop-place g l =
     let value = g.F.Field.value in
     let p = g.F.Field.ORDER in
-    SameUnivariate p (map value l.out.items) (product_of_roots p (map value (drop l.place l.roots)))
+    record {
+      product : SameUnivariate p (map value l.out.items) (product_of_roots p (map value (drop l.place l.roots)));
+      long : length l.out.items + l.place ≡ length l.roots + 1;
+    }

@@ -1,8 +1,8 @@
-use Rattle.std.proofs.Common.{◌≡◌, suc, ◌+◌, ◌<◌, ◌≤◌, ◌++◌, ◌%◌, ◌∷◌, length, map, take, drop, sym, ap, ap₂, ◌∙◌, arith}
+use Rattle.std.proofs.Common.{◌≡◌, suc, ◌+◌, ◌<◌, ◌≤◌, ◌++◌, ◌%◌, ◌∷◌, length, map, take, drop, sym, ap, ap₂, ◌∙◌, arith, le_of_lt}
 use Rattle.std.proofs.lemmas.List.{append-nil, drop_all, take_all}
-use Rattle.ffc_field.specs.Modular.{sub_mod, mul_mod}
+use Rattle.ffc_field.specs.Modular.{add_mod, sub_mod, mul_mod}
 use Rattle.ffc_uni.specs.Univariate.{coefficient_at, plus, multiple}
-use Rattle.ffc_uni.proofs.Passes.{reduced, SameUnivariate-reduced}
+use Rattle.ffc_uni.proofs.Passes.{negated_scaled, reduced, SameUnivariate-reduced}
 use Rattle.ffc_uni.proofs.Rows.{left_at, written_at, unwritten_behind, length-residues}
 use Rattle.ffc_uni.proofs.row.subtract_shifted.Goals as goal
 
@@ -21,9 +21,10 @@ loop-place-preserved g c =
     let within_by : place < length by = omega (arith, c.requires.long) in
     let left = left_at window place y within c.index-window-place.is in
     let by_left = left_at by place b within_by c.index-by-place.is in
-    written_at value window place c.sub.result (sub_mod p below (mul_mod p q (value b))) _ within
-    (c.sub.ensures ∙ ap (sub_mod p below) c.mul.ensures)
-    ∙ ap (λ l. map value (take place window) ++ (sub_mod p below (mul_mod p q (value b)) ∷ reduced p q (value y) (map value l) (map value (drop (place + 1) by)))) (unwritten_behind window place c.sub.result)
+    written_at value window place c.add_scaled.result (sub_mod p below (mul_mod p q (value b))) _ within
+    (c.add_scaled.ensures ∙ ap (λ s. add_mod p below (mul_mod p s (value b))) c.neg-scale.ensures
+    ∙ negated_scaled p q (value b) below (omega (arith, g.met.F.Field.prime.least)) (le_of_lt (g.met.F.Field.below c.args.q)))
+    ∙ ap (λ l. map value (take place window) ++ (sub_mod p below (mul_mod p q (value b)) ∷ reduced p q (value y) (map value l) (map value (drop (place + 1) by)))) (unwritten_behind window place c.add_scaled.result)
     ∙ ap₂ (λ l m. map value (take place window) ++ reduced p q below (map value l) (map value m)) (sym left) (sym by_left)
     ∙ c.loop-place.invariant
 

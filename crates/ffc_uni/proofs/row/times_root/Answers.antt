@@ -1,8 +1,8 @@
 use Rattle.std.proofs.Common.{◌≡◌, ◌<◌, ◌≤◌, ◌++◌, ◌%◌, [], ◌∷◌, length, map, take, sym, ap, ap₂, ◌∙◌, arith, mod-eq_of_lt, le_of_lt}
 use Rattle.std.proofs.lemmas.List.{drop_all, take_all}
-use Rattle.ffc_field.specs.Modular.{sub_mod, mul_mod}
+use Rattle.ffc_field.specs.Modular.{add_mod, sub_mod, mul_mod}
 use Rattle.ffc_uni.specs.Univariate.{coefficient_at}
-use Rattle.ffc_uni.proofs.Passes.{root_row, SameUnivariate-root_row}
+use Rattle.ffc_uni.proofs.Passes.{negated_scaled, root_row, SameUnivariate-root_row}
 use Rattle.ffc_uni.proofs.Rows.{left_at, written_at, unwritten_behind}
 use Rattle.ffc_uni.proofs.row.times_root.Goals as goal
 
@@ -23,9 +23,10 @@ loop-place-preserved g c =
     let y = c.index-out-place.result in
     let within : place < length out = omega arith in
     let left = left_at out place y within c.index-out-place.is in
-    written_at value out place c.sub.result (sub_mod p below (mul_mod p a (value y))) _ within
-    (c.sub.ensures ∙ ap (sub_mod p below) c.mul.ensures)
-    ∙ ap (λ l. map value (take place out) ++ (sub_mod p below (mul_mod p a (value y)) ∷ root_row p a (value y) (map value l))) (unwritten_behind out place c.sub.result)
+    written_at value out place c.add_scaled.result (sub_mod p below (mul_mod p a (value y))) _ within
+    (c.add_scaled.ensures ∙ ap (λ s. add_mod p below (mul_mod p s (value y))) c.neg-scale.ensures
+    ∙ negated_scaled p a (value y) below (omega (arith, g.met.F.Field.prime.least)) (le_of_lt (g.met.F.Field.below c.args.root)))
+    ∙ ap (λ l. map value (take place out) ++ (sub_mod p below (mul_mod p a (value y)) ∷ root_row p a (value y) (map value l))) (unwritten_behind out place c.add_scaled.result)
     ∙ ap (λ l. map value (take place out) ++ root_row p a below (map value l)) (sym left)
     ∙ c.loop-place.invariant
 

@@ -6,5 +6,5 @@ abbrev pub invariant-loop-place : goal.invariant-loop-place
 invariant-loop-place g l =
     let value = g.F.Field.value in
     let p = g.F.Field.ORDER in
-    map value (take l.place l.out) ++ root_row p (value l.root) (value l.below) (map value (drop l.place l.out))
-    ≡ root_row p (value l.root) 0 (map value l.initial.out)
+    map value (take l.place l.out) ++ root_row p (value l.fn.root) (value l.below) (map value (drop l.place l.out))
+    ≡ root_row p (value l.fn.root) 0 (map value l.initial.out)

@@ -14,7 +14,7 @@ loop-place-preserved g c =
     let place = c.loop-place.place in
     let behind = sum_at x (map value (drop place c.args.row.now)) in
     let left = left_before c.args.row.now place r (omega arith) (omega arith) c.index-row-place.is in
-    c.add-value.ensures
-    ∙ ap (add_mod p (value r)) (c.mul.ensures ∙ ap (mul_mod p x) c.loop-place.invariant)
+    c.add_scaled-value.ensures
+    ∙ ap (λ v. add_mod p (value r) (mul_mod p x v)) c.loop-place.invariant
     ∙ horner_step p (value r) x behind
     ∙ ap (λ k. value_of p x (map value k)) (sym left)

@@ -18,12 +18,15 @@ loop-rest-preserved g c =
           ap (λ z. g.W.Word.number z.word) w.product-is
           ∙ digit_zero p y x (n % 2) (omega (arith, w.if-rest-eq1.false)) c.loop-rest.product.below
     ]
-    in ap₂ (λ z s. z * s ^ (n / 2) % p) digit c.mul-square.ensures
-    ∙ square_and_multiply p y x n
-    ∙ c.loop-rest.invariant
+    in record {
+      power = ap₂ (λ z s. z * s ^ (n / 2) % p) digit c.mul-square.ensures
+      ∙ square_and_multiply p y x n
+      ∙ c.loop-rest.invariant.power;
+      some = omega arith;
+    }
 
 pub returns : goal.returns
 returns g c =
-    digit_zero g.O.Order.ORDER (g.W.Word.number c.loop-rest.product.word) (g.W.Word.number c.loop-rest.square.word)
-    c.loop-rest.rest (omega arith) c.loop-rest.product.below
-    ∙ c.loop-rest.invariant
+    c.mul.ensures
+    ∙ digit_one g.O.Order.ORDER (g.W.Word.number c.loop-rest.product.word) (g.W.Word.number c.loop-rest.square.word) c.loop-rest.rest (omega arith)
+    ∙ c.loop-rest.invariant.power
