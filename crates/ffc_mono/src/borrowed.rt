@@ -1,12 +1,13 @@
 //! Borrowed monomials.
 ghost use Rattle.std.specs.Prelude.{◌≡◌, ◌≤◌, ◌↔◌, length, IsTrue, IsOk, IfOk};
-ghost use Rattle.ffc_ring.specs.Monomial.{IsMonomial, degree, Divides, AreCoprime};
+ghost use Rattle.ffc_ring.specs.Monomial.{IsMonomial, degree, Divides, AreCoprime, same_monomial};
 ghost use Rattle.ffc_mono.specs.Masks.{mask_of};
 ghost use Rattle.ffc_mono.specs.OneProof.{one_proof};
 
 use crate::mono::Mono;
 use crate::powers::{self, Power};
 use std::alloc::{AllocError, Global};
+use std::hash::{Hash, Hasher};
 
 /// A borrowed monomial, of a `Mono` or in a row. A clause sees its powers, the list of pairs of variable and exponent.
 #[derive(Clone, Copy, Debug)]
@@ -18,6 +19,41 @@ pub struct MonoRef<'a> {
     pub ghost degree_is: { total_degree ≡ degree powers.now },
     pub ghost within: { total_degree ≤ 1024 },
     pub ghost mask_is: { mask ≡ mask_of powers.now },
+}
+
+impl<'a> PartialEq for MonoRef<'a> {
+    ghost use Rattle.std.specs.Cmp.{partial_equiv_from_equiv};
+    ghost use Rattle.ffc_ring.specs.Monomial.{same_monomial};
+    ghost use Rattle.ffc_mono.specs.EqualityLaws.{same_powers_equivalence};
+
+    ghost eq = { λ m n. same_monomial m.powers.now n.powers.now };
+
+    ghost laws = { partial_equiv_from_equiv (same_powers_equivalence (λ m. m.powers.now)) };
+
+    fn eq(&self, other: &MonoRef<'a>) -> bool
+        ensures value { result ≡ same_monomial self.now.powers.now other.now.powers.now }
+        ensures list { IsTrue result ↔ (self.now.powers.now ≡ other.now.powers.now) }
+    {
+        self.powers == other.powers
+    }
+}
+
+impl<'a> Eq for MonoRef<'a> {
+    ghost use Rattle.ffc_mono.specs.EqualityLaws.{same_powers_equivalence};
+
+    ghost laws = { same_powers_equivalence (λ m. m.powers.now) };
+}
+
+impl<'a> Hash for MonoRef<'a> {
+    ghost use Rattle.ffc_mono.specs.EqualityLaws.{monomial_hash, monomials_hash_alike};
+
+    ghost hash_input = { λ m. monomial_hash m.powers.now };
+
+    ghost respects_eq = { λ m n same. monomials_hash_alike m.powers.now n.powers.now same };
+
+    fn hash<H: Hasher>(&self, state: &mut H) {
+        self.powers.hash(state);
+    }
 }
 
 impl<'a> MonoRef<'a> {
@@ -48,13 +84,6 @@ impl<'a> MonoRef<'a> {
         } else {
             false
         }
-    }
-
-    /// Whether both are the same monomial. It takes no memory.
-    pub fn is_equal(self, other: MonoRef<'_>) -> bool
-        ensures { IsTrue result ↔ (self.entry.powers.now ≡ other.entry.powers.now) }
-    {
-        self.powers == other.powers
     }
 
     /// Whether no variable occurs in both. It takes no memory.

@@ -6,6 +6,7 @@ use crate::borrowed::MonoRef;
 use crate::powers::{self, Joining, Power, Powers};
 use smallvec::SmallVec;
 use std::alloc::{AllocError, Global};
+use std::hash::{Hash, Hasher};
 use std::marker::Model;
 
 /// The greatest total degree.
@@ -32,7 +33,8 @@ impl From<AllocError> for MonoStop {
 }
 
 /// A monomial of total degree at most 1,024: the list of its pairs of variable and exponent, with strictly
-/// increasing variables and exponents of at least 1. One of up to four variables takes no memory of its own.
+/// increasing variables and exponents of at least 1. One of up to four variables takes no memory of its own. It can be a
+/// key of a map, by its powers.
 #[derive(Debug, Drop)]
 pub struct Mono {
     powers: Powers,
@@ -225,4 +227,16 @@ impl Eq for Mono {
     ghost use Rattle.ffc_mono.specs.EqualityLaws.{same_monomial_equivalence};
 
     ghost laws = { same_monomial_equivalence };
+}
+
+impl Hash for Mono {
+    ghost use Rattle.ffc_mono.specs.EqualityLaws.{monomial_hash, monomials_hash_alike};
+
+    ghost hash_input = { monomial_hash };
+
+    ghost respects_eq = { monomials_hash_alike };
+
+    fn hash<H: Hasher>(&self, state: &mut H) {
+        self.pairs().hash(state);
+    }
 }

@@ -145,7 +145,7 @@ fn rows(rt: HostRuntime) -> Result<(), Fail> {
     assert_eq!(rt; row.len(), 4);
     assert_eq!(rt; row.get(3).pairs(), [(0, 2), (1, 2), (35, 1)].as_slice());
     assert!(rt; row.get(0).divides(row.get(3)) && !row.get(3).divides(row.get(2)));
-    assert!(rt; row.get(2).is_equal(b.as_ref()) && !row.get(2).is_coprime(row.get(0)));
+    assert!(rt; row.get(2) == b.as_ref() && !row.get(2).is_coprime(row.get(0)));
     assert_eq!(rt; row.get(2).to_mono(alloc)?, b);
     Ok(())
 }

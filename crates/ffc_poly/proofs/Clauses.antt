@@ -1,5 +1,5 @@
 -- What the clauses of a polynomial's operations say of values, refusals and zero.
-use Rattle.std.proofs.Common.{◌≡◌, ℕ, suc, ◌+◌, ◌-◌, ◌*◌, ◌%◌, ◌<◌, true, eqb, eq-eqb, [], ◌∷◌, ◌++◌, length, refl, sym, ap, ◌∙◌, inl, inr, arith, mul-one, zero-mul, eqb-true, mod-eq_of_lt, Result, Ok, Err, IfErr, IsErrAnd, IsErrOf}
+use Rattle.std.proofs.Common.{◌≡◌, ℕ, suc, ◌+◌, ◌-◌, ◌*◌, ◌%◌, ◌<◌, true, eqb, eq-eqb, [], ◌∷◌, ◌++◌, length, refl, sym, ap, ◌∙◌, append-nil, inl, inr, arith, mul-one, zero-mul, eqb-true, mod-eq_of_lt, Result, Ok, Err, IfErr, IsErrAnd, IsErrOf}
 use Rattle.std.proofs.lemmas.Nat.{mul-mod_second}
 use Rattle.ffc_field.specs.Modular.{add_mod, sub_mod, mul_mod, neg_mod}
 use Rattle.ffc_ring.specs.Monomial.{Monomial, mono_value, mono_mul}
@@ -115,3 +115,7 @@ pub same_differences : (p : ℕ) (a b c : Terms) → SamePolynomial p b c → Sa
 same_differences p a b c same =
     same_sums p a a (scaled (p - 1) b) (scaled (p - 1) c) (λ m. refl)
     (λ m. coefficient-scaled p (p - 1) b m ∙ ap (mul_mod p (p - 1)) (same m) ∙ sym (coefficient-scaled p (p - 1) c m))
+
+-- a sum with what is 0
+pub sum_with_nothing : (p : ℕ) (a b : Terms) → SamePolynomial p [] b → SamePolynomial p a (a ++ b)
+sum_with_nothing p a b e n = ap (λ l. written l n % p) (sym (append-nil a)) ∙ same_sums p a a [] b (λ _. refl) e n

@@ -1,5 +1,5 @@
 -- Equal polynomials, and the one ordered list of each.
-use Rattle.std.proofs.Common.{◌≡◌, ◌≢◌, ℕ, ◌↔◌, Bool, true, ◌&&◌, eqb, List, [], ◌∷◌, IsTrue, refl, sym, ap, ap₂, ◌∙◌, subst, inl, inr, eqb-true, eq-eqb}
+use Rattle.std.proofs.Common.{◌≡◌, ◌≢◌, ℕ, ◌↔◌, Bool, true, false, not, ◌&&◌, eqb, true≢false, List, [], ◌∷◌, IsTrue, refl, sym, ap, ap₂, ◌∙◌, subst, inl, inr, eqb-true, eq-eqb}
 use Rattle.std.proofs.lemmas.Bool.{and_parts, and_from}
 use Rattle.std.proofs.lemmas.Bool.Decides.{same_from_decides, Decides-eqb}
 use Rattle.std.specs.Bool.{Decides}
@@ -8,7 +8,7 @@ use Rattle.std.specs.declared.cmp.Ordering.{Ordering}
 use Rattle.std.specs.declared.cmp.Ordering.TheVariants.{Greater}
 use Rattle.ffc_ring.specs.Monomial.{Monomial, same_monomial}
 use Rattle.ffc_ring.specs.Polynomial.{Terms, coefficient, SamePolynomial}
-use Rattle.ffc_ring.proofs.PolynomialLemmas.{cases_monomial, same_monomial-true, same_monomial-self}
+use Rattle.ffc_ring.proofs.PolynomialLemmas.{cases_monomial, same_monomial-true, same_monomial-equal, same_monomial-self}
 use Rattle.ffc_mono.specs.MonomialOrder.{IsMonomialOrder}
 use Rattle.ffc_poly.specs.Ordered.{residues, IsOrdered}
 use Rattle.ffc_poly.specs.Equality.{same_term, same_terms}
@@ -69,3 +69,14 @@ module _ (p : ℕ) (cmp : Monomial → Monomial → Ordering) (laws : IsMonomial
             absurd (not_itself p cmp laws limit s.1 s.1
             (greater_trans cmp laws s.1 t.1 s.1 (leads_above s t a b h g apart same) (leads_above t s b a g h (λ e. apart (sym e)) (λ n. sym (same n)))) refl)
       ]
+
+-- what the test for different monomials says
+pub monomials_differ : (m n : Monomial) → true ≡ not (same_monomial m n) → m ≡ n → ⊥
+monomials_differ m n h e = true≢false (h ∙ ap not (same_monomial-equal m n e))
+
+not_false : (b : Bool) → false ≡ not b → b ≡ true
+not_false true h = refl
+not_false false h = absurd (true≢false (sym h))
+
+pub monomials_agree : (m n : Monomial) → false ≡ not (same_monomial m n) → m ≡ n
+monomials_agree m n h = same_monomial-true m n (not_false (same_monomial m n) h)

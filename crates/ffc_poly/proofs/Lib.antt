@@ -5,6 +5,7 @@ mod LeadLemmas
 mod Lists
 mod Merging
 mod MergingSteps
+mod MultipleSteps
 mod ProductLemmas
 mod TailLemmas
 mod TermLemmas

@@ -88,3 +88,8 @@ IsWithinTerms p limit ts = (all : Terms) → SamePolynomial p ts all → PassesT
 
 abbrev pub IsOverTerms : ℕ → ℕ → Terms → Type 0
 IsOverTerms p limit ts = (all : Terms) → SamePolynomial p ts all → PassesTerms p limit all
+
+-- m times the monomial of the first term, where there is one
+abbrev pub next_product : Monomial → Terms → List Monomial
+next_product m [] = []
+next_product m (t ∷ ts) = mono_mul m t.1 ∷ []

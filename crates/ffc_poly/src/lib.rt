@@ -2,6 +2,8 @@
 #![tactic(auto)]
 
 mod accumulator;
+mod iteration;
+mod multiples;
 mod poly;
 mod products;
 mod stop;
@@ -14,5 +16,6 @@ mod tests;
 mod values;
 
 pub use accumulator::Accumulator;
+pub use iteration::TermIter;
 pub use poly::{Poly, TERM_LIMIT};
 pub use stop::PolyStop;

@@ -1,14 +1,15 @@
 //! Polynomials.
-ghost use Rattle.std.specs.Prelude.{◌≡◌, ◌≢◌, ℕ, ◌+◌, ◌*◌, ◌<◌, ◌≤◌, ◌↔◌, List, [], ◌∷◌, ◌++◌, length, get_or, IsTrue, IsOk, IsNone, IfOk, IfSome, OnOk, IsErrOf, IfErr};
+ghost use Rattle.std.specs.Prelude.{◌≡◌, ◌≢◌, ℕ, ◌+◌, ◌*◌, ◌<◌, ◌≤◌, ◌↔◌, List, [], ◌∷◌, ◌++◌, length, drop, get_or, IsTrue, IsOk, IsNone, IfOk, IfSome, OnOk, IsErrOf, IfErr};
 ghost use Rattle.ffc_field.specs.Modular.{add_mod, sub_mod, mul_mod};
 ghost use Rattle.ffc_ring.specs.Monomial.{mono_value};
 ghost use Rattle.ffc_ring.specs.Polynomial.{SamePolynomial, term_product, product, scaled, difference, poly_value, PassesDegree, PassesTerms};
 ghost use Rattle.ffc_mono.specs.Leading.{IsLeading};
 ghost use Rattle.ffc_poly.specs.Ordered.{residues, sum_of, IsOrdered, IsConstant, IsWithinTerms, IsOverTerms, point_of};
 
+use crate::iteration::TermIter;
 use crate::stop::PolyStop;
 use crate::terms::TermList;
-use crate::{products, sums, values};
+use crate::{multiples, products, sums, values};
 use ffc_field::Field;
 use ffc_mono::{DEGREE_LIMIT, Mono, MonoOrder, MonoRef};
 use std::alloc::{AllocError, Global};
@@ -185,6 +186,13 @@ impl<F: Field, O: MonoOrder> Poly<F, O> {
         self.listed().get(i)
     }
 
+    /// The terms in order, the leading one first.
+    pub fn iter(&self) -> TermIter<'_, F>
+        ensures { drop result.next result.terms.now ≡ self.now }
+    {
+        TermIter::new(self.listed())
+    }
+
     /// Whether it is the polynomial 0.
     pub fn is_zero(&self) -> bool
         ensures { IsTrue result ↔ (self.now ≡ []) }
@@ -231,7 +239,7 @@ impl<F: Field, O: MonoOrder> Poly<F, O> {
         self.plus_times(F::of(1).neg(), other)
     }
 
-    /// self + c*m*other. The multiple is made in one pass, and merged in another.
+    /// self + c*m*other, in one merge: no list of the products is made.
     pub fn add_multiple(&self, c: F, m: MonoRef<'_>, other: &Self) -> Result<Self, PolyStop>
         ensures sum { IfOk result (λ r. SamePolynomial F.ORDER r (self.now ++ term_product (F.value c) m.entry.powers.now other.now)) }
         ensures fits { OnOk result (PassesTerms F.ORDER TERM_LIMIT (self.now ++ term_product (F.value c) m.entry.powers.now other.now) → ⊥) }
@@ -240,8 +248,19 @@ impl<F: Field, O: MonoOrder> Poly<F, O> {
         ensures short { length self.now + length other.now ≤ TERM_LIMIT → IsErrOf result PolyStop.TermsOver → ⊥ }
         ensures degree_over { IsErrOf result PolyStop.DegreeOver ↔ PassesDegree F.ORDER DEGREE_LIMIT ((F.value c, m.entry.powers.now) ∷ []) other.now }
     {
-        let multiple = other.times(c, m)?;
-        self.add(&multiple)
+        let own = self.listed();
+        if c.residue() == 0 {
+            return Ok(self.clone()?);
+        }
+        if other.is_zero() {
+            return Ok(self.clone()?);
+        }
+        let more = other.listed();
+        if m.degree() + products::greatest_degree(more) > DEGREE_LIMIT {
+            return Err(PolyStop::DegreeOver);
+        }
+        let alloc = self.terms.allocator();
+        Self::within(multiples::merged_multiple::<F, O>(alloc, own, c, m, more)?)
     }
 
     /// self - c*m*other. The multiple is made in one pass, and merged in another.

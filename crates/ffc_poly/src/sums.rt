@@ -55,7 +55,7 @@ pub fn combined_from<F: Field, O: MonoOrder>(
                 j += 1;
             }
             Ordering::Equal => {
-                let sum = s.add(c.mul(t));
+                let sum = s.add_scaled(c, t);
                 if sum.residue() != 0 {
                     out.push(sum, m)?;
                 }

@@ -146,7 +146,7 @@ fn is_rival<F: Field>(tails: &[Tail<F>], i: usize, j: usize) -> bool
     if other.len() == 0 {
         return false;
     }
-    other.first().1.is_equal(one.first().1)
+    other.first().1 == one.first().1
 }
 
 /// The place of another list with the same leading monomial.

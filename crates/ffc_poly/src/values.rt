@@ -44,7 +44,7 @@ pub fn value_at<F: Field>(terms: &TermList<F>, at: &[F]) -> F
     let mut sum = F::of(0);
     for i in 0..terms.len() {
         let (c, m) = terms.get(i);
-        sum = sum.add(c.mul(monomial_value(m.pairs(), at)));
+        sum = sum.add_scaled(c, monomial_value(m.pairs(), at));
     }
     sum
 }
@@ -62,7 +62,7 @@ pub fn are_equal<F: Field>(a: &TermList<F>, b: &TermList<F>) -> bool
         if s.residue() != t.residue() {
             return false;
         }
-        if !m.is_equal(n) {
+        if m != n {
             return false;
         }
     }

@@ -2,6 +2,7 @@ use Rattle.std.proofs.Common.{◌≡◌, ℕ, ◌<◌, ◌++◌, ◌∷◌, [], 
 use Rattle.std.proofs.lemmas.List.{take_more}
 use Rattle.ffc_ring.specs.Monomial.{Monomial}
 use Rattle.ffc_ring.specs.Polynomial.{Terms}
+use Rattle.ffc_poly.proofs.EqualityLemmas.{monomials_differ, monomials_agree}
 use Rattle.ffc_poly.proofs.values.are_equal.Goals as goal
 
 pub returns-then-len : goal.returns-then-len
@@ -20,13 +21,13 @@ returns-then-residue g c = (
       ),
 )
 
-pub returns-then-not-is_equal : goal.returns-then-not-is_equal
-returns-then-not-is_equal g c = (
+pub returns-then-ne : goal.returns-then-ne
+returns-then-ne g c = (
   λ h. absurd (true≢false (sym h)),
   λ e.
       absurd (
-      true≢false
-      (sym (c.if-not-is_equal.ensures.1 (c.get-s.ensures.monomial ∙ ap (λ (ts : Terms). (get_or ts c.loop-i.i (0, [])).1) e ∙ sym c.get-t.ensures.monomial)))
+      monomials_differ c.get-s.result.1.powers.now c.get-t.result.1.powers.now c.if-ne.ensures
+      (c.get-s.ensures.monomial ∙ ap (λ (ts : Terms). (get_or ts c.loop-i.i (0, [])).1) e ∙ sym c.get-t.ensures.monomial)
       ),
 )
 
@@ -40,7 +41,7 @@ loop-i-preserved g c =
     let coefficient : (get_or a i (0, [])).0 ≡ (get_or b i (0, [])).0 =
     sym c.get-s.ensures.coefficient ∙ sym c.residue.ensures.value ∙ c.if-residue.false ∙ c.residue-in-loop-i.ensures.value ∙ c.get-t.ensures.coefficient in
     let monomial : (get_or a i (0, [])).1 ≡ (get_or b i (0, [])).1 =
-    sym c.get-s.ensures.monomial ∙ c.if-not-is_equal.ensures.0 refl ∙ c.get-t.ensures.monomial in
+    sym c.get-s.ensures.monomial ∙ monomials_agree c.get-s.result.1.powers.now c.get-t.result.1.powers.now c.if-ne.ensures ∙ c.get-t.ensures.monomial in
     take_more a i (0, []) low
     ∙ ap₂ (λ (x : Terms) (y : ℕ × Monomial). x ++ y ∷ []) c.loop-i.invariant (ap₂ (λ x y. (x, y)) coefficient monomial)
     ∙ sym (take_more b i (0, []) low')
