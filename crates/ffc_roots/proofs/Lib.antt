@@ -1,3 +1,4 @@
 pub mod Chained
 pub mod Lists
 pub mod RootLemmas
+pub mod SparseLemmas

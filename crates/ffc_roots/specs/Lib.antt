@@ -1,3 +1,4 @@
 pub mod Parts
 pub mod Roots
+pub mod Sparse
 pub mod Stops

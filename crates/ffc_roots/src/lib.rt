@@ -5,6 +5,7 @@ mod bezout;
 mod elements;
 mod finding;
 mod found;
+mod sparse;
 mod split;
 mod stop;
 #[cfg(test)]
@@ -13,4 +14,5 @@ mod tests;
 pub use elements::Elements;
 pub use finding::roots;
 pub use found::Roots;
+pub use sparse::{from_univariate, to_univariate};
 pub use stop::RootStop;

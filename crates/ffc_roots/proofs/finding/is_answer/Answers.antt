@@ -18,7 +18,7 @@ returns g c = λ yes.
           sym (plus_alike p first (times c.args.common.now.a c.args.f.now) second (times c.args.common.now.b c.args.h.now) c.in_ok-mul.ensures.product c.in_ok-mul-2.ensures.product k)
           ∙ sym (c.in_ok-sum.ensures.sum k)
           ∙ c.eq-2.ensures.polynomial.0 yes k
-          ∙ c.in_ok-from_roots.ensures k;
+          ∙ c.in_ok-from_roots.ensures.product k;
       short = (
         omega (arith, c.if-coefs-most.false, long c.coefs.result.now c.args.common.now.a c.coefs.ensures.value, most),
         omega (arith, c.if-coefs-most-2.false, long c.coefs-else-coefs-most.result.now c.args.common.now.b c.coefs-else-coefs-most.ensures.value, most),
