@@ -11,7 +11,7 @@ use Rattle.ffc_ring.proofs.MonomialLemmas.{one_monomial, exponent-here, exponent
 nothing_less : (x : ℕ) → 0 - x ≡ 0
 nothing_less x = omega arith
 
-pascal : (n k : ℕ) → choose (suc n) (suc k) ≡ choose n k + choose n (suc k)
+pub pascal : (n k : ℕ) → choose (suc n) (suc k) ≡ choose n k + choose n (suc k)
 unfolding choose
 pascal n k = refl
 
@@ -92,7 +92,7 @@ lowered-left v m ms e = cond-true _ _ _ (eq-eqb (exponent m v) 0 e)
 lowered-kept : (v : ℕ) (m : Monomial) (ms : List Monomial) → exponent m v ≢ 0 → lowered v (m ∷ ms) ≡ mono_quotient m ((v, 1) ∷ []) ∷ lowered v ms
 lowered-kept v m ms e = cond-false _ _ _ (ne_eqb (exponent m v) 0 e)
 
-variable_is : (v : ℕ) → IsMonomial ((v, 1) ∷ [])
+pub variable_is : (v : ℕ) → IsMonomial ((v, 1) ∷ [])
 variable_is v = (omega arith, omega arith, tt)
 
 variable_divides : (v : ℕ) (m : Monomial) → exponent m v ≢ 0 → Divides ((v, 1) ∷ []) m

@@ -1,3 +1,4 @@
 pub mod CountingLemmas
 pub mod MonomialLemmas
 pub mod PolynomialLemmas
+pub mod ReachedLemmas

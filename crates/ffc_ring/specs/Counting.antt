@@ -27,3 +27,13 @@ AreDifferent (m ∷ ms) = IsNoneOf ms m × AreDifferent ms
 abbrev pub CountOfMonomials : Type 0
 CountOfMonomials =
     (vs : List ℕ) (d : ℕ) (ms : List Monomial) → AreDifferent ms → AreUpTo vs d ms → length ms ≤ choose (length vs + d) d
+
+-- no variable is listed twice
+abbrev pub AreApart : List ℕ → Type 0
+AreApart [] = Unit {0}
+AreApart (v ∷ vs) = (IsAmong vs v → ⊥) × AreApart vs
+
+-- and there are as many
+abbrev pub CountIsReached : Type 0
+CountIsReached =
+    (vs : List ℕ) (d : ℕ) → AreApart vs → (ms : List Monomial) × AreDifferent ms × AreUpTo vs d ms × (length ms ≡ choose (length vs + d) d)

@@ -1,5 +1,5 @@
 //! The laws of monomials.
-ghost use Rattle.ffc_ring.specs.Counting.{CountOfMonomials};
+ghost use Rattle.ffc_ring.specs.Counting.{CountOfMonomials, CountIsReached};
 ghost use Rattle.ffc_ring.specs.MonomialLaws.{OneMonomial, ProductIsMonomial, ProductAddsExponents, LcmIsMonomial, LcmTakesGreater, ProductAddsDegrees, ProductCommutes, ProductAssociates, ProductWithOne, ProductCancels, DividesProduct, DivisorIsNoHigher, QuotientIsMonomial, QuotientTimesDivisor, QuotientSubtractsExponents, QuotientSubtractsDegrees, DividesItself, DividesThrough, MutualDivisorsAreEqual, FirstDividesLcm, SecondDividesLcm, LcmDividesCommonMultiples, CoprimeLcmIsProduct, ProductOfValues};
 
 /// Monomials with equal exponents are equal.
@@ -27,7 +27,8 @@ pub fn least_common_multiple()
 
 /// How many monomials there are in given variables up to a degree.
 pub fn count()
-    ensures { CountOfMonomials }
+    ensures most { CountOfMonomials }
+    ensures reached { CountIsReached }
 {}
 
 /// Products are those of a commutative monoid in which factors cancel.
