@@ -15,6 +15,7 @@ struct Table<'a> {
 fn check_sums<F: Field>(rt: &impl Abort, sums: &[(u128, u128, u64, u64)]) {
     for &(a, b, sum, difference) in sums {
         assert_eq!(rt; F::of(a).add(F::of(b)).residue(), sum);
+        assert_eq!(rt; F::of(a).add_scaled(F::of(b), F::of(1)).residue(), sum);
         assert_eq!(rt; F::of(a).sub(F::of(b)).residue(), difference);
         assert_eq!(rt; F::of(b).neg().add(F::of(a)).residue(), difference);
     }

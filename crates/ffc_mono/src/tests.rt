@@ -1,6 +1,7 @@
 use crate::{GradedReverseLex, Lex, Mono, MonoOrder, MonoRow, MonoStop};
 use std::alloc::Global;
 use std::cmp::Ordering;
+use std::collections::HashMap;
 use std::process::Abort;
 use std::test::Fail;
 
@@ -147,5 +148,22 @@ fn rows(rt: HostRuntime) -> Result<(), Fail> {
     assert!(rt; row.get(0).divides(row.get(3)) && !row.get(3).divides(row.get(2)));
     assert!(rt; row.get(2) == b.as_ref() && !row.get(2).is_coprime(row.get(0)));
     assert_eq!(rt; row.get(2).to_mono(alloc)?, b);
+    Ok(())
+}
+
+/// Columns are found by monomials of their own and by borrowed ones.
+#[test]
+fn monomials_are_keys(rt: HostRuntime) -> Result<(), Fail> {
+    let alloc = rt.alloc();
+    let a = Mono::from_pairs(alloc, &[(0, 2), (1, 1)])?;
+    let b = Mono::from_pairs(alloc, &[(1, 1)])?;
+    let mut borrowed = HashMap::new(alloc);
+    borrowed.insert(a.as_ref(), 7)?;
+    assert_eq!(rt; borrowed.get(&a.as_ref()).copied(), Some(7));
+    assert_eq!(rt; borrowed.get(&b.as_ref()).copied(), None);
+    let mut own = HashMap::new(alloc);
+    own.insert(a.clone()?, 3)?;
+    assert_eq!(rt; own.get(&a).copied(), Some(3));
+    assert_eq!(rt; own.get(&b).copied(), None);
     Ok(())
 }

@@ -152,6 +152,19 @@ fn accumulated_multiples(rt: HostRuntime) -> Result<(), Fail> {
     Ok(())
 }
 
+/// The terms of 2x^2 + 3y + 4 in order.
+#[test]
+fn terms_in_order(rt: HostRuntime) -> Result<(), Fail> {
+    let alloc = rt.alloc();
+    let a = sum::<F5, GradedReverseLex>(alloc, &[(3, 0, 1), (4, 0, 0), (2, 2, 0)])?;
+    let mut seen = Vec::new(alloc);
+    for (coefficient, monomial) in a.iter() {
+        seen.push((coefficient.residue(), monomial.degree()))?;
+    }
+    assert_eq!(rt; seen.as_slice(), [(2, 2), (3, 1), (4, 0)].as_slice());
+    Ok(())
+}
+
 #[test]
 fn equal_polynomials(rt: HostRuntime) -> Result<(), Fail> {
     let a = sum::<F5, Lex>(rt.alloc(), &[(3, 1, 2), (1, 1, 0), (4, 0, 1)])?;

@@ -1,6 +1,8 @@
-use crate::{RootStop, roots};
+use crate::{RootStop, from_univariate, roots, to_univariate};
 use ffc_base::Meter;
 use ffc_field::{BabyBear, F2, F3, F5, F17, F65537, Field, Goldilocks, KoalaBear};
+use ffc_mono::Lex;
+use ffc_poly::Poly;
 use ffc_uni::Uni;
 use std::alloc::Global;
 use std::process::Abort;
@@ -180,5 +182,17 @@ fn few_units(rt: HostRuntime) -> Result<(), Fail> {
             "with {budget} units"
         );
     }
+    Ok(())
+}
+
+/// X^2 + 3 as a polynomial of many variables, and back.
+#[test]
+fn one_of_many_variables(rt: HostRuntime) -> Result<(), Fail> {
+    let alloc = rt.alloc();
+    let u = Uni::from_coefs(alloc, elements::<F5>(alloc, &[3, 0, 1])?.as_slice())?;
+    let f: Poly<F5, Lex> = from_univariate(alloc, &u, 7)?;
+    assert_eq!(rt; f.len(), 2);
+    assert!(rt; to_univariate(alloc, &f, 7)?.is_some_and(|v| v == u));
+    assert!(rt; to_univariate(alloc, &f, 6)?.is_none());
     Ok(())
 }

@@ -37,8 +37,8 @@ loop-i-preserved-in-Continue-branch-3 g c =
       fits = RowFits-rest DEGREE_LIMIT m at.j b in_b at.invariant.fits;
       next = c.in_ok-set_product-in-Less.ensures;
       so_far = product_taken p positive cmp k m a b at.i at.j in_a in_b s n t u c.get-s.ensures.coefficient c.get-s.ensures.monomial t_is u_is at.out c.push.new.self _ at.invariant.so_far
-      (sym c.compare_borrowed.ensures ∙ c.in-Less.is)
-      (c.in_ok-push-in-Less.ensures ∙ ap (λ v. at.out ++ (t, v) ∷ []) (c.get-in-Less.ensures ∙ sym c.get-in-loop-i.ensures));
+          (sym c.compare_borrowed.ensures ∙ c.in-Less.is)
+          (c.in_ok-push-in-Less.ensures ∙ ap (λ v. at.out ++ (t, v) ∷ []) (c.get-in-Less.ensures ∙ sym c.get-in-loop-i.ensures));
     }
 
 pub loop-i-preserved-in-Continue-branch-5 : goal.loop-i-preserved-in-Continue-branch-5
@@ -103,7 +103,7 @@ loop-i-preserved g c =
       fits = at.invariant.fits;
       next = at.invariant.next;
       so_far = term_taken p positive cmp k m a b at.i at.j in_a in_b s n t u c.get-s.ensures.coefficient c.get-s.ensures.monomial t_is u_is at.out c.push-in-Greater.new.self _ at.invariant.so_far
-      (sym c.compare_borrowed.ensures ∙ c.in-Greater.is) c.in_ok-push-in-Greater.ensures;
+          (sym c.compare_borrowed.ensures ∙ c.in-Greater.is) c.in_ok-push-in-Greater.ensures;
     }
 
 pub returns-clause-ordered : goal.returns-clause-ordered

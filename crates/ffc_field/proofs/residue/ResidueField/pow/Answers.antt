@@ -20,8 +20,8 @@ loop-rest-preserved g c =
     ]
     in record {
       power = ap₂ (λ z s. z * s ^ (n / 2) % p) digit c.mul-square.ensures
-      ∙ square_and_multiply p y x n
-      ∙ c.loop-rest.invariant.power;
+          ∙ square_and_multiply p y x n
+          ∙ c.loop-rest.invariant.power;
       some = omega arith;
     }
 
