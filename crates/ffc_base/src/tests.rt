@@ -69,24 +69,47 @@ fn writes_fail_by_number(rt: HostRuntime) -> Result<(), Fail> {
     Ok(())
 }
 
+/// Opens the content of a name where one is given, and reads four bytes. It answers whether it was opened.
+fn open_and_read<S: NamedSource>(
+    source: &mut S,
+    name: Option<&str>,
+    seen: &mut Vec<u8>,
+) -> Result<(bool, Result<usize, Failed>), AllocError> {
+    let opened = match name {
+        Some(name) => source.open_named(name).is_ok(),
+        None => false,
+    };
+    Ok((opened, read_four(source, seen)?))
+}
+
 #[test]
 fn names_begin_anew(rt: HostRuntime) -> Result<(), Fail> {
     let mut seen = Vec::new(rt.alloc());
     let mut source = MemSource::new(b"abc".to_vec(rt.alloc())?, 4, [2].to_vec(rt.alloc())?);
-    assert_eq!(rt; read_four(&mut source, &mut seen)?, Ok(3));
-    assert_eq!(rt; source.open_named("name"), Err(WriteStop::Failed));
-    assert_eq!(rt; read_four(&mut source, &mut seen)?, Ok(0));
-    assert_eq!(rt; source.open_named("name"), Ok(()));
-    assert_eq!(rt; read_four(&mut source, &mut seen)?, Ok(3));
-
+    let table = [
+        (None, (false, Ok(3))),
+        (Some("name"), (false, Ok(0))),
+        (Some("name"), (true, Ok(3))),
+    ];
+    for (name, answer) in table {
+        assert_eq!(rt; open_and_read(&mut source, name, &mut seen)?, answer);
+    }
     let mut sure = SureSource::new(b"defgh".to_vec(rt.alloc())?);
-    assert_eq!(rt; read_four(&mut sure, &mut seen)?, Ok(4));
-    assert_eq!(rt; sure.open_named("name"), Ok(()));
-    assert_eq!(rt; read_four(&mut sure, &mut seen)?, Ok(4));
-    assert_eq!(rt; read_four(&mut sure, &mut seen)?, Ok(1));
-    assert_eq!(rt; read_four(&mut sure, &mut seen)?, Ok(0));
+    let table = [
+        (None, (false, Ok(4))),
+        (Some("name"), (true, Ok(4))),
+        (None, (false, Ok(1))),
+        (None, (false, Ok(0))),
+    ];
+    for (name, answer) in table {
+        assert_eq!(rt; open_and_read(&mut sure, name, &mut seen)?, answer);
+    }
     assert_eq!(rt; seen.as_slice(), b"abcabcdefgdefgh".as_slice());
+    Ok(())
+}
 
+#[test]
+fn sure_names_begin_anew(rt: HostRuntime) -> Result<(), Fail> {
     let mut sink = SureSink::new(b"old".to_vec(rt.alloc())?);
     assert_eq!(rt; sink.write(b"er"), Ok(()));
     assert_eq!(rt; sink.bytes(), b"older".as_slice());
@@ -95,35 +118,34 @@ fn names_begin_anew(rt: HostRuntime) -> Result<(), Fail> {
     Ok(())
 }
 
+/// A path where no file can be.
+const NOWHERE: &str = "/tmp/ffc_base_no_such_folder/file";
+
+/// A real file is created anew over a longer one, and read, with calls before there is a file and on one that is none.
 #[test]
 fn files(rt: HostRuntime) -> Result<(), Fail> {
     let name = format!(in rt.alloc(); "/tmp/ffc_base_test_{}", process::id(rt.process()))?;
-    let mut sink = FileSink::new(&rt);
-    assert_eq!(rt; sink.write(b"early"), Err(WriteStop::Failed));
-    assert_eq!(rt;
-        sink.create("/tmp/ffc_base_no_such_folder/file"),
-        Err(WriteStop::Failed)
-    );
-    assert_eq!(rt; sink.faults(), 2);
     fs::write(&rt, name.as_str(), "longer than what comes")?;
-    assert_eq!(rt; sink.create(name.as_str()), Ok(()));
-    assert_eq!(rt; sink.write(b"abc"), Ok(()));
-    assert_eq!(rt; sink.write(b"de"), Ok(()));
+    let failed = Err(WriteStop::Failed);
+    let mut sink = FileSink::new(&rt);
+    let early = [sink.write(b"early"), sink.create(NOWHERE)];
+    let written = [sink.create(name.as_str()), sink.write(b"abc"), sink.write(b"de")];
+    assert_eq!(rt; early, [failed, failed]);
+    assert_eq!(rt; written, [Ok(()), Ok(()), Ok(())]);
     assert_eq!(rt; sink.faults(), 2);
 
     let mut seen = Vec::new(rt.alloc());
     let mut source = FileSource::new(&rt);
-    assert_eq!(rt; read_four(&mut source, &mut seen)?, Err(Failed));
-    assert_eq!(rt; source.open_named(name.as_str()), Ok(()));
-    assert_eq!(rt; read_four(&mut source, &mut seen)?, Ok(4));
-    assert_eq!(rt;
-        source.open_named("/tmp/ffc_base_no_such_file"),
-        Err(WriteStop::Failed)
-    );
-    assert_eq!(rt; read_four(&mut source, &mut seen)?, Ok(1));
-    assert_eq!(rt; read_four(&mut source, &mut seen)?, Ok(0));
-    assert_eq!(rt; source.open_named(name.as_str()), Ok(()));
-    assert_eq!(rt; read_four(&mut source, &mut seen)?, Ok(4));
+    let table = [
+        (None, (false, Err(Failed))),
+        (Some(name.as_str()), (true, Ok(4))),
+        (Some(NOWHERE), (false, Ok(1))),
+        (None, (false, Ok(0))),
+        (Some(name.as_str()), (true, Ok(4))),
+    ];
+    for (name, answer) in table {
+        assert_eq!(rt; open_and_read(&mut source, name, &mut seen)?, answer);
+    }
     assert_eq!(rt; seen.as_slice(), b"abcdeabcd".as_slice());
     assert_eq!(rt; source.faults(), 2);
     fs::remove_file(&rt, name.as_str())?;
