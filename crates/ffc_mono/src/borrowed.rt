@@ -7,7 +7,6 @@ ghost use Rattle.ffc_mono.specs.OneProof.{one_proof};
 use crate::mono::Mono;
 use crate::powers::{self, Power};
 use std::alloc::{AllocError, Global};
-use std::hash::{Hash, Hasher};
 
 /// A borrowed monomial, of a `Mono` or in a row. A clause sees its powers, the list of pairs of variable and exponent.
 #[derive(Clone, Copy, Debug)]
@@ -42,18 +41,6 @@ impl<'a> Eq for MonoRef<'a> {
     ghost use Rattle.ffc_mono.specs.EqualityLaws.{same_powers_equivalence};
 
     ghost laws = { same_powers_equivalence (λ m. m.powers.now) };
-}
-
-impl<'a> Hash for MonoRef<'a> {
-    ghost use Rattle.ffc_mono.specs.EqualityLaws.{monomial_hash, monomials_hash_alike};
-
-    ghost hash_input = { λ m. monomial_hash m.powers.now };
-
-    ghost respects_eq = { λ m n same. monomials_hash_alike m.powers.now n.powers.now same };
-
-    fn hash<H: Hasher>(&self, state: &mut H) {
-        self.powers.hash(state);
-    }
 }
 
 impl<'a> MonoRef<'a> {

@@ -90,18 +90,20 @@ fn divisions_over_f5(rt: HostRuntime) -> Result<(), Fail> {
     Ok(())
 }
 
-/// The products are by sympy.
 /// X^2 + 1 is 2 modulo X + 1, and the product of X - 1, X - 2 and X - 1 has four coefficients.
 #[test]
 fn remainders_and_lengths(rt: HostRuntime) -> Result<(), Fail> {
     let alloc = rt.alloc();
     let a = uni::<F5>(alloc, &[1, 0, 1])?;
-    assert!(rt; has(&a.rem(&uni::<F5>(alloc, &[1, 1])?)?, &[2]));
+    let by = uni::<F5>(alloc, &[1, 1])?;
+    assert!(rt; !by.is_zero());
+    assert!(rt; has(&a.rem(&by)?, &[2]));
     let product = Uni::from_roots(alloc, elements::<F5>(alloc, &[1, 2, 1])?.as_slice())?;
     assert!(rt; has(&product, &[3, 0, 1, 1]));
     Ok(())
 }
 
+/// The products are by sympy.
 #[test]
 fn products_over_goldilocks(rt: HostRuntime) -> Result<(), Fail> {
     let table: [(&[u64], &[u64], &[u64]); 3] = [
