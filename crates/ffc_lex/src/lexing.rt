@@ -7,7 +7,7 @@ use crate::faults::{LexFault, LexStop};
 use crate::last_form::LastForm;
 use crate::scanning::{Scanner, first_start_of};
 use crate::tokens::{Form, Token};
-use crate::told::Told;
+use ffc_ghost::GhostText;
 use std::alloc::{AllocError, Global};
 use std::marker::Model;
 
@@ -24,7 +24,7 @@ const MAX_DEAD: usize = 4096;
 pub struct Lexer {
     alloc: Global,
     /// The text so far.
-    told: Told,
+    told: GhostText,
     /// The text without the bytes that were let go.
     window: Vec<u8>,
     scanner: Scanner,
@@ -52,7 +52,7 @@ impl Lexer {
     {
         Lexer {
             alloc,
-            told: Told::new(),
+            told: GhostText::new(),
             window: Vec::new(alloc),
             scanner: Scanner::new(alloc),
             given: 0,

@@ -14,7 +14,6 @@ mod names;
 mod scanning;
 mod texts;
 mod tokens;
-mod told;
 mod words;
 
 pub use faults::{LexFault, LexStop};

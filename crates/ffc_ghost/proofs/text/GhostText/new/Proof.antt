@@ -10,14 +10,14 @@ use denote.Shadow.{pure_i}
 use denote.Steps.{nothing}
 use denote.Triple.Entry.{on_entry}
 use denote.Triple.Walked.{says, ends_at}
-use Rattle.ffc_lex.specs.declared.told.Told.{Told}
-use Rattle.ffc_lex.specs.contracts.told.Told.{the_row as R}
-use Rattle.ffc_lex.specs.contracts.told.Told.new as f
-use Rattle.ffc_lex.proofs.told.Told.new.Statement.{statement}
-use Rattle.ffc_lex.proofs.told.Told.new.Code as code
+use Rattle.ffc_ghost.specs.declared.text.GhostText.{GhostText}
+use Rattle.ffc_ghost.specs.contracts.text.GhostText.{the_row as R}
+use Rattle.ffc_ghost.specs.contracts.text.GhostText.new as f
+use Rattle.ffc_ghost.proofs.text.GhostText.new.Statement.{statement}
+use Rattle.ffc_ghost.proofs.text.GhostText.new.Code as code
 
-abbrev nothing_told : Told
-nothing_told = record { bytes = [] }
+abbrev no_text : GhostText
+no_text = record { bytes = [] }
 
 pub new_spec : {M : Type 1} → statement M
 new_spec 𝓤 𝓛 𝓜 𝓡 wired =
@@ -28,6 +28,6 @@ new_spec 𝓤 𝓛 𝓜 𝓡 wired =
     enter ! _ _ _ _ _ $ alloc_all ! (λ l. pass_all ! refl tt $
     sets ! (agg ! (no_more !)) refl (tt, tt) $
     returns ! (look_at ! 0 refl) $ free_all ! refl $
-    pure_i ! (R.own_val nothing_told (vstruct vnil ∷ [])) ((λ vss. (tt, tt)), tt) ((tt, (refl, tt)), tt) $
-    suffices ! _ (ends_at 𝓛 f.ended tt c ((κs, qs, bounds, a, tt), g) (vstruct vnil) nothing_told tt tt) $ says ! refl $
+    pure_i ! (R.own_val no_text (vstruct vnil ∷ [])) ((λ vss. (tt, tt)), tt) ((tt, (refl, tt)), tt) $
+    suffices ! _ (ends_at 𝓛 f.ended tt c ((κs, qs, bounds, a, tt), g) (vstruct vnil) no_text tt tt) $ says ! refl $
     nothing ! $ join ! $ nothing ! $ done !))

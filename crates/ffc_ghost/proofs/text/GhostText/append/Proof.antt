@@ -16,11 +16,11 @@ use denote.Signature.{plain}
 use denote.Slice.{ShrSlice, shr_slice_vals, shr_slice_Tells}
 use denote.Steps.{opens, closes}
 use denote.Triple.Walked.{says, Stays, stay_ref, stay_none_slice, Goes-ref, Goes-none_slice, ends_at}
-use Rattle.ffc_lex.specs.declared.told.Told.{Told}
-use Rattle.ffc_lex.specs.contracts.told.Told.{the_row as R}
-use Rattle.ffc_lex.specs.contracts.told.Told.append as f
-use Rattle.ffc_lex.proofs.told.Told.append.Statement.{statement}
-use Rattle.ffc_lex.proofs.told.Told.append.Code as code
+use Rattle.ffc_ghost.specs.declared.text.GhostText.{GhostText}
+use Rattle.ffc_ghost.specs.contracts.text.GhostText.{the_row as R}
+use Rattle.ffc_ghost.specs.contracts.text.GhostText.append as f
+use Rattle.ffc_ghost.proofs.text.GhostText.append.Statement.{statement}
+use Rattle.ffc_ghost.proofs.text.GhostText.append.Code as code
 
 abbrev stayed : Stays f.ended.signature.params f.ended.kept
 stayed = (stay_ref (0 ∷ []) tt (plain (λ _. R)), (stay_none_slice (1 ∷ []) tt (plain (λ _. u8)) yes, tt))
@@ -33,7 +33,7 @@ append_spec 𝓤 𝓛 𝓜 𝓡 wired =
     (λ κs. (mut_vals, (shr_slice_vals, tt))) (λ κs. (mut_Tells (named 0) κs.0 R, (shr_slice_Tells (named 1) κs.1.0 u8, tt))) (λ κs qs bounds a g are.
     let b = a.0.ref_ptr.0 in let o = a.0.ref_ptr.1 in let told = a.0.now in let piece = a.1.0 in
     let vs = mut_vals a.0 in let ps = shr_slice_vals piece in
-    let more : Told = record { bytes = told.bytes ++ piece.now } in
+    let more : GhostText = record { bytes = told.bytes ++ piece.now } in
     qed 𝓛 (((‵ (flft κs.0 qs.0) ⊛ (‵ (flft κs.1.0 qs.1.0) ⊛ ‵ ftrue)) ⊛ ‵ (owns (MutRef (named 0) κs.0 R ∷ ShrSlice (named 1) κs.1.0 u8 ∷ []) a (vs, (ps, tt)))) ∷ raw ((c κs a).requires g) ∷ []) ∵
     keep ! (0 ∷ []) $ split ! $ split ! $ move ! (2 ∷ []) $ fsplit ! $ fsplit3 ! $ drop ! $ move ! (0 ∷ 1 ∷ 3 ∷ []) $
     enter ! _ _ _ _ _ $ alloc_all ! (λ l. pass_all ! refl ((tt, tt), ((tt, (tt, (record { fits = are.1.0.0.1.0 }, tt))), tt)) $
