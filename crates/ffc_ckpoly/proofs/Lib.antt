@@ -7,3 +7,6 @@ pub mod PowerLemmas
 pub mod SortedLemmas
 pub mod Sums
 pub mod Values
+pub mod UnivariateLemmas
+pub mod DegreeLemmas
+pub mod PartLemmas

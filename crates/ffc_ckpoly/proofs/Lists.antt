@@ -58,3 +58,8 @@ sorted_drop value p cmp (suc n) (t ∷ ts) h = sorted_drop value p cmp n ts h.5
 -- all that is left from a place on
 pub whole_tail : {A : Type 0} (i : ℕ) (xs : List A) → take (length xs - i) (drop i xs) ≡ drop i xs
 whole_tail i xs = take_all (length xs - i) (drop i xs) (omega (arith, length-drop i xs))
+
+-- the same where the place behind the element is known
+pub left_before : {A : Type 0} (xs : List A) (end : ℕ) (x : A) → 0 < end → end ≤ length xs → x ≡ get_or xs (end - 1) x → drop (end - 1) xs ≡ x ∷ drop end xs
+left_before xs end x some within e =
+    left_at xs (end - 1) x (omega arith) e ∙ ap (λ k. x ∷ drop k xs) (let same : end - 1 + 1 ≡ end = omega arith in same)

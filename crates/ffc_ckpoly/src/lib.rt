@@ -3,12 +3,15 @@
 
 mod buffer;
 mod merge;
+mod nodes;
 mod poly;
 mod powers;
 mod products;
 mod reading;
 #[cfg(test)]
 mod tests;
+mod univariate;
 
+pub use nodes::{CkStop, NodePolys, ck_poly_of};
 pub use poly::CkPoly;
 pub use products::CkSum;

@@ -3,6 +3,7 @@ ghost use Rattle.std.specs.Prelude.{◌≡◌, ◌≢◌, ℕ, ◌+◌, ◌^◌,
 ghost use Rattle.ffc_field.specs.Modular.{add_mod, sub_mod, mul_mod};
 ghost use Rattle.ffc_ring.specs.Polynomial.{AreTerms, SamePolynomial, product, scaled, difference, poly_value};
 ghost use Rattle.ffc_trees.specs.Normal.{IsNormal, degree_of};
+ghost use Rattle.ffc_trees.specs.TreeLines.{is_nonzero_constant};
 ghost use Rattle.ffc_ckpoly.specs.Flat.{cut, Parts, HaveMonomials, as_written};
 ghost use Rattle.ffc_ckpoly.specs.Sorted.{residues, IsSorted, point_of};
 
@@ -73,6 +74,15 @@ impl<F: Field> CkPoly<F> {
             buffer.push(term.0, term.1)?;
         }
         Ok(CkPoly { buffer })
+    }
+
+    /// The same polynomial once more.
+    pub(crate) fn copied(&self, alloc: Global) -> Result<Self, AllocError>
+        ensures same { IfOk result (λ r. r ≡ self.now) }
+        ensures normal { IfOk result (λ r. IsNormal F.ORDER r) }
+    {
+        let terms = self.borrowed()?;
+        CkPoly::packed(alloc, terms.as_slice())
     }
 
     /// The sum of the terms in a buffer.
@@ -148,6 +158,13 @@ impl<F: Field> CkPoly<F> {
         let right = other.borrowed()?;
         let products = products_of(alloc, left.as_slice(), right.as_slice())?;
         CkPoly::sum_in(alloc, &products)
+    }
+
+    /// Whether it is a constant other than 0. It costs nothing.
+    pub fn is_nonzero_constant(&self) -> bool
+        ensures { result ≡ is_nonzero_constant F.ORDER self.now }
+    {
+        self.terms() == 1 && self.buffer.powers.is_empty()
     }
 
     /// How many terms it has.

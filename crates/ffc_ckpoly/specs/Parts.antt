@@ -1,0 +1,33 @@
+-- Polynomials of nodes from those of their parts: the nodes whose polynomials are added or multiplied.
+use Rattle.std.specs.Prelude.{ℕ, ◌*◌, ◌≤◌, List, [], ◌∷◌, ◌++◌, IfSome}
+use Rattle.std.specs.Ordering.{nat_cmp}
+use Rattle.std.specs.BTreeMap.{BTreeMap, get}
+use Rattle.ffc_ring.specs.Polynomial.{Terms, scaled}
+use Rattle.ffc_term.specs.declared.node.Node.{Node}
+use Rattle.ffc_term.specs.declared.node.Node.TheVariants.{Add, Mul, Neg, Bitsum}
+use Rattle.ffc_term.specs.Tables.{IsFieldAt}
+use Rattle.ffc_term.specs.Measuring.{degree_at}
+use Rattle.ffc_trees.specs.NodePolynomials.{poly_in, poly_at}
+use Rattle.ffc_trees.specs.Same.{IsSameLine}
+
+-- the parts of a node
+abbrev pub parts_of : Node → List ℕ
+parts_of (Add ids) = ids
+parts_of (Mul ids) = ids
+parts_of (Neg a) = a ∷ []
+parts_of (Bitsum ids) = ids
+parts_of _ = []
+
+-- w times the first, w*r times the second, w*r*r times the third, and so on
+abbrev pub weighted : ℕ → ℕ → List Terms → List ℕ → Terms
+weighted w r polys [] = []
+weighted w r polys (id ∷ ids) = scaled w (poly_in polys id) ++ weighted (w * r) r polys ids
+
+-- a field node whose polynomial is within the limit on degrees
+pub record IsWithin (nodes : List Node) (p id : ℕ) : Type 0 where
+  pub field : IsFieldAt nodes p id
+  pub low : degree_at nodes id ≤ 255
+
+-- each polynomial that is kept is that of its node
+abbrev pub AreKnown : ℕ → List Node → BTreeMap ℕ Terms → Type 0
+AreKnown p nodes known = (id : ℕ) → IfSome (get nat_cmp known id) (λ f. IsSameLine p f (poly_at nodes id))

@@ -1,0 +1,7 @@
+pub mod SumLemmas
+pub mod RowLemmas
+pub mod ChainLemmas
+pub mod CaseLemmas
+pub mod WalkLemmas
+pub mod RangeLemmas
+pub mod FirstLemmas

@@ -1,0 +1,72 @@
+use Rattle.std.proofs.Common.{◌≡◌, ◌&&◌, map, false, true, ℕ, Result, Ok, sym, ap, ap₂, ◌∙◌, refl}
+use Rattle.ffc_uni.specs.Univariate.{Coefficients}
+use Rattle.ffc_trees.specs.TreeLines.{are_below, is_same}
+use Rattle.ffc_cktree.specs.Factors.{factor_of}
+use Rattle.ffc_cktree.proofs.SumLemmas.{rule_is}
+use Rattle.ffc_cktree.proofs.ChainLemmas.{long_quotient, long_remainder, no_residues, no_identity, step_kept, identity_tested}
+use Rattle.ffc_cktree.proofs.chain.step.Goals as goal
+use Rattle.ffc_cktree.proofs.chain.step.Goals.{then-quotient-gt-MOST_COEFFICIENTS-via-then-quotient-gt-MOST_COEFFICIENTS, then-quotient-gt-MOST_COEFFICIENTS-via-else-quotient-gt-MOST_COEFFICIENTS+then-remainder-gt-MOST_COEFFICIENTS, then-not-are_below-via-then-not-are_below, then-not-are_below-via-else-not-are_below+then-not-are_below-2}
+
+pub returns-then-quotient-gt-MOST_COEFFICIENTS-clause-broken : goal.returns-then-quotient-gt-MOST_COEFFICIENTS-clause-broken
+returns-then-quotient-gt-MOST_COEFFICIENTS-clause-broken g c rule e =
+    let p = g.F.Field.ORDER in
+    let f = map g.F.Field.value c.args.modulus.now in
+    let r = map g.F.Field.value c.args.power.now in
+    elim c.then-quotient-gt-MOST_COEFFICIENTS.branch [
+      | then-quotient-gt-MOST_COEFFICIENTS-via-then-quotient-gt-MOST_COEFFICIENTS w ↦
+          rule_is 11 rule _ _ (long_quotient p f (factor_of c.args.factor) r c.args.quotient.now c.args.remainder.now w.if-quotient-gt-MOST_COEFFICIENTS.true) e refl
+      | then-quotient-gt-MOST_COEFFICIENTS-via-else-quotient-gt-MOST_COEFFICIENTS+then-remainder-gt-MOST_COEFFICIENTS w ↦
+          rule_is 11 rule _ _ (long_remainder p f (factor_of c.args.factor) r c.args.quotient.now c.args.remainder.now w.if-quotient-gt-MOST_COEFFICIENTS.false w.if-remainder-gt-MOST_COEFFICIENTS.true) e refl
+    ]
+
+pub returns-then-not-are_below-clause-broken : goal.returns-then-not-are_below-clause-broken
+returns-then-not-are_below-clause-broken g c rule e =
+    let p = g.F.Field.ORDER in
+    let f = map g.F.Field.value c.args.modulus.now in
+    let r = map g.F.Field.value c.args.power.now in
+    let quotient = c.args.quotient.now in
+    let remainder = c.args.remainder.now in
+    elim c.then-not-are_below.branch [
+      | then-not-are_below-via-then-not-are_below w ↦
+          let none : are_below p quotient ≡ false = ap (λ q. are_below q quotient) (sym c.ORDER.ensures) ∙ sym w.if-not-are_below.ensures in
+          rule_is 6 rule _ _ (no_residues p f (factor_of c.args.factor) r quotient remainder c.if-quotient-gt-MOST_COEFFICIENTS.false c.if-remainder-gt-MOST_COEFFICIENTS.false
+          (ap (λ b. b && are_below p remainder) none)) e refl
+      | then-not-are_below-via-else-not-are_below+then-not-are_below-2 w ↦
+          let all : are_below p quotient ≡ true = ap (λ q. are_below q quotient) (sym c.ORDER.ensures) ∙ sym w.if-not-are_below.ensures in
+          let none : are_below p remainder ≡ false = ap (λ q. are_below q remainder) (sym w.ORDER-else-not-are_below.ensures) ∙ sym w.if-not-are_below-2.ensures in
+          rule_is 6 rule _ _ (no_residues p f (factor_of c.args.factor) r quotient remainder c.if-quotient-gt-MOST_COEFFICIENTS.false c.if-remainder-gt-MOST_COEFFICIENTS.false
+          (ap₂ (λ a b. a && b) all none)) e refl
+    ]
+
+pub returns-then-not-are_same-clause-broken : goal.returns-then-not-are_same-clause-broken
+returns-then-not-are_same-clause-broken g c rule e =
+    let value = g.F.Field.value in
+    let p = g.F.Field.ORDER in
+    let f = map value c.args.modulus.now in
+    let r = map value c.args.power.now in
+    let quotient = c.args.quotient.now in
+    let remainder = c.args.remainder.now in
+    let first : are_below p quotient ≡ true = ap (λ q. are_below q quotient) (sym c.ORDER.ensures) ∙ sym c.if-not-are_below.ensures in
+    let second : are_below p remainder ≡ true = ap (λ q. are_below q remainder) (sym c.ORDER-else-not-are_below.ensures) ∙ sym c.if-not-are_below-2.ensures in
+    let tested = identity_tested p f r quotient remainder (map value c.in_ok-left.left.items) (map value c.in_ok-right.right.items) (map value c.as_slice.result.now) (map value c.as_slice-2.result.now) (factor_of c.args.factor)
+    c.in_ok-left.ensures c.in_ok-right.ensures.sum (ap (map value) c.as_slice.ensures.value ∙ c.in_ok-quotient.ensures) (ap (map value) c.as_slice-2.ensures.value ∙ c.in_ok-rest.ensures) in
+    let same = ap₂ (λ a b. is_same p (map value a) (map value b)) (sym c.as_slice-3.ensures.value) (sym c.as_slice-4.ensures.value) in
+    rule_is 6 rule _ _ (no_identity p f (factor_of c.args.factor) r quotient remainder c.if-quotient-gt-MOST_COEFFICIENTS.false c.if-remainder-gt-MOST_COEFFICIENTS.false
+    (ap₂ (λ a b. a && b) first second) (sym tested ∙ same ∙ sym c.if-not-are_same.ensures)) e refl
+
+pub returns-clause-kept : goal.returns-clause-kept
+returns-clause-kept g c =
+    let value = g.F.Field.value in
+    let p = g.F.Field.ORDER in
+    let f = map value c.args.modulus.now in
+    let r = map value c.args.power.now in
+    let quotient = c.args.quotient.now in
+    let remainder = c.args.remainder.now in
+    let first : are_below p quotient ≡ true = ap (λ q. are_below q quotient) (sym c.ORDER.ensures) ∙ sym c.if-not-are_below.ensures in
+    let second : are_below p remainder ≡ true = ap (λ q. are_below q remainder) (sym c.ORDER-else-not-are_below.ensures) ∙ sym c.if-not-are_below-2.ensures in
+    let tested = identity_tested p f r quotient remainder (map value c.in_ok-left.left.items) (map value c.in_ok-right.right.items) (map value c.as_slice.result.now) (map value c.as_slice-2.result.now) (factor_of c.args.factor)
+    c.in_ok-left.ensures c.in_ok-right.ensures.sum (ap (map value) c.as_slice.ensures.value ∙ c.in_ok-quotient.ensures) (ap (map value) c.as_slice-2.ensures.value ∙ c.in_ok-rest.ensures) in
+    let same = ap₂ (λ a b. is_same p (map value a) (map value b)) (sym c.as_slice-3.ensures.value) (sym c.as_slice-4.ensures.value) in
+    step_kept p f (factor_of c.args.factor) r quotient remainder c.if-quotient-gt-MOST_COEFFICIENTS.false c.if-remainder-gt-MOST_COEFFICIENTS.false
+    (ap₂ (λ a b. a && b) first second) (sym tested ∙ same ∙ sym c.if-not-are_same.ensures)
+    ∙ ap (λ (k : Coefficients). let q : Result Coefficients ℕ = Ok k in q) (sym c.in_ok-rest.ensures)

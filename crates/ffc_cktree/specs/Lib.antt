@@ -1,0 +1,4 @@
+pub mod Lines
+pub mod Factors
+pub mod Waiting
+pub mod Walking

@@ -1,0 +1,15 @@
+//! The case trees of lemmas, judged line by line.
+#![tactic(auto)]
+
+mod cases;
+mod chain;
+mod lemma;
+mod rows;
+mod stop;
+mod sums;
+#[cfg(test)]
+mod tests;
+mod walk;
+
+pub use lemma::{Kept, lemma_tree};
+pub use stop::{BrokenLine, TreeStop};
