@@ -1,9 +1,11 @@
 //! The assertions and assumptions that a refutation uses.
 #![tactic(auto)]
 
+mod checking;
 mod cores;
 mod marks;
 #[cfg(test)]
 mod tests;
 
+pub use checking::{CoreStop, check_core};
 pub use cores::core_of;

@@ -1,0 +1,127 @@
+-- Assumed literals by their marks, and hints one after another.
+use Rattle.std.proofs.Common.{◌≡◌, ℕ, suc, ◌+◌, ◌-◌, ◌*◌, ◌<◌, ◌==◌, ◌||◌, ◌&&◌, not, Bool, true, false, cond, List, [], ◌∷◌, length, reverse, drop, Option, Some, None, slice_get, option_map, option_and_then, refl, sym, ap, ap₂, ◌∙◌, subst, arith}
+use Rattle.std.specs.List.{list_any, list_all}
+use Rattle.std.proofs.lemmas.Bool.Decides.{nat_tests}
+use Rattle.std.proofs.lemmas.List.{reverse-append, length-drop}
+use Rattle.std.proofs.lemmas.List.Folds.{list_any-append}
+use Rattle.ffc_clause.specs.Clauses.{Literal, Clause, same_literal, is_among}
+use Rattle.ffc_clause.specs.Hints.{open_literals, only_literal, is_closed, is_contradiction}
+use Rattle.ffc_check.specs.Assumed.{place_of}
+use Rattle.ffc_check.specs.declared.hints.Opening.{Opening}
+use Rattle.ffc_check.specs.declared.hints.Opening.TheVariants as is
+use Rattle.ffc_check.specs.Opening.{opening_of}
+
+-- Marks
+
+-- literals are one where they have one place
+same_place : (a b : Bool) (m n : ℕ) → same_literal (a, m) (b, n) ≡ (place_of (b, n) == place_of (a, m))
+same_place true true m n = same_odd m n
+  where
+    same_odd : (x y : ℕ) → (x == y) ≡ (2 * y + 1 == 2 * x + 1)
+    same_odd x y = grind (arith, nat_tests)
+same_place true false m n = other m n
+  where
+    other : (x y : ℕ) → false ≡ (2 * y + 0 == 2 * x + 1)
+    other x y = grind (arith, nat_tests)
+same_place false true m n = other m n
+  where
+    other : (x y : ℕ) → false ≡ (2 * y + 1 == 2 * x + 0)
+    other x y = grind (arith, nat_tests)
+same_place false false m n = same_even m n
+  where
+    same_even : (x y : ℕ) → (x == y) ≡ (2 * y + 0 == 2 * x + 0)
+    same_even x y = grind (arith, nat_tests)
+
+or_turned : (a b : Bool) → (a || b) ≡ (b || a)
+or_turned true true = refl
+or_turned true false = refl
+or_turned false true = refl
+or_turned false false = refl
+
+or_false : (b : Bool) → (b || false) ≡ b
+or_false true = refl
+or_false false = refl
+
+-- among literals in turned order
+among_reverse : (xs : List Literal) (l : Literal) → is_among (reverse xs) l ≡ list_any (λ x. place_of x == place_of l) xs
+among_reverse [] l = refl
+among_reverse (x ∷ xs) l =
+    ap (λ ys. is_among ys l) (reverse-append (x ∷ []) xs) ∙ list_any-append (same_literal l) (reverse xs) (x ∷ [])
+    ∙ ap₂ (λ (a b : Bool). a || b) (among_reverse xs l) (or_false (same_literal l x) ∙ same_place l.0 x.0 l.1 x.1)
+    ∙ or_turned (list_any (λ y. place_of y == place_of l) xs) (place_of x == place_of l)
+
+never_both : (b : Bool) → (b && not b) ≡ false
+never_both true = refl
+never_both false = refl
+
+-- after all marks were cleared
+pub all_cleared : (xs : List Literal) (l : Literal) (old new : Bool) → old ≡ is_among (reverse xs) l → new ≡ (old && not (list_any (λ x. place_of x == place_of l) xs)) → new ≡ false
+all_cleared xs l old new was cleared =
+    cleared ∙ ap (λ b. b && not (list_any (λ x. place_of x == place_of l) xs)) (was ∙ among_reverse xs l) ∙ never_both (list_any (λ x. place_of x == place_of l) xs)
+
+-- Hints
+
+-- what an opening says of the open literals
+abbrev Says : Opening → List Literal → Type 0
+Says is.Closed ls = ls ≡ []
+Says (is.One l) ls = (only_literal ls ≡ Some l) × (is_closed (Some ls) ≡ false)
+Says is.Several ls = (only_literal ls ≡ None) × (is_closed (Some ls) ≡ false)
+
+says : (ls : List Literal) → Says (opening_of ls) ls
+says [] = refl
+says (l ∷ ls) = by_test (list_all (same_literal l) ls) refl
+  where
+    by_test : (b : Bool) → list_all (same_literal l) ls ≡ b → Says (cond (list_all (same_literal l) ls) (is.One l) is.Several) (l ∷ ls)
+    by_test true e = subst (λ o. Says o (l ∷ ls)) (sym (ap (λ b. cond b (is.One l) is.Several) e)) (ap (λ b. cond b (Some l) None) e, refl)
+    by_test false e = subst (λ o. Says o (l ∷ ls)) (sym (ap (λ b. cond b (is.One l) is.Several) e)) (ap (λ b. cond b (Some l) None) e, refl)
+
+module _ (clauses : List Clause) (assumed : List Literal) (h : ℕ) (clause : Clause) (at : slice_get clauses h ≡ Some clause) where
+  said : (o : Opening) → o ≡ opening_of (open_literals assumed clause) → Says o (open_literals assumed clause)
+  said o e = subst (λ p. Says p (open_literals assumed clause)) (sym e) (says (open_literals assumed clause))
+
+  opened_is : option_map (open_literals assumed) (slice_get clauses h) ≡ Some (open_literals assumed clause)
+  opened_is = ap (option_map (open_literals assumed)) at
+
+  -- what follows by the one open literal, if there is one
+  next : ℕ → List ℕ → Option Literal → Bool
+  next g hints None = false
+  next g hints (Some l) = is_contradiction clauses (l ∷ assumed) (g ∷ hints)
+
+  two_hints : (g : ℕ) (hints : List ℕ) (o : Option Literal) → only_literal (open_literals assumed clause) ≡ o → is_contradiction clauses assumed (h ∷ g ∷ hints) ≡ next g hints o
+  unfolding is_contradiction next
+  two_hints g hints o e =
+      ap (λ (found : Option Literal). elim found [ None ↦ false | Some l ↦ is_contradiction clauses (l ∷ assumed) (g ∷ hints) ]) (ap (option_and_then only_literal) opened_is ∙ e)
+      ∙ by_cases o
+    where
+      by_cases : (found : Option Literal) → elim found [ None ↦ false | Some l ↦ is_contradiction clauses (l ∷ assumed) (g ∷ hints) ] ≡ next g hints found
+      by_cases None = refl
+      by_cases (Some l) = refl
+
+  pub closed_step : (hints : List ℕ) → is.Closed ≡ opening_of (open_literals assumed clause) → is_contradiction clauses assumed (h ∷ hints) ≡ (length hints == 0)
+  unfolding is_contradiction next
+  closed_step [] e = ap is_closed (opened_is ∙ ap Some (said is.Closed e))
+  closed_step (g ∷ hints) e =
+      two_hints g hints None (ap only_literal (said is.Closed e)) ∙ no_length (length hints)
+    where
+      no_length : (n : ℕ) → false ≡ (suc n == 0)
+      no_length n = grind (arith, nat_tests)
+
+  pub several_step : (hints : List ℕ) → is.Several ≡ opening_of (open_literals assumed clause) → is_contradiction clauses assumed (h ∷ hints) ≡ false
+  unfolding is_contradiction next
+  several_step [] e = ap is_closed opened_is ∙ (said is.Several e).1
+  several_step (g ∷ hints) e = two_hints g hints None (said is.Several e).0
+
+  pub one_step : (hints : List ℕ) (l : Literal) → is.One l ≡ opening_of (open_literals assumed clause) → is_contradiction clauses assumed (h ∷ hints) ≡ is_contradiction clauses (l ∷ assumed) hints
+  unfolding is_contradiction next
+  one_step [] l e = ap is_closed opened_is ∙ (said (is.One l) e).1
+  one_step (g ∷ hints) l e = two_hints g hints (Some l) (said (is.One l) e).0
+
+pub last_hint : (hints : List ℕ) (i : ℕ) → i < length hints → (length (drop (i + 1) hints) == 0) ≡ (i + 1 == length hints)
+last_hint hints i inside = ap (λ n. n == 0) (length-drop (i + 1) hints) ∙ same_end (length hints) i inside
+  where
+    same_end : (n j : ℕ) → j < n → (n - (j + 1) == 0) ≡ (j + 1 == n)
+    same_end n j h = grind (arith, nat_tests)
+
+pub no_hints : (clauses : List Clause) (assumed : List Literal) → is_contradiction clauses assumed [] ≡ false
+unfolding is_contradiction
+no_hints clauses assumed = refl

@@ -1,0 +1,10 @@
+pub mod Judged
+pub mod Answers
+pub mod Assigning
+pub mod Arena
+pub mod Assumed
+pub mod Opening
+pub mod Patterns
+pub mod Gates
+pub mod Giving
+pub mod Lengths

@@ -1,0 +1,82 @@
+//! Entries by cases: every assignment of a check's constants makes something false that is in force.
+ghost use Rattle.std.specs.Prelude.{◌≡◌, ◌<◌, length, IfOk};
+ghost use Rattle.ffc_term.specs.Checks.{IsClosed, AreNodesOf, AreConstantsOf};
+ghost use Rattle.ffc_term.specs.Tables.{constant_count};
+ghost use Rattle.ffc_rules.specs.Assignments.{has_model_below};
+ghost use Rattle.ffc_rules.specs.Entries.{limits, cases_fault};
+ghost use Rattle.ffc_rules.specs.Cones.{span};
+ghost use Rattle.ffc_rules.specs.Laws.{IsValid};
+ghost use Rattle.ffc_check.specs.Answers.{Answers};
+ghost use Rattle.ffc_check.specs.Judged.{node_check};
+
+use crate::assigning::{blank, give_digits, is_model};
+use crate::stop::{CheckStop, breaks};
+use ffc_term::{Assignment, Check, NodeId, Value};
+use std::alloc::{AllocError, Global};
+
+/// The most work of a check that is gone through: the number of its assignments times that of its nodes.
+const MOST_WORK: u128 = 16_777_216;
+
+/// Whether one of the first assignments, so many, makes all true that is in force. It takes no memory.
+fn search(
+    check: &Check,
+    nodes: &[NodeId],
+    constants: &[NodeId],
+    count: u64,
+    values: Vec<Value>,
+    out: &mut [Value],
+) -> bool
+    requires valid { IsValid (node_check check.now) }
+    requires nodes { AreNodesOf check.now.table.now check.now.in_force.now nodes.now }
+    requires closed { IsClosed check.now.table.now nodes.now }
+    requires constants { AreConstantsOf check.now.table.now check.now.in_force.now constants.now }
+    requires values { length values.items ≡ constant_count check.now.table.now }
+    requires long { length out.old ≡ length check.now.table.now }
+    ensures { result ≡ has_model_below check.now.table.now check.now.in_force.now count }
+{
+    let mut values = values;
+    for number in 0..count {
+        give_digits(check.table, constants, number, values.as_mut_slice());
+        let assignment = Assignment::new(values);
+        if is_model(check, nodes, &assignment, out) {
+            return true;
+        }
+        values = assignment.into_vec();
+    }
+    false
+}
+
+/// The same, with memory for the values of constants and nodes, which is taken before the first assignment.
+fn has_model(alloc: Global, check: &Check, count: u64) -> Result<bool, AllocError>
+    requires valid { IsValid (node_check check.now) }
+    ensures { IfOk result (λ found. found ≡ has_model_below check.now.table.now check.now.in_force.now count) }
+{
+    let nodes = check.table.nodes_of(check.in_force)?;
+    let constants = check.table.constants_of(check.in_force)?;
+    let values = blank(alloc, check.table)?;
+    let mut out = vec![in alloc; Value::Bool(false); check.table.len() as usize]?;
+    Ok(search(
+        check,
+        nodes.as_slice(),
+        constants.as_slice(),
+        count,
+        values,
+        out.as_mut_slice(),
+    ))
+}
+
+/// Judges an entry by cases. It costs one evaluation of the check's nodes for each assignment of its constants.
+pub fn check_cases(alloc: Global, check: &Check, line: u64) -> Result<(), CheckStop>
+    requires valid { IsValid (node_check check.now) }
+    ensures { Answers result (cases_fault limits (node_check check.now) line) }
+{
+    let measures = check.table.measures(check.in_force)?;
+    if measures.work > MOST_WORK {
+        return Err(breaks(11, line));
+    }
+    if has_model(alloc, check, measures.span as u64)? {
+        Err(breaks(10, line))
+    } else {
+        Ok(())
+    }
+}
