@@ -1,7 +1,0 @@
-use Rattle.std.proofs.Common.{◌≡◌, take}
-use Rattle.ffc_smt.specs.Numbers as numbers
-use Rattle.ffc_elab.specs.Numbers.{capped}
-use Rattle.ffc_elab.proofs.numbers.number_of.Given as goal
-
-abbrev pub invariant-loop-digit : goal.invariant-loop-digit
-invariant-loop-digit l = l.number ≡ capped (numbers.number_of (take l.digit-index l.digits))

@@ -1,0 +1,4 @@
+pub mod MoveLemmas
+pub mod RunLemmas
+pub mod StepLemmas
+pub mod SampleLemmas

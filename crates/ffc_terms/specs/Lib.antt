@@ -1,0 +1,9 @@
+pub mod Slots
+pub mod Codes
+pub mod Answers
+pub mod SortSteps
+pub mod Callees
+pub mod Leaves
+pub mod Places
+pub mod Walking
+pub mod TermAnswers

@@ -1,0 +1,51 @@
+//! The faults of commands.
+use std::alloc::{AllocError, AllocFailed};
+
+/// A command's fault: where it is, and which.
+#[derive(Clone, Copy, Debug, PartialEq, Eq)]
+pub struct ScriptFault {
+    pub line: u64,
+    pub column: u64,
+    pub code: u8,
+}
+
+/// Why a command was not taken.
+#[derive(Clone, Copy, Debug, PartialEq, Eq)]
+pub enum TakeStop {
+    Fault(ScriptFault),
+    /// Out of memory.
+    Memory,
+}
+
+impl From<ScriptFault> for TakeStop {
+    ghost use Rattle.std.specs.Prelude.{◌≡◌};
+    ghost use Rattle.ffc_words.specs.declared.faults.TakeStop.TheVariants.{Fault};
+
+    ghost from_gives = { λ f e. e ≡ Fault f };
+
+    fn from(fault: ScriptFault) -> TakeStop {
+        TakeStop::Fault(fault)
+    }
+}
+
+impl From<AllocError> for TakeStop {
+    ghost use Rattle.std.specs.Prelude.{◌≡◌};
+    ghost use Rattle.ffc_words.specs.declared.faults.TakeStop.TheVariants.{Memory};
+
+    ghost from_gives = { λ _ e. e ≡ Memory };
+
+    fn from(_error: AllocError) -> TakeStop {
+        TakeStop::Memory
+    }
+}
+
+impl<T: Drop> From<AllocFailed<T>> for TakeStop {
+    ghost use Rattle.std.specs.Prelude.{◌≡◌};
+    ghost use Rattle.ffc_words.specs.declared.faults.TakeStop.TheVariants.{Memory};
+
+    ghost from_gives = { λ _ e. e ≡ Memory };
+
+    fn from(_error: AllocFailed<T>) -> TakeStop {
+        TakeStop::Memory
+    }
+}
