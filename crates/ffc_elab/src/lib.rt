@@ -1,0 +1,25 @@
+//! The elaborator of scripts: from forms to commands and nodes.
+#![tactic(auto)]
+
+mod answers;
+mod assertions;
+mod commands;
+mod constants;
+mod context;
+mod declaring;
+mod definitions;
+mod dispatch;
+mod items;
+mod levels;
+mod orders;
+mod plain;
+mod plain_changes;
+mod sort_names;
+mod sorted_terms;
+mod store;
+mod taken;
+#[cfg(test)]
+mod tests;
+
+pub use answers::{Asked, Command, Declared, Effect};
+pub use context::Context;
