@@ -129,7 +129,11 @@ fn files(rt: HostRuntime) -> Result<(), Fail> {
     let failed = Err(WriteStop::Failed);
     let mut sink = FileSink::new(&rt);
     let early = [sink.write(b"early"), sink.create(NOWHERE)];
-    let written = [sink.create(name.as_str()), sink.write(b"abc"), sink.write(b"de")];
+    let written = [
+        sink.create(name.as_str()),
+        sink.write(b"abc"),
+        sink.write(b"de"),
+    ];
     assert_eq!(rt; early, [failed, failed]);
     assert_eq!(rt; written, [Ok(()), Ok(()), Ok(())]);
     assert_eq!(rt; sink.faults(), 2);
