@@ -16,7 +16,8 @@ use ffc_term::Check;
 use std::alloc::Global;
 
 /// Judges an entry that begins at this line of its certificate. A refutation costs about what its text has to be read, its
-/// products, and the square of the degree for each step of a chain; an entry by cases the work of the check.
+/// products, the square of the lengths that are written for each step of a chain, and once the marks up to its highest
+/// literal; an entry by cases the work of the check, and for each assignment the list in force.
 pub fn check_entry(
     alloc: Global,
     check: &Check,

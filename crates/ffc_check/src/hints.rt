@@ -81,7 +81,8 @@ fn contradicts(
     Ok(false)
 }
 
-/// Whether a clause follows by hints. It costs the literals that it reads.
+/// Whether a clause follows by hints. It costs the literals that it reads, and where a literal is higher than all before it,
+/// the marks up to its place.
 pub fn follows(
     clauses: &ClauseList,
     assumed: &mut Assumed,

@@ -107,7 +107,8 @@ fn multiplied<F: Field>(alloc: Global, factor: Factor, power: &[F]) -> Result<Ve
 }
 
 /// The power after a step. Rule 11 where the quotient or the remainder is too long; rule 6 where a coefficient is no
-/// residue, or the product is not quotient times modulus and the remainder. It costs the square of the modulus's degree.
+/// residue, or the product is not quotient times modulus and the remainder. It costs the product of
+/// the lengths that are written, zeros at the end included.
 pub fn step<F: Field>(
     alloc: Global,
     modulus: &[F],
