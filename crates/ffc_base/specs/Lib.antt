@@ -2,4 +2,5 @@ pub mod Outside
 pub mod Counts
 pub mod Contents
 pub mod Failing
+pub mod Files
 pub mod Metering

@@ -2,11 +2,12 @@
 //!
 //! These adapters are a trusted edge. They tell nothing of content, so no clause says which bytes come from or go to
 //! the system; what is proved is that just the calls that fail are counted.
-ghost use Rattle.std.specs.Prelude.{◌≡◌, ℕ, ◌≤◌, length, IfOk, IfErr, OnOk, OnErr, Option, None};
+ghost use Rattle.std.specs.Prelude.{◌≡◌, ℕ, ◌≤◌, length, IfOk, IfErr, OnOk, OnErr, Option, Some, None};
 ghost use Rattle.ffc_base.specs.Counts.{counted};
 
 use crate::outside::{Failed, NamedSink, NamedSource, Sink, Source, WriteStop};
 use crate::standard::{read_some, write_whole};
+use ffc_ghost::GhostText;
 use std::fs;
 use std::marker::Model;
 use std::rt::Files;
@@ -100,18 +101,22 @@ impl<'a, R: Files> NamedSource for FileSource<'a, R> {
 /// A file as a sink: a trusted edge, which tells nothing of what it holds.
 ///
 /// It is made before there is a file. `create` makes the file of a name, or empties it, and a write before that is a
-/// fault. To a contract it is its count of faults.
+/// fault. To a contract it is its count of faults, and the name of its file.
 #[derive(Drop)]
 pub struct FileSink<'a, R: Files> {
     files: &'a R,
     file: Option<R::File>,
+    name: GhostText,
     faults: u64,
 }
 
 impl<'a, R: Files> Model for FileSink<'a, R> {
-    ghost Value = { ℕ };
+    ghost use Rattle.std.specs.Prelude.{◌≤◌};
+    ghost use Rattle.ffc_base.specs.Files.{FileState};
 
-    ghost view = { λ s. s.faults };
+    ghost Value = { FileState };
+
+    ghost view = { λ s. record { name = s.name.bytes; faults = s.faults } };
 
     ghost invariant = { λ s. s.faults ≤ 18446744073709551615 };
 }
@@ -124,13 +129,14 @@ impl<'a, R: Files> FileSink<'a, R> {
         FileSink {
             files,
             file: None,
+            name: GhostText::new(),
             faults: 0,
         }
     }
 
     /// How many calls failed.
     pub fn faults(&self) -> u64
-        ensures { result ≡ self.now }
+        ensures { result ≡ self.now.faults }
     {
         self.faults
     }
@@ -148,12 +154,14 @@ impl<'a, R: Files> FileSink<'a, R> {
 impl<'a, R: Files> Sink for FileSink<'a, R> {
     ghost holds = { λ _. None };
 
-    ghost faults = { λ s. s };
+    ghost name = { λ s. Some s.name };
+
+    ghost faults = { λ s. s.faults };
 
     fn write(&mut self, bytes: &[u8]) -> Result<(), WriteStop>
-        ensures in_range { self.old ≤ 18446744073709551615 }
+        ensures in_range { self.old.faults ≤ 18446744073709551615 }
         ensures steady { OnOk result (self.new ≡ self.old) }
-        ensures risen { OnErr result (self.new ≡ counted self.old) }
+        ensures risen { OnErr result (self.new ≡ record self.old { faults = counted self.old.faults }) }
         ensures stop { IfErr result (λ stop. stop ≡ WriteStop.Failed) }
     {
         let answer = self.write_to_file(bytes);
@@ -166,9 +174,9 @@ impl<'a, R: Files> Sink for FileSink<'a, R> {
 
 impl<'a, R: Files> NamedSink for FileSink<'a, R> {
     fn create(&mut self, name: &str) -> Result<(), WriteStop>
-        ensures in_range { self.old ≤ 18446744073709551615 }
-        ensures steady { OnOk result (self.new ≡ self.old) }
-        ensures risen { OnErr result (self.new ≡ counted self.old) }
+        ensures in_range { self.old.faults ≤ 18446744073709551615 }
+        ensures steady { OnOk result (self.new ≡ record self.old { name = name.now }) }
+        ensures risen { OnErr result (self.new ≡ record self.old { faults = counted self.old.faults }) }
         ensures stop { IfErr result (λ stop. stop ≡ WriteStop.Failed) }
     {
         let Ok(file) = fs::create(self.files, name) else {
@@ -176,6 +184,16 @@ impl<'a, R: Files> NamedSink for FileSink<'a, R> {
             return Err(WriteStop::Failed);
         };
         self.file = Some(file);
+        self.name = named(name);
         Ok(())
     }
+}
+
+/// The text of a name.
+fn named(name: &str) -> GhostText
+    ensures { result.bytes ≡ name.now }
+{
+    let mut text = GhostText::new();
+    text.append(name.as_bytes());
+    text
 }

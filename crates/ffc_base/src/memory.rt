@@ -1,5 +1,5 @@
 //! A source and a sink in memory whose calls fail by number.
-ghost use Rattle.std.specs.Prelude.{◌≡◌, ℕ, ◌<◌, ◌≤◌, ◌↔◌, List, [], ◌++◌, length, take, drop, min, Option, Some, IsErr, IsSome, IsNone, IfOk, IfErr, IfSome, OnOk, OnErr, IsErrOf};
+ghost use Rattle.std.specs.Prelude.{◌≡◌, ℕ, ◌<◌, ◌≤◌, ◌↔◌, List, [], ◌++◌, length, take, drop, min, Option, Some, IsErr, IsSome, IsNone, IfOk, IfErr, IfSome, OnOk, OnErr, IsErrOf, None};
 ghost use Rattle.ffc_base.specs.Contents.{left_of, advanced, rewound};
 ghost use Rattle.ffc_base.specs.Failing.{SourceState, IsSourceState, NextFails, source_after_call, source_after_fault};
 ghost use Rattle.ffc_base.specs.Failing.{SinkState, IsSinkState, next_prefix, sink_after_call, sink_after_fault};
@@ -207,6 +207,8 @@ impl MemSink {
 
 impl Sink for MemSink {
     ghost holds = { λ s. Some s.bytes };
+
+    ghost name = { λ _. None };
 
     ghost faults = { λ s. s.faults };
 

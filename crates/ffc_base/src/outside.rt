@@ -49,6 +49,9 @@ pub trait Sink {
     /// The bytes that it holds, where it tells them.
     ghost holds: { Self → Option (List ℕ) };
 
+    /// The name under which its contents were created last, where it tells that; the empty name before the first one.
+    ghost name: { Self → Option (List ℕ) };
+
     /// How often a call has failed. It stands still at 2^64 - 1.
     ghost faults: { Self → ℕ };
 
@@ -57,6 +60,7 @@ pub trait Sink {
         ensures written { OnOk result (Appends bytes.now (holds self.old) (holds self.new)) }
         ensures failed { IsErrOf result WriteStop.Failed → AppendsPrefix bytes.now (holds self.old) (holds self.new) }
         ensures memory { IsErrOf result WriteStop.Memory → holds self.new ≡ holds self.old }
+        ensures same_name { name self.new ≡ name self.old }
         ensures later { faults self.old ≤ faults self.new }
         ensures cause { IsErrOf result WriteStop.Failed → Rose (faults self.old) (faults self.new) };
 }
@@ -79,7 +83,9 @@ pub trait NamedSink: Sink {
     /// Makes the contents of this name empty, and writes go there.
     fn create(&mut self, name: &str) -> Result<(), WriteStop>
         ensures created { OnOk result (Becomes [] (Self.holds self.old) (Self.holds self.new)) }
+        ensures named { OnOk result (Becomes name.now (Self.name self.old) (Self.name self.new)) }
         ensures refused { OnErr result (Self.holds self.new ≡ Self.holds self.old) }
+        ensures same_name { OnErr result (Self.name self.new ≡ Self.name self.old) }
         ensures later { Self.faults self.old ≤ Self.faults self.new }
         ensures cause { IsErrOf result WriteStop.Failed → Rose (Self.faults self.old) (Self.faults self.new) };
 }

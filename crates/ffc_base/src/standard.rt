@@ -111,6 +111,8 @@ impl<W: Write + Drop> StdSink<W> {
 impl<W: Write + Drop> Sink for StdSink<W> {
     ghost holds = { λ _. None };
 
+    ghost name = { λ _. None };
+
     ghost faults = { λ s. s };
 
     fn write(&mut self, bytes: &[u8]) -> Result<(), WriteStop>

@@ -1,5 +1,5 @@
 //! A source and a sink in memory whose calls never fail.
-ghost use Rattle.std.specs.Prelude.{◌≡◌, ℕ, ◌≤◌, List, [], ◌++◌, length, take, drop, min, Option, Some, Ok, IsOk, IfOk, OnOk, OnErr, IfErr};
+ghost use Rattle.std.specs.Prelude.{◌≡◌, ℕ, ◌≤◌, List, [], ◌++◌, length, take, drop, min, Option, Some, Ok, IsOk, IfOk, OnOk, OnErr, IfErr, None};
 ghost use Rattle.ffc_base.specs.Contents.{Contents, left_of, advanced, rewound};
 
 use crate::outside::{Failed, NamedSink, NamedSource, Sink, Source, WriteStop};
@@ -94,6 +94,8 @@ impl SureSink {
 
 impl Sink for SureSink {
     ghost holds = { λ s. Some s };
+
+    ghost name = { λ _. None };
 
     ghost faults = { λ _. 0 };
 
