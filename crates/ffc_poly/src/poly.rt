@@ -263,7 +263,7 @@ impl<F: Field, O: MonoOrder> Poly<F, O> {
         Self::within(multiples::merged_multiple::<F, O>(alloc, own, c, m, more)?)
     }
 
-    /// self - c*m*other. The multiple is made in one pass, and merged in another.
+    /// self - c*m*other, in one merge: no list of the products is made.
     pub fn sub_multiple(&self, c: F, m: MonoRef<'_>, other: &Self) -> Result<Self, PolyStop>
         ensures difference { IfOk result (λ r. SamePolynomial F.ORDER r
             (difference F.ORDER self.now (term_product (F.value c) m.entry.powers.now other.now))) }
@@ -274,8 +274,7 @@ impl<F: Field, O: MonoOrder> Poly<F, O> {
         ensures short { length self.now + length other.now ≤ TERM_LIMIT → IsErrOf result PolyStop.TermsOver → ⊥ }
         ensures degree_over { IsErrOf result PolyStop.DegreeOver ↔ PassesDegree F.ORDER DEGREE_LIMIT ((F.value c, m.entry.powers.now) ∷ []) other.now }
     {
-        let multiple = other.times(c, m)?;
-        self.sub(&multiple)
+        self.add_multiple(c.neg(), m, other)
     }
 
     /// The product. Whether a product of two terms has too high a degree is seen before. Then the rows, which are the
