@@ -5,7 +5,7 @@ ghost use Rattle.ffc_mono.specs.Leading.{IsLeading};
 
 use crate::poly::{Poly, TERM_LIMIT};
 use crate::stop::PolyStop;
-use crate::sums::combined_from;
+use crate::sums::add_scaled_from;
 use crate::tail::Tail;
 use crate::tails::{self, is_within};
 use crate::terms::TermList;
@@ -71,7 +71,7 @@ impl<F: Field, O: MonoOrder> Accumulator<F, O> {
             return Ok(());
         }
         let whole = tails::merged::<F, O>(alloc, self.tails.as_slice())?;
-        let terms = combined_from::<F, O>(alloc, &whole, 0, k, p.listed(), 0)?;
+        let terms = add_scaled_from::<F, O>(alloc, &whole, 0, k, p.listed(), 0)?;
         if terms.len() > TERM_LIMIT {
             return Err(PolyStop::TermsOver);
         }
