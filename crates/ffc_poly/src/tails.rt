@@ -38,7 +38,7 @@ fn merge_last<F: Field, O: MonoOrder>(tails: &mut Vec<Tail<F>>) -> bool
     true
 }
 
-/// Merges lists at the end until each is at least twice as long as the next, as far as there is memory.
+/// Merges the last two lists until the last is at most half as long as the one before it, as far as there is memory.
 pub fn settle<F: Field, O: MonoOrder>(tails: &mut Vec<Tail<F>>)
     requires { AreOrdered F.ORDER O.cmp DEGREE_LIMIT tails.old.items }
     ensures ordered { AreOrdered F.ORDER O.cmp DEGREE_LIMIT tails.new.items }
