@@ -6,16 +6,17 @@ use Rattle.std.proofs.lemmas.Cmp.{tied_itself}
 use Rattle.std.specs.Ordering.{ordering_reverse}
 use Rattle.std.specs.declared.cmp.Ordering.{Ordering}
 use Rattle.std.specs.declared.cmp.Ordering.TheVariants.{Less, Equal, Greater}
-use Rattle.ffc_field.specs.Modular.{IsPrime, add_mod, mul_mod}
+use Rattle.ffc_field.specs.Modular.{IsPrime, add_mod, sub_mod, mul_mod}
+use Rattle.ffc_field.proofs.ModularLaws.{sub_mod-self}
 use Rattle.ffc_field.proofs.Primes.{no_zero_product}
 use Rattle.ffc_ring.specs.Monomial.{Monomial, IsMonomial, exponent, degree, mono_mul, mono_quotient, Divides}
-use Rattle.ffc_ring.specs.Polynomial.{Terms, AreTerms, coefficient, term_product, product}
+use Rattle.ffc_ring.specs.Polynomial.{Terms, AreTerms, coefficient, term_product, product, difference}
 use Rattle.ffc_ring.specs.Polynomial.{IsNoneOf}
 use Rattle.ffc_ring.specs.Counting.{IsIn, AreUpTo, AreDifferent}
 use Rattle.ffc_field.specs.Binomial.{choose}
 use Rattle.ffc_ring.proofs.CountingLemmas.{count_of_monomials}
 use Rattle.ffc_ring.proofs.MonomialLemmas.{mono_mul_comm, exponent-here, exponent-there, IsMonomialFrom-mono_quotient, mono_mul-mono_quotient}
-use Rattle.ffc_ring.proofs.PolynomialLemmas.{coefficient-append, coefficient-no_product, coefficient-one_product, monomial_of_coefficient, cases_monomial, written-at, written-off}
+use Rattle.ffc_ring.proofs.PolynomialLemmas.{coefficient-append, coefficient-difference, coefficient-no_product, coefficient-one_product, monomial_of_coefficient, cases_monomial, written-at, written-off}
 use Rattle.ffc_mono.specs.MonomialOrder.{IsMonomialOrder}
 use Rattle.ffc_mono.specs.Orders.{graded_reverse_lex_cmp}
 use Rattle.ffc_mono.specs.OrderLaws.{graded_reverse_lex_words}
@@ -194,6 +195,30 @@ module _ (cmp : Monomial → Monomial → Ordering) (laws : IsMonomialOrder cmp)
         elim (some_of_sum a b n some) [
           | inl in_a ↦ l.2 n in_a off
           | inr in_b ↦ k.2 n in_b off
+        ]
+
+    -- ---- a step of a reduction
+
+    some_of_difference : 0 < p → (a b : Terms) (x : Monomial) → coefficient p (difference p a b) x ≢ 0 → (coefficient p a x ≢ 0) ⊎ (coefficient p b x ≢ 0)
+    some_of_difference h a b x some =
+        elim (cases_eq (coefficient p a x) 0) [
+          | inl none ↦
+              inr (λ nothing. some (coefficient-difference p h a b x ∙ ap₂ (sub_mod p) none nothing ∙ sub_mod-self p 0 (omega arith)))
+          | inr found ↦ inl found
+        ]
+
+    pub cancelled_step : IsPrime p → (a b : Terms) → AreTerms b → (k c d : ℕ) (m n : Monomial) → IsMonomial m → 0 < k → k < p → IsLeading p cmp b c n → IsLeading p cmp a d (mono_mul m n) → mul_mod p k c ≡ d → (x : Monomial) → coefficient p (difference p a (term_product k m b)) x ≢ 0 → cmp (mono_mul m n) x ≡ Greater
+    cancelled_step prime a b w k c d m n u h g l lead same x some =
+        let positive : 0 < p = omega (arith, prime.least) in
+        let multiple = term_product k m b in
+        let below : IsLeading p cmp multiple (mul_mod p k c) (mono_mul m n) = leading_of_multiple prime b w k c m n u h g l in
+        let low : d < p = subst (λ y. y < p) lead.0 (mod-lt _ positive) in
+        let off : x ≢ mono_mul m n =
+        λ is. some (ap (coefficient p (difference p a multiple)) is ∙ coefficient-difference p positive a multiple (mono_mul m n)
+        ∙ ap₂ (sub_mod p) lead.0 (below.0 ∙ same) ∙ sub_mod-self p d (omega arith)) in
+        elim (some_of_difference positive a multiple x some) [
+          | inl in_a ↦ lead.2 x in_a off
+          | inr in_b ↦ below.2 x in_b off
         ]
 
 -- ---- graded orders

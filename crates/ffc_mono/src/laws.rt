@@ -1,7 +1,7 @@
 //! The laws of leading terms and of graded orders. The functions do nothing when they run: each stands for the laws in
 //! its contract.
 ghost use Rattle.ffc_mono.specs.Graded.{GradedReverseLexIsGraded, OneVariableIsGraded, GreaterIsNoLower, DescentIsShort, DescentInOneIsShort};
-ghost use Rattle.ffc_mono.specs.Leading.{LeadingOfProduct, LeadingOfMultiple, LeadingOfSum, LeadingOfEqualSum, CancelledSumIsBelow, OneLeading};
+ghost use Rattle.ffc_mono.specs.Leading.{LeadingOfProduct, LeadingOfMultiple, LeadingOfSum, LeadingOfEqualSum, CancelledSumIsBelow, CancelledStepIsBelow, OneLeading};
 ghost use Rattle.ffc_mono.specs.MonomialOrder.{DivisorIsNoGreater};
 
 /// The leading terms of products, multiples and sums, in every monomial order.
@@ -12,6 +12,7 @@ pub fn leading_terms()
     ensures sum { LeadingOfSum }
     ensures equal_sum { LeadingOfEqualSum }
     ensures cancelled_sum { CancelledSumIsBelow }
+    ensures cancelled_step { CancelledStepIsBelow }
 {}
 
 /// What divides is not greater, in every monomial order.
