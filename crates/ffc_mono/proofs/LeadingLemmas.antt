@@ -1,26 +1,27 @@
 -- The laws of leading terms, and of graded orders.
-use Rattle.std.proofs.Common.{◌≡◌, ◌≢◌, ◌⊎◌, ℕ, ◌+◌, ◌<◌, ◌≤◌, ◌%◌, List, length, [], ◌∷◌, ◌++◌, refl, sym, ap, ap₂, ◌∙◌, subst, subst₂, inl, inr, arith, append-nil, mod-eq_of_lt, mod-lt}
+use Rattle.std.proofs.Common.{◌≡◌, ◌≢◌, ◌⊎◌, ℕ, ◌+◌, ◌<◌, ◌≤◌, ◌%◌, List, length, [], ◌∷◌, ◌++◌, refl, sym, ap, ap₂, ◌∙◌, subst, inl, inr, arith, append-nil, mod-eq_of_lt, mod-lt}
 use Rattle.std.proofs.Math.Nat.{mod-mod, zero-mod}
 use Rattle.std.proofs.lemmas.Bool.{cases_lt, cases_eq}
 use Rattle.std.proofs.lemmas.Cmp.{tied_itself}
 use Rattle.std.specs.Ordering.{ordering_reverse}
 use Rattle.std.specs.declared.cmp.Ordering.{Ordering}
 use Rattle.std.specs.declared.cmp.Ordering.TheVariants.{Less, Equal, Greater}
-use Rattle.ffc_field.specs.Modular.{IsPrime, add_mod, mul_mod}
+use Rattle.ffc_field.specs.Modular.{IsPrime, add_mod, sub_mod, mul_mod}
+use Rattle.ffc_field.proofs.ModularLaws.{sub_mod-self}
 use Rattle.ffc_field.proofs.Primes.{no_zero_product}
-use Rattle.ffc_ring.specs.Monomial.{Monomial, IsMonomial, degree, mono_mul}
-use Rattle.ffc_ring.specs.Polynomial.{Terms, AreTerms, coefficient, term_product, product}
+use Rattle.ffc_ring.specs.Monomial.{Monomial, IsMonomial, exponent, degree, mono_mul, mono_quotient, Divides}
+use Rattle.ffc_ring.specs.Polynomial.{Terms, AreTerms, coefficient, term_product, product, difference}
 use Rattle.ffc_ring.specs.Polynomial.{IsNoneOf}
-use Rattle.ffc_ring.specs.Counting.{AreUpTo, AreDifferent}
+use Rattle.ffc_ring.specs.Counting.{IsIn, AreUpTo, AreDifferent}
 use Rattle.ffc_field.specs.Binomial.{choose}
 use Rattle.ffc_ring.proofs.CountingLemmas.{count_of_monomials}
-use Rattle.ffc_ring.proofs.MonomialLemmas.{mono_mul_comm}
-use Rattle.ffc_ring.proofs.PolynomialLemmas.{coefficient-append, coefficient-no_product, coefficient-one_product, monomial_of_coefficient, cases_monomial, written-at, written-off}
+use Rattle.ffc_ring.proofs.MonomialLemmas.{mono_mul_comm, exponent-here, exponent-there, IsMonomialFrom-mono_quotient, mono_mul-mono_quotient}
+use Rattle.ffc_ring.proofs.PolynomialLemmas.{coefficient-append, coefficient-difference, coefficient-no_product, coefficient-one_product, monomial_of_coefficient, cases_monomial, written-at, written-off}
 use Rattle.ffc_mono.specs.MonomialOrder.{IsMonomialOrder}
 use Rattle.ffc_mono.specs.Orders.{graded_reverse_lex_cmp}
 use Rattle.ffc_mono.specs.OrderLaws.{graded_reverse_lex_words}
 use Rattle.ffc_mono.specs.Leading.{IsLeading}
-use Rattle.ffc_mono.specs.Graded.{IsGraded, Descends, AreIn}
+use Rattle.ffc_mono.specs.Graded.{IsGraded, IsGradedIn, Descends, AreIn}
 
 add-none : (x : ℕ) → x + 0 ≡ x
 add-none x = omega arith
@@ -196,6 +197,30 @@ module _ (cmp : Monomial → Monomial → Ordering) (laws : IsMonomialOrder cmp)
           | inr in_b ↦ k.2 n in_b off
         ]
 
+    -- ---- a step of a reduction
+
+    some_of_difference : 0 < p → (a b : Terms) (x : Monomial) → coefficient p (difference p a b) x ≢ 0 → (coefficient p a x ≢ 0) ⊎ (coefficient p b x ≢ 0)
+    some_of_difference h a b x some =
+        elim (cases_eq (coefficient p a x) 0) [
+          | inl none ↦
+              inr (λ nothing. some (coefficient-difference p h a b x ∙ ap₂ (sub_mod p) none nothing ∙ sub_mod-self p 0 (omega arith)))
+          | inr found ↦ inl found
+        ]
+
+    pub cancelled_step : IsPrime p → (a b : Terms) → AreTerms b → (k c d : ℕ) (m n : Monomial) → IsMonomial m → 0 < k → k < p → IsLeading p cmp b c n → IsLeading p cmp a d (mono_mul m n) → mul_mod p k c ≡ d → (x : Monomial) → coefficient p (difference p a (term_product k m b)) x ≢ 0 → cmp (mono_mul m n) x ≡ Greater
+    cancelled_step prime a b w k c d m n u h g l lead same x some =
+        let positive : 0 < p = omega (arith, prime.least) in
+        let multiple = term_product k m b in
+        let below : IsLeading p cmp multiple (mul_mod p k c) (mono_mul m n) = leading_of_multiple prime b w k c m n u h g l in
+        let low : d < p = subst (λ y. y < p) lead.0 (mod-lt _ positive) in
+        let off : x ≢ mono_mul m n =
+        λ is. some (ap (coefficient p (difference p a multiple)) is ∙ coefficient-difference p positive a multiple (mono_mul m n)
+        ∙ ap₂ (sub_mod p) lead.0 (below.0 ∙ same) ∙ sub_mod-self p d (omega arith)) in
+        elim (some_of_difference positive a multiple x some) [
+          | inl in_a ↦ lead.2 x in_a off
+          | inr in_b ↦ below.2 x in_b off
+        ]
+
 -- ---- graded orders
 
 pub graded_reverse_lex_is_graded : IsGraded graded_reverse_lex_cmp
@@ -209,6 +234,56 @@ greater_is_no_lower cmp laws graded m n v w e =
       | inr no_lower ↦ no_lower
     ]
 
+-- ---- divisors
+
+pub divisor_is_no_greater : (cmp : Monomial → Monomial → Ordering) → IsMonomialOrder cmp → (m n : Monomial) → IsMonomial m → IsMonomial n → Divides m n → cmp m n ≢ Greater
+divisor_is_no_greater cmp laws m n v w divides e =
+    let q = mono_quotient n m in
+    let u : IsMonomial q = IsMonomialFrom-mono_quotient 0 n m w in
+    let whole : mono_mul q m ≡ n = mono_mul_comm q m u v ∙ mono_mul-mono_quotient n m w v divides in
+    laws.least q u (sym (laws.kept [] q m tt u v) ∙ ap (cmp m) whole ∙ e)
+
+-- in one variable a monomial is a power
+variable_is : (v : ℕ) (p : ℕ × ℕ) (m : Monomial) → IsMonomial (p ∷ m) → IsIn (v ∷ []) (p ∷ m) → p.0 ≡ v
+variable_is v p m u only =
+    elim (only p.0 (λ none. omega (arith, u.1, exponent-here p m p.0 refl, none))) [ inl same ↦ same | inr none ↦ absurd none ]
+
+degree_in_one : (v : ℕ) (m : Monomial) → IsMonomial m → IsIn (v ∷ []) m → degree m ≡ exponent m v
+degree_in_one v [] u only = refl
+degree_in_one v (p ∷ []) u only = omega (arith, exponent-here p [] v (sym (variable_is v p [] u only)))
+degree_in_one v (p ∷ q ∷ m) u only =
+    let first : p.0 ≡ v = variable_is v p (q ∷ m) u only in
+    let other : q.0 ≢ p.0 = λ same. omega (arith, u.2.0, same) in
+    let there : exponent (p ∷ q ∷ m) q.0 ≡ q.1 = exponent-there p (q ∷ m) q.0 other ∙ exponent-here q m q.0 refl in
+    elim (only q.0 (λ none. omega (arith, u.2.1, there, none))) [ inl same ↦ absurd (other (same ∙ sym first)) | inr none ↦ absurd none ]
+
+none_of_others : (v x : ℕ) (m : Monomial) → IsIn (v ∷ []) m → x ≢ v → exponent m x ≡ 0
+none_of_others v x m only other =
+    elim (cases_eq (exponent m x) 0) [
+      | inl none ↦ none
+      | inr some ↦ elim (only x some) [ inl same ↦ absurd (other same) | inr none ↦ absurd none ]
+    ]
+
+divides_in_one : (v : ℕ) (m n : Monomial) → IsMonomial m → IsMonomial n → IsIn (v ∷ []) m → IsIn (v ∷ []) n → degree n ≤ degree m → Divides n m
+divides_in_one v m n u w in_m in_n h x =
+    elim (cases_eq x v) [
+      | inl here ↦
+          rw here (omega (arith, degree_in_one v m u in_m, degree_in_one v n w in_n, h))
+      | inr there ↦ omega (arith, none_of_others v x n in_n there)
+    ]
+
+-- what is neither less nor equal is greater
+greater_of : (cmp : Monomial → Monomial → Ordering) → IsMonomialOrder cmp → (m n : Monomial) (o : Ordering) → cmp n m ≡ o → o ≢ Greater → n ≢ m → cmp m n ≡ Greater
+greater_of cmp laws m n Less e no_greater other = turned cmp laws n m e
+greater_of cmp laws m n Equal e no_greater other = absurd (other (laws.exact n m e))
+greater_of cmp laws m n Greater e no_greater other = absurd (no_greater refl)
+
+pub one_variable_is_graded : (cmp : Monomial → Monomial → Ordering) → IsMonomialOrder cmp → (v : ℕ) → IsGradedIn (v ∷ []) cmp
+one_variable_is_graded cmp laws v m n u w in_m in_n h =
+    greater_of cmp laws m n (cmp n m) refl
+    (divisor_is_no_greater cmp laws n m w u (divides_in_one v m n u w in_m in_n (omega arith)))
+    (λ same. omega (arith, ap degree same, h))
+
 -- ---- descents
 
 -- what is above the first of a descent is above all of it
@@ -221,12 +296,26 @@ different_descent : (cmp : Monomial → Monomial → Ordering) → IsMonomialOrd
 different_descent cmp laws m [] h = (tt, tt)
 different_descent cmp laws m (n ∷ ns) h = (above_descent cmp laws m n ns h.0 h.1, different_descent cmp laws n ns h.1)
 
-up_to_descent : (cmp : Monomial → Monomial → Ordering) → IsMonomialOrder cmp → IsGraded cmp → (vs : List ℕ) (d : ℕ) (m : Monomial) (ms : List Monomial) → AreIn vs (m ∷ ms) → degree m ≤ d → Descends cmp m ms → AreUpTo vs d (m ∷ ms)
-up_to_descent cmp laws graded vs d m [] v l h = (v.0, v.1, l, tt)
-up_to_descent cmp laws graded vs d m (n ∷ ns) v l h =
-    let lower : degree n ≤ degree m = greater_is_no_lower cmp laws graded m n v.0 v.2.0 h.0 in
-    (v.0, v.1, l, up_to_descent cmp laws graded vs d n ns v.2 (omega arith) h.1)
+no_lower_in : (cmp : Monomial → Monomial → Ordering) → IsMonomialOrder cmp → (vs : List ℕ) → IsGradedIn vs cmp → (m n : Monomial) → IsMonomial m → IsMonomial n → IsIn vs m → IsIn vs n → cmp m n ≡ Greater → degree n ≤ degree m
+no_lower_in cmp laws vs graded m n v w in_m in_n e =
+    elim (cases_lt (degree m) (degree n)) [
+      | inl lower ↦
+          let both : Less ≡ Greater = sym (turned_back cmp laws n m (graded n m w v in_n in_m lower)) ∙ e in absurd (cc both)
+      | inr no_lower ↦ no_lower
+    ]
+
+up_to_descent : (cmp : Monomial → Monomial → Ordering) → IsMonomialOrder cmp → (vs : List ℕ) → IsGradedIn vs cmp → (d : ℕ) (m : Monomial) (ms : List Monomial) → AreIn vs (m ∷ ms) → degree m ≤ d → Descends cmp m ms → AreUpTo vs d (m ∷ ms)
+up_to_descent cmp laws vs graded d m [] v l h = (v.0, v.1, l, tt)
+up_to_descent cmp laws vs graded d m (n ∷ ns) v l h =
+    let lower : degree n ≤ degree m = no_lower_in cmp laws vs graded m n v.0 v.2.0 v.1 v.2.1 h.0 in
+    (v.0, v.1, l, up_to_descent cmp laws vs graded d n ns v.2 (omega arith) h.1)
+
+short_descent : (cmp : Monomial → Monomial → Ordering) → IsMonomialOrder cmp → (vs : List ℕ) → IsGradedIn vs cmp → (d : ℕ) (m : Monomial) (ms : List Monomial) → AreIn vs (m ∷ ms) → degree m ≤ d → Descends cmp m ms → length (m ∷ ms) ≤ choose (length vs + d) d
+short_descent cmp laws vs graded d m ms v l h =
+    count_of_monomials vs d (m ∷ ms) (different_descent cmp laws m ms h) (up_to_descent cmp laws vs graded d m ms v l h)
 
 pub descent_is_short : (cmp : Monomial → Monomial → Ordering) → IsMonomialOrder cmp → IsGraded cmp → (vs : List ℕ) (d : ℕ) (m : Monomial) (ms : List Monomial) → AreIn vs (m ∷ ms) → degree m ≤ d → Descends cmp m ms → length (m ∷ ms) ≤ choose (length vs + d) d
-descent_is_short cmp laws graded vs d m ms v l h =
-    count_of_monomials vs d (m ∷ ms) (different_descent cmp laws m ms h) (up_to_descent cmp laws graded vs d m ms v l h)
+descent_is_short cmp laws graded vs = short_descent cmp laws vs (λ m n v w _ _ h. graded m n v w h)
+
+pub descent_in_one_is_short : (cmp : Monomial → Monomial → Ordering) → IsMonomialOrder cmp → (v d : ℕ) (m : Monomial) (ms : List Monomial) → AreIn (v ∷ []) (m ∷ ms) → degree m ≤ d → Descends cmp m ms → length (m ∷ ms) ≤ choose (1 + d) d
+descent_in_one_is_short cmp laws v = short_descent cmp laws (v ∷ []) (one_variable_is_graded cmp laws v)

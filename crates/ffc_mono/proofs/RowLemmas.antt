@@ -1,8 +1,8 @@
 -- Rows of monomials: the buffer and the marks against the list of monomials.
-use Rattle.std.proofs.Common.{◌≡◌, ◌≢◌, ℕ, zero, suc, ◌+◌, ◌-◌, ◌<◌, ◌≤◌, List, [], ◌∷◌, ◌++◌, map, length, get_or, take, drop, refl, sym, ap, ap₂, ◌∙◌, subst, arith, append_assoc, append-nil, length-append, length-drop, add-one, take-append-drop}
+use Rattle.std.proofs.Common.{◌≡◌, ◌≢◌, ℕ, zero, suc, ◌+◌, ◌-◌, ◌<◌, ◌≤◌, List, [], ◌∷◌, ◌++◌, map, length, get_or, take, drop, refl, sym, ap, ap₂, ◌∙◌, subst, arith, append_assoc, append-nil, length-append, length-drop, take-append-drop}
 use Rattle.std.proofs.Math.Seq.{take-append_seam, drop-append_seam, take-add}
 use Rattle.std.proofs.lemmas.List.{drop_more, get_or_default, get_or-take, get_or-drop, length-take}
-use Rattle.std.specs.Prelude.{slice_range, All}
+use Rattle.std.specs.Prelude.{slice_range}
 use Rattle.ffc_ring.specs.Monomial.{Monomial, IsMonomial, degree}
 use Rattle.ffc_mono.specs.Masks.{mask_of}
 use Rattle.ffc_mono.specs.declared.row.Mark.{Mark}

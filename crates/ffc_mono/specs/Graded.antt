@@ -14,6 +14,16 @@ IsGraded cmp = (m n : Monomial) → IsMonomial m → IsMonomial n → degree n <
 abbrev pub GradedReverseLexIsGraded : Type 0
 GradedReverseLexIsGraded = IsGraded graded_reverse_lex_cmp
 
+-- over these variables the greater total degree is greater
+abbrev pub IsGradedIn : List ℕ → (Monomial → Monomial → Ordering) → Type 0
+IsGradedIn vs cmp =
+    (m n : Monomial) → IsMonomial m → IsMonomial n → IsIn vs m → IsIn vs n → degree n < degree m → cmp m n ≡ Greater
+
+-- in one variable it is so in each order
+abbrev pub OneVariableIsGraded : Type 0
+OneVariableIsGraded =
+    (cmp : Monomial → Monomial → Ordering) → IsMonomialOrder cmp → (v : ℕ) → IsGradedIn (v ∷ []) cmp
+
 -- the greater monomial has no lower degree
 abbrev pub GreaterIsNoLower : Type 0
 GreaterIsNoLower =
@@ -36,3 +46,9 @@ abbrev pub DescentIsShort : Type 0
 DescentIsShort =
     (cmp : Monomial → Monomial → Ordering) → IsMonomialOrder cmp → IsGraded cmp → (vs : List ℕ) (d : ℕ) (m : Monomial) (ms : List Monomial)
     → AreIn vs (m ∷ ms) → degree m ≤ d → Descends cmp m ms → length (m ∷ ms) ≤ choose (length vs + d) d
+
+-- in one variable no order does: a descent from degree d has at most as many monomials as there are up to d
+abbrev pub DescentInOneIsShort : Type 0
+DescentInOneIsShort =
+    (cmp : Monomial → Monomial → Ordering) → IsMonomialOrder cmp → (v d : ℕ) (m : Monomial) (ms : List Monomial)
+    → AreIn (v ∷ []) (m ∷ ms) → degree m ≤ d → Descends cmp m ms → length (m ∷ ms) ≤ choose (1 + d) d

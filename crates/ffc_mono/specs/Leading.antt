@@ -4,7 +4,7 @@ use Rattle.std.specs.declared.cmp.Ordering.{Ordering}
 use Rattle.std.specs.declared.cmp.Ordering.TheVariants.{Greater}
 use Rattle.ffc_field.specs.Modular.{IsPrime, add_mod, mul_mod}
 use Rattle.ffc_ring.specs.Monomial.{Monomial, IsMonomial, mono_mul}
-use Rattle.ffc_ring.specs.Polynomial.{Terms, AreTerms, coefficient, term_product, product}
+use Rattle.ffc_ring.specs.Polynomial.{Terms, AreTerms, coefficient, term_product, product, difference}
 use Rattle.ffc_mono.specs.MonomialOrder.{IsMonomialOrder}
 
 -- c is the coefficient of m, which is above each other monomial with a coefficient other than 0
@@ -44,6 +44,13 @@ CancelledSumIsBelow =
     (p : ℕ) (cmp : Monomial → Monomial → Ordering) → IsMonomialOrder cmp → (a b : Terms) (c d : ℕ) (m : Monomial)
     → IsLeading p cmp a c m → IsLeading p cmp b d m → add_mod p c d ≡ 0
     → (n : Monomial) → coefficient p (a ++ b) n ≢ 0 → cmp m n ≡ Greater
+
+-- a step of a reduction: where a multiple of b has the leading term of a, each monomial of the difference is below it
+abbrev pub CancelledStepIsBelow : Type 0
+CancelledStepIsBelow =
+    (p : ℕ) → IsPrime p → (cmp : Monomial → Monomial → Ordering) → IsMonomialOrder cmp → (a b : Terms) → AreTerms b
+    → (k c d : ℕ) (m n : Monomial) → IsMonomial m → 0 < k → k < p → IsLeading p cmp b c n → IsLeading p cmp a d (mono_mul m n)
+    → mul_mod p k c ≡ d → (x : Monomial) → coefficient p (difference p a (term_product k m b)) x ≢ 0 → cmp (mono_mul m n) x ≡ Greater
 
 -- one polynomial has one leading term
 abbrev pub OneLeading : Type 0

@@ -1,7 +1,8 @@
 //! The laws of leading terms and of graded orders. The functions do nothing when they run: each stands for the laws in
 //! its contract.
-ghost use Rattle.ffc_mono.specs.Graded.{GradedReverseLexIsGraded, GreaterIsNoLower, DescentIsShort};
-ghost use Rattle.ffc_mono.specs.Leading.{LeadingOfProduct, LeadingOfMultiple, LeadingOfSum, LeadingOfEqualSum, CancelledSumIsBelow, OneLeading};
+ghost use Rattle.ffc_mono.specs.Graded.{GradedReverseLexIsGraded, OneVariableIsGraded, GreaterIsNoLower, DescentIsShort, DescentInOneIsShort};
+ghost use Rattle.ffc_mono.specs.Leading.{LeadingOfProduct, LeadingOfMultiple, LeadingOfSum, LeadingOfEqualSum, CancelledSumIsBelow, CancelledStepIsBelow, OneLeading};
+ghost use Rattle.ffc_mono.specs.MonomialOrder.{DivisorIsNoGreater};
 
 /// The leading terms of products, multiples and sums, in every monomial order.
 pub fn leading_terms()
@@ -11,11 +12,19 @@ pub fn leading_terms()
     ensures sum { LeadingOfSum }
     ensures equal_sum { LeadingOfEqualSum }
     ensures cancelled_sum { CancelledSumIsBelow }
+    ensures cancelled_step { CancelledStepIsBelow }
 {}
 
-/// In graded orders the greater total degree is greater.
+/// What divides is not greater, in every monomial order.
+pub fn divisors()
+    ensures { DivisorIsNoGreater }
+{}
+
+/// In graded orders the greater total degree is greater, and in one variable in every order.
 pub fn graded_orders()
     ensures reverse_lex { GradedReverseLexIsGraded }
+    ensures one_variable { OneVariableIsGraded }
     ensures no_lower { GreaterIsNoLower }
     ensures descent { DescentIsShort }
+    ensures descent_in_one { DescentInOneIsShort }
 {}

@@ -9,7 +9,7 @@ mod powers;
 mod row;
 
 pub use borrowed::MonoRef;
-pub use laws::{graded_orders, leading_terms};
+pub use laws::{divisors, graded_orders, leading_terms};
 pub use mono::{DEGREE_LIMIT, Mono, MonoStop};
 pub use order::{GradedReverseLex, Lex, MonoOrder, graded_reverse_lex_order, lex_order};
 pub use row::MonoRow;

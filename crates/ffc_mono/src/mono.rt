@@ -113,21 +113,24 @@ impl Mono {
         })
     }
 
-    /// The least common multiple, in one walk over both.
+    /// The least common multiple, in one walk over both. Whether it has too high a degree is seen before, in another.
     pub fn lcm(&self, other: &Mono) -> Result<Mono, MonoStop>
         ensures value { IfOk result (λ m. m ≡ mono_lcm self.now other.now) }
         ensures exponents { IfOk result (λ m. (x : ℕ) → exponent m x ≡ max (exponent self.now x) (exponent other.now x)) }
         ensures fits { OnOk result (degree (mono_lcm self.now other.now) ≤ DEGREE_LIMIT) }
-        ensures degree_over { IsErrOf result MonoStop.DegreeOver → DEGREE_LIMIT < degree (mono_lcm self.now other.now) }
+        ensures degree_over { IsErrOf result MonoStop.DegreeOver ↔ (DEGREE_LIMIT < degree (mono_lcm self.now other.now)) }
     {
-        let alloc = *self.powers.allocator();
-        let powers = powers::joined(alloc, Joining::Maximum, self.pairs(), other.pairs())?;
-        let Some(total_degree) = powers::degree_within(powers.as_slice(), DEGREE_LIMIT) else {
+        let first = self.pairs();
+        let second = other.pairs();
+        let degree = powers::lcm_degree(first, second);
+        if degree > DEGREE_LIMIT {
             return Err(MonoStop::DegreeOver);
-        };
+        }
+        let alloc = *self.powers.allocator();
+        let powers = powers::joined(alloc, Joining::Maximum, first, second)?;
         Ok(Mono {
             powers,
-            total_degree,
+            total_degree: degree,
             mask: self.mask | other.mask,
         })
     }

@@ -1,7 +1,7 @@
 //! Monomials as slices of powers: pairs of variable and exponent, with strictly increasing variables and
 //! exponents of at least 1. Each function here walks its slices once, side by side.
 ghost use Rattle.std.specs.Prelude.{◌≡◌, ℕ, ◌+◌, ◌^◌, ◌<◌, ◌≤◌, ◌↔◌, ◌%◌, ◌++◌, length, take, false, IsTrue, IfOk, OnOk, OnErr, SomeIff};
-ghost use Rattle.ffc_ring.specs.Monomial.{IsMonomial, degree, joined, mono_mul, mono_quotient, Divides, AreCoprime};
+ghost use Rattle.ffc_ring.specs.Monomial.{IsMonomial, degree, joined, mono_mul, mono_lcm, mono_quotient, Divides, AreCoprime};
 ghost use Rattle.std.specs.Int.{bit_at};
 ghost use Rattle.ffc_mono.specs.Joining.{joining_of};
 ghost use Rattle.ffc_mono.specs.Masks.{mask_of};
@@ -48,6 +48,47 @@ pub fn degree_within(powers: &[Power], limit: u32) -> Option<u32>
         total += *exponent;
     }
     Some(total)
+}
+
+/// The total degree.
+fn degree_of(powers: &[Power]) -> u32
+    requires { degree powers.now < 2 ^ 32 }
+    ensures { result ≡ degree powers.now }
+{
+    let mut total = 0u32;
+    for (_, exponent) in powers {
+        total += *exponent;
+    }
+    total
+}
+
+/// The total degree of the least common multiple.
+pub fn lcm_degree(first: &[Power], second: &[Power]) -> u32
+    requires first_is { IsMonomial first.now }
+    requires second_is { IsMonomial second.now }
+    requires fits { degree first.now + degree second.now < 2 ^ 32 }
+    ensures { result ≡ degree (mono_lcm first.now second.now) }
+{
+    let mut total = 0u32;
+    let mut left = first;
+    let mut right = second;
+    while let (Some((p, left_rest)), Some((q, right_rest))) = (
+        left.split_first(),
+        right.split_first(),
+    ) {
+        if p.0 < q.0 {
+            total += p.1;
+            left = left_rest;
+        } else if q.0 < p.0 {
+            total += q.1;
+            right = right_rest;
+        } else {
+            total += p.1.max(q.1);
+            left = left_rest;
+            right = right_rest;
+        }
+    }
+    total + degree_of(left) + degree_of(right)
 }
 
 /// Two monomials joined.

@@ -72,7 +72,7 @@ fn power_product(alloc: Global, exponents: &[u32; 3]) -> Result<Mono, MonoStop> 
     Ok(product)
 }
 
-/// Each monomial of the list is greater than all behind it.
+/// Each monomial of the list is greater than all after it.
 fn descends<O: MonoOrder>(
     rt: &impl Abort,
     alloc: Global,

@@ -1,10 +1,12 @@
 -- What the clauses of a polynomial's operations say of values, refusals and zero.
-use Rattle.std.proofs.Common.{◌≡◌, ℕ, suc, ◌+◌, ◌-◌, ◌*◌, ◌%◌, ◌<◌, true, eqb, eq-eqb, [], ◌∷◌, ◌++◌, length, refl, sym, ap, ◌∙◌, append-nil, inl, inr, arith, mul-one, zero-mul, eqb-true, mod-eq_of_lt, Result, Ok, Err, IfErr, IsErrAnd, IsErrOf}
-use Rattle.std.proofs.lemmas.Nat.{mul-mod_second}
+use Rattle.std.proofs.Common.{◌≡◌, ℕ, suc, ◌+◌, ◌-◌, ◌*◌, ◌%◌, ◌<◌, ◌↔◌, true, eqb, eq-eqb, [], ◌∷◌, ◌++◌, length, refl, sym, ap, ◌∙◌, append-nil, inl, inr, arith, mul-one, zero-mul, eqb-true, mod-eq_of_lt, Result, Ok, Err, IfErr, IsErrAnd, IsErrOf}
+use Rattle.std.proofs.lemmas.Nat.{mul-mod_first, mul-mod_second}
+use Rattle.std.proofs.Math.Nat.{mod_self, mul_assoc}
+use Rattle.ffc_field.proofs.ModularLaws.{add_mod-neg, neg_mod-only}
 use Rattle.ffc_field.specs.Modular.{add_mod, sub_mod, mul_mod, neg_mod}
 use Rattle.ffc_ring.specs.Monomial.{Monomial, mono_value, mono_mul}
 use Rattle.ffc_ring.specs.Polynomial.{Terms, written, coefficient, SamePolynomial, term_product, product, scaled, difference, value_sum, poly_value, PassesDegree}
-use Rattle.ffc_ring.proofs.PolynomialLemmas.{weighted, weighted-term_product, SamePolynomial-from_weighted, one_value, poly_value-append, poly_value-product, poly_value-difference, value_sum-term_product, same_sums, coefficient-scaled, cases_monomial, written-at, written-off}
+use Rattle.ffc_ring.proofs.PolynomialLemmas.{weighted, weighted-term_product, SamePolynomial-from_weighted, one_value, poly_value-append, poly_value-product, poly_value-difference, value_sum-term_product, same_sums, coefficient-scaled, cases_monomial, written-at, written-off, negated_mod}
 use Rattle.ffc_poly.specs.declared.stop.PolyStop.{PolyStop}
 use Rattle.ffc_poly.specs.declared.stop.PolyStop.TheVariants.{DegreeOver, TermsOver, Memory}
 use Rattle.ffc_poly.specs.Ordered.{multiplied, times}
@@ -115,6 +117,45 @@ pub same_differences : (p : ℕ) (a b c : Terms) → SamePolynomial p b c → Sa
 same_differences p a b c same =
     same_sums p a a (scaled (p - 1) b) (scaled (p - 1) c) (λ m. refl)
     (λ m. coefficient-scaled p (p - 1) b m ∙ ap (mul_mod p (p - 1)) (same m) ∙ sym (coefficient-scaled p (p - 1) c m))
+
+-- a multiple by the negation of a factor is the negation of the multiple
+negated_factor : (p c k w : ℕ) → c < p → k ≡ neg_mod p c → k * w % p ≡ (p - 1) * (c * w) % p
+negated_factor p c k w below e =
+    ap (λ n. n * w % p) (e ∙ ap (λ n. (p - n) % p) (sym (mod-eq_of_lt below)) ∙ sym (negated_mod p c (omega arith)))
+    ∙ mul-mod_first ((p - 1) * c) w p ∙ ap (λ n. n % p) (mul_assoc (p - 1) c w)
+
+negated_multiple : (p c k : ℕ) (m : Monomial) (b : Terms) → c < p → k ≡ neg_mod p c → SamePolynomial p (term_product k m b) (scaled (p - 1) (term_product c m b))
+negated_multiple p c k m b below e =
+    SamePolynomial-from_weighted p (term_product k m b) (scaled (p - 1) (term_product c m b))
+    (λ g. ap (λ n. n % p) (weighted-term_product g k m b) ∙ negated_factor p c k (weighted (λ n. g (mono_mul m n)) b) below e
+    ∙ ap (λ n. n % p)
+    (sym (weighted-term_product g (p - 1) [] (term_product c m b) ∙ ap (λ n. (p - 1) * n) (weighted-term_product (λ n. g (mono_mul [] n)) c m b))))
+
+pub difference_by_negation : (p c k : ℕ) (m : Monomial) (a b : Terms) → c < p → k ≡ neg_mod p c → SamePolynomial p (a ++ term_product k m b) (difference p a (term_product c m b))
+difference_by_negation p c k m a b below e =
+    same_sums p a a (term_product k m b) (scaled (p - 1) (term_product c m b)) (λ _. refl) (negated_multiple p c k m b below e)
+
+negated_zero : (p c k : ℕ) (m n : Monomial) → c < p → k ≡ neg_mod p c → coefficient p ((c, m) ∷ []) n ≡ 0 → coefficient p ((k, m) ∷ []) n ≡ 0
+negated_zero p c k m n below e none =
+    elim (cases_monomial m n) [
+      | inl here ↦
+          let low : c ≡ 0 =
+          sym (mod-eq_of_lt below) ∙ ap (λ x. x % p) (let same : c ≡ c + 0 = omega arith in same)
+          ∙ sym (ap (λ x. x % p) (written-at n (c, m) [] here)) ∙ none in
+          zero_term p k m n (e ∙ ap (λ x. x % p) (let whole : p - c ≡ p = omega (arith, low) in whole) ∙ mod_self p)
+      | inr there ↦ ap (λ x. x % p) (written-off n (k, m) [] there) ∙ coefficient-none p n
+    ]
+
+PassesDegree-negated : (p limit c k : ℕ) (m : Monomial) (b : Terms) → c < p → k ≡ neg_mod p c → PassesDegree p limit ((k, m) ∷ []) b → PassesDegree p limit ((c, m) ∷ []) b
+PassesDegree-negated p limit c k m b below e (x, y, hx, hy, over) =
+    (x, y, λ none. hx (negated_zero p c k m x below e none), hy, over)
+
+-- the product with a negation passes the limit where the product does
+pub negation_passes : (p limit c k : ℕ) (m : Monomial) (b : Terms) → c < p → k < p → k ≡ neg_mod p c → PassesDegree p limit ((k, m) ∷ []) b ↔ PassesDegree p limit ((c, m) ∷ []) b
+negation_passes p limit c k m b below also e =
+    let back : c ≡ neg_mod p k =
+    neg_mod-only p k c (omega arith) below (ap (λ n. n % p) (let turned : k + c ≡ c + neg_mod p c = omega (arith, e) in turned) ∙ add_mod-neg p c (omega arith)) in
+    (PassesDegree-negated p limit c k m b below e, PassesDegree-negated p limit k c m b also back)
 
 -- a sum with what is 0
 pub sum_with_nothing : (p : ℕ) (a b : Terms) → SamePolynomial p [] b → SamePolynomial p a (a ++ b)

@@ -1,11 +1,11 @@
 //! Sums that grow and shrink by multiples of short polynomials.
-ghost use Rattle.std.specs.Prelude.{◌≡◌, ◌≢◌, ℕ, ◌<◌, ◌≤◌, ◌↔◌, [], ◌∷◌, ◌++◌, length, IsNone, IfOk, IfSome, OnOk, OnErr, IsErrOf, MatchOption};
+ghost use Rattle.std.specs.Prelude.{◌≡◌, ◌≢◌, ℕ, ◌+◌, ◌<◌, ◌≤◌, ◌↔◌, [], ◌∷◌, ◌++◌, length, IsNone, IfOk, IfSome, OnOk, OnErr, IsErrOf, MatchOption};
 ghost use Rattle.ffc_ring.specs.Polynomial.{SamePolynomial, term_product, scaled, difference, PassesDegree, PassesTerms};
 ghost use Rattle.ffc_mono.specs.Leading.{IsLeading};
 
 use crate::poly::{Poly, TERM_LIMIT};
 use crate::stop::PolyStop;
-use crate::sums::combined_from;
+use crate::sums::add_scaled_from;
 use crate::tail::Tail;
 use crate::tails::{self, is_within};
 use crate::terms::TermList;
@@ -71,7 +71,7 @@ impl<F: Field, O: MonoOrder> Accumulator<F, O> {
             return Ok(());
         }
         let whole = tails::merged::<F, O>(alloc, self.tails.as_slice())?;
-        let terms = combined_from::<F, O>(alloc, &whole, 0, k, p.listed(), 0)?;
+        let terms = add_scaled_from::<F, O>(alloc, &whole, 0, k, p.listed(), 0)?;
         if terms.len() > TERM_LIMIT {
             return Err(PolyStop::TermsOver);
         }
@@ -84,6 +84,7 @@ impl<F: Field, O: MonoOrder> Accumulator<F, O> {
         ensures sum { OnOk result (SamePolynomial F.ORDER self.new (self.old ++ p.now)) }
         ensures fits { OnOk result (PassesTerms F.ORDER TERM_LIMIT (self.old ++ p.now) → ⊥) }
         ensures terms_over { IsErrOf result PolyStop.TermsOver → PassesTerms F.ORDER TERM_LIMIT (self.old ++ p.now) }
+        ensures short { length self.old + length p.now ≤ TERM_LIMIT → IsErrOf result PolyStop.TermsOver → ⊥ }
         ensures no_product { IsErrOf result PolyStop.DegreeOver → ⊥ }
         ensures unchanged { OnErr result (self.new ≡ self.old) }
     {
@@ -95,6 +96,7 @@ impl<F: Field, O: MonoOrder> Accumulator<F, O> {
         ensures difference { OnOk result (SamePolynomial F.ORDER self.new (difference F.ORDER self.old p.now)) }
         ensures fits { OnOk result (PassesTerms F.ORDER TERM_LIMIT (difference F.ORDER self.old p.now) → ⊥) }
         ensures terms_over { IsErrOf result PolyStop.TermsOver → PassesTerms F.ORDER TERM_LIMIT (difference F.ORDER self.old p.now) }
+        ensures short { length self.old + length p.now ≤ TERM_LIMIT → IsErrOf result PolyStop.TermsOver → ⊥ }
         ensures no_product { IsErrOf result PolyStop.DegreeOver → ⊥ }
         ensures unchanged { OnErr result (self.new ≡ self.old) }
     {
@@ -114,6 +116,7 @@ impl<F: Field, O: MonoOrder> Accumulator<F, O> {
             (difference F.ORDER self.old (term_product (F.value c) m.entry.powers.now q.now)) → ⊥) }
         ensures terms_over { IsErrOf result PolyStop.TermsOver
             → PassesTerms F.ORDER TERM_LIMIT (difference F.ORDER self.old (term_product (F.value c) m.entry.powers.now q.now)) }
+        ensures short { length self.old + length q.now ≤ TERM_LIMIT → IsErrOf result PolyStop.TermsOver → ⊥ }
         ensures degree_over { IsErrOf result PolyStop.DegreeOver ↔ PassesDegree F.ORDER DEGREE_LIMIT ((F.value c, m.entry.powers.now) ∷ []) q.now }
         ensures unchanged { OnErr result (self.new ≡ self.old) }
     {

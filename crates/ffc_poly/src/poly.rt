@@ -154,7 +154,7 @@ impl<F: Field, O: MonoOrder> Poly<F, O> {
                 let (front, back) = parts.split_at(parts.len() / 2);
                 let front = Self::merged(alloc, front)?;
                 let back = Self::merged(alloc, back)?;
-                sums::combined::<F, O>(alloc, &front, F::of(1), &back)
+                sums::add_scaled::<F, O>(alloc, &front, F::of(1), &back)
             }
         }
     }
@@ -201,7 +201,7 @@ impl<F: Field, O: MonoOrder> Poly<F, O> {
     }
 
     /// self + c*other for a constant c other than 0.
-    fn plus_times(&self, c: F, other: &Self) -> Result<Self, PolyStop>
+    fn add_scaled(&self, c: F, other: &Self) -> Result<Self, PolyStop>
         requires { F.value c ≢ 0 }
         ensures sum { IfOk result (λ r. SamePolynomial F.ORDER r (self.now ++ scaled (F.value c) other.now)) }
         ensures fits { OnOk result (IsWithinTerms F.ORDER TERM_LIMIT (self.now ++ scaled (F.value c) other.now)) }
@@ -209,7 +209,7 @@ impl<F: Field, O: MonoOrder> Poly<F, O> {
         ensures no_product { IsErrOf result PolyStop.DegreeOver → ⊥ }
     {
         let alloc = self.terms.allocator();
-        let terms = sums::combined::<F, O>(alloc, self.listed(), c, other.listed())?;
+        let terms = sums::add_scaled::<F, O>(alloc, self.listed(), c, other.listed())?;
         Self::within(terms)
     }
 
@@ -223,7 +223,7 @@ impl<F: Field, O: MonoOrder> Poly<F, O> {
         ensures short { length self.now + length other.now ≤ TERM_LIMIT → IsErrOf result PolyStop.TermsOver → ⊥ }
         ensures no_product { IsErrOf result PolyStop.DegreeOver → ⊥ }
     {
-        self.plus_times(F::of(1), other)
+        self.add_scaled(F::of(1), other)
     }
 
     /// The difference, in one merge.
@@ -236,7 +236,7 @@ impl<F: Field, O: MonoOrder> Poly<F, O> {
         ensures short { length self.now + length other.now ≤ TERM_LIMIT → IsErrOf result PolyStop.TermsOver → ⊥ }
         ensures no_product { IsErrOf result PolyStop.DegreeOver → ⊥ }
     {
-        self.plus_times(F::of(1).neg(), other)
+        self.add_scaled(F::of(1).neg(), other)
     }
 
     /// self + c*m*other, in one merge: no list of the products is made.
@@ -263,7 +263,7 @@ impl<F: Field, O: MonoOrder> Poly<F, O> {
         Self::within(multiples::merged_multiple::<F, O>(alloc, own, c, m, more)?)
     }
 
-    /// self - c*m*other. The multiple is made in one pass, and merged in another.
+    /// self - c*m*other, in one merge: no list of the products is made.
     pub fn sub_multiple(&self, c: F, m: MonoRef<'_>, other: &Self) -> Result<Self, PolyStop>
         ensures difference { IfOk result (λ r. SamePolynomial F.ORDER r
             (difference F.ORDER self.now (term_product (F.value c) m.entry.powers.now other.now))) }
@@ -274,8 +274,7 @@ impl<F: Field, O: MonoOrder> Poly<F, O> {
         ensures short { length self.now + length other.now ≤ TERM_LIMIT → IsErrOf result PolyStop.TermsOver → ⊥ }
         ensures degree_over { IsErrOf result PolyStop.DegreeOver ↔ PassesDegree F.ORDER DEGREE_LIMIT ((F.value c, m.entry.powers.now) ∷ []) other.now }
     {
-        let multiple = other.times(c, m)?;
-        self.sub(&multiple)
+        self.add_multiple(c.neg(), m, other)
     }
 
     /// The product. Whether a product of two terms has too high a degree is seen before. Then the rows, which are the

@@ -3,7 +3,7 @@ ghost use Rattle.std.specs.Prelude.{◌≡◌, ℕ, ◌+◌, ◌≤◌, ◌⊎�
 ghost use Rattle.ffc_ring.specs.Polynomial.{SamePolynomial, product};
 ghost use Rattle.ffc_poly.specs.Ordered.{IsOrdered, AreWithin, HasDegree, RowFits, ProductFits, times};
 
-use crate::sums::combined;
+use crate::sums::add_scaled;
 use crate::terms::TermList;
 use ffc_field::Field;
 use ffc_mono::{DEGREE_LIMIT, MonoOrder, MonoRef};
@@ -56,7 +56,7 @@ pub fn product_of<F: Field, O: MonoOrder>(
     let mid = from + count / 2;
     let front = product_of::<F, O>(alloc, a, from, mid, b)?;
     let back = product_of::<F, O>(alloc, a, mid, to, b)?;
-    combined::<F, O>(alloc, &front, F::of(1), &back)
+    add_scaled::<F, O>(alloc, &front, F::of(1), &back)
 }
 
 /// The product a*b, in rows of the longer factor.

@@ -11,7 +11,7 @@ use std::alloc::{AllocError, Global};
 use std::cmp::Ordering;
 
 /// a + c*b for a constant c other than 0, in one merge: each comparison takes a term off one of both, or off both.
-pub fn combined<F: Field, O: MonoOrder>(
+pub fn add_scaled<F: Field, O: MonoOrder>(
     alloc: Global,
     a: &TermList<F>,
     c: F,
@@ -23,11 +23,11 @@ pub fn combined<F: Field, O: MonoOrder>(
     ensures ordered { IfOk result (λ v. IsOrdered F.ORDER O.cmp DEGREE_LIMIT v) }
     ensures same { IfOk result (λ v. SamePolynomial F.ORDER v (a.now ++ scaled (F.value c) b.now)) }
 {
-    combined_from::<F, O>(alloc, a, 0, c, b, 0)
+    add_scaled_from::<F, O>(alloc, a, 0, c, b, 0)
 }
 
 /// The same for the terms of both from a place on.
-pub fn combined_from<F: Field, O: MonoOrder>(
+pub fn add_scaled_from<F: Field, O: MonoOrder>(
     alloc: Global,
     a: &TermList<F>,
     from_a: usize,
@@ -88,7 +88,7 @@ pub fn sum_of<F: Field, O: MonoOrder>(
             let (front, back) = terms.split_at(terms.len() / 2);
             let front = sum_of::<F, O>(alloc, front)?;
             let back = sum_of::<F, O>(alloc, back)?;
-            combined::<F, O>(alloc, &front, F::of(1), &back)
+            add_scaled::<F, O>(alloc, &front, F::of(1), &back)
         }
     }
 }

@@ -4,7 +4,7 @@ ghost use Rattle.ffc_ring.specs.Polynomial.{SamePolynomial};
 ghost use Rattle.ffc_poly.specs.Ordered.{sum_of, IsOrdered};
 ghost use Rattle.ffc_poly.specs.Tails.{AreOrdered, lead_of, AreEmpty, IsHighest, IsAlone, IsRival, IsTop};
 
-use crate::sums::combined_from;
+use crate::sums::add_scaled_from;
 use crate::tail::Tail;
 use crate::terms::TermList;
 use ffc_field::Field;
@@ -29,7 +29,7 @@ fn merge_last<F: Field, O: MonoOrder>(tails: &mut Vec<Tail<F>>) -> bool
         return false;
     }
     let alloc = *tails.allocator();
-    let Ok(merged) = combined_from::<F, O>(alloc, &a.terms, a.from, F::of(1), &b.terms, b.from)
+    let Ok(merged) = add_scaled_from::<F, O>(alloc, &a.terms, a.from, F::of(1), &b.terms, b.from)
     else {
         return false;
     };
@@ -38,7 +38,7 @@ fn merge_last<F: Field, O: MonoOrder>(tails: &mut Vec<Tail<F>>) -> bool
     true
 }
 
-/// Merges lists at the end until each is at least twice as long as the next, as far as there is memory.
+/// Merges the last two lists until the last is at most half as long as the one before it, as far as there is memory.
 pub fn settle<F: Field, O: MonoOrder>(tails: &mut Vec<Tail<F>>)
     requires { AreOrdered F.ORDER O.cmp DEGREE_LIMIT tails.old.items }
     ensures ordered { AreOrdered F.ORDER O.cmp DEGREE_LIMIT tails.new.items }
@@ -59,7 +59,7 @@ pub fn merged<F: Field, O: MonoOrder>(
     let mut whole = TermList::new(alloc);
     let mut left = tails;
     while let Some((last, rest)) = left.split_last() {
-        whole = combined_from::<F, O>(alloc, &last.terms, last.from, F::of(1), &whole, 0)?;
+        whole = add_scaled_from::<F, O>(alloc, &last.terms, last.from, F::of(1), &whole, 0)?;
         left = rest;
     }
     Ok(whole)

@@ -1,4 +1,4 @@
-use Rattle.ffc_mono.proofs.LeadingLemmas.{one_leading, leading_of_product, leading_of_multiple, leading_of_sum, leading_of_equal_sum, cancelled_sum}
+use Rattle.ffc_mono.proofs.LeadingLemmas.{one_leading, leading_of_product, leading_of_multiple, leading_of_sum, leading_of_equal_sum, cancelled_sum, cancelled_step}
 use Rattle.ffc_mono.proofs.laws.leading_terms.Goals as goal
 
 pub returns-clause-one : goal.returns-clause-one
@@ -18,3 +18,6 @@ returns-clause-equal_sum c = λ p cmp laws. leading_of_equal_sum cmp laws p
 
 pub returns-clause-cancelled_sum : goal.returns-clause-cancelled_sum
 returns-clause-cancelled_sum c = λ p cmp laws. cancelled_sum cmp laws p
+
+pub returns-clause-cancelled_step : goal.returns-clause-cancelled_step
+returns-clause-cancelled_step c = λ p prime cmp laws. cancelled_step cmp laws p prime

@@ -1,5 +1,4 @@
-use Rattle.std.proofs.Common.{◌≡◌, ℕ, refl, ◌∷◌, ◌++◌, [], take, take_all, length, sym, ap, ◌∙◌, arith, append_assoc}
-use Rattle.ffc_ring.specs.Monomial.{mono_mul}
+use Rattle.std.proofs.Common.{◌≡◌, refl, ◌++◌, take, take_all, sym, ap, ◌∙◌, arith, append_assoc}
 use Rattle.ffc_ring.proofs.MonomialLemmas.{sums}
 use Rattle.ffc_mono.proofs.PowerLemmas.{rest_is, degree_is, pushed, joined_by_left, joined_by_right, joined_by_both, joined_at_left_end, joined_at_right_end, longer-append, part-append}
 use Rattle.ffc_mono.proofs.powers.append_powers.Goals as goal

@@ -1,4 +1,4 @@
-use Rattle.std.proofs.Common.{◌≡◌, ◌+◌, ◌∷◌, ◌++◌, [], take, take_all, get_or, sym, ap, ap₂, ◌∙◌, refl}
+use Rattle.std.proofs.Common.{take, take_all, get_or, sym, ap, ap₂, ◌∙◌}
 use Rattle.std.proofs.lemmas.List.{take_more}
 use Rattle.std.specs.Int.RustNames.{bit_or}
 use Rattle.ffc_mono.specs.Masks.{mask_of}

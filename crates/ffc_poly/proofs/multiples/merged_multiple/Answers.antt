@@ -1,7 +1,7 @@
-use Rattle.std.proofs.Common.{◌≡◌, [], ◌∷◌, ◌++◌, ◌<◌, ◌≤◌, ◌+◌, length, drop, get_or, sym, ap, ◌∙◌, subst, inl, inr, arith, refl, mod-eq_of_lt}
+use Rattle.std.proofs.Common.{◌≡◌, [], ◌∷◌, ◌++◌, ◌<◌, ◌+◌, length, drop, get_or, sym, ap, ◌∙◌, subst, inl, inr, arith, refl}
 use Rattle.std.specs.Prelude.{slice_range}
 use Rattle.ffc_mono.specs.declared.mono.TheConstants.{DEGREE_LIMIT}
-use Rattle.ffc_field.specs.Modular.{add_mod, mul_mod}
+use Rattle.ffc_field.specs.Modular.{mul_mod}
 use Rattle.ffc_ring.specs.Monomial.{mono_mul}
 use Rattle.ffc_ring.specs.Polynomial.{SamePolynomial, term_product}
 use Rattle.ffc_ring.proofs.PolynomialLemmas.{same_sums}

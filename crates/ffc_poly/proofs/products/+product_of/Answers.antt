@@ -66,7 +66,7 @@ returns-clause-same g t c =
     let y = c.in_ok-back.back in
     let whole : front ++ back ≡ slice_range a c.args.from c.args.to = range_split a c.args.from mid c.args.to (omega arith) (omega (arith, c.requires.between)) in
     let one : value c.of.result ≡ 1 = c.of.ensures ∙ mod-eq_of_lt (omega (arith, g.met.F.Field.prime.least)) in
-    IfOk-weaker c.combined.result (λ v. SamePolynomial p v (x ++ scaled (value c.of.result) y)) (λ v. SamePolynomial p v all)
+    IfOk-weaker c.add_scaled.result (λ v. SamePolynomial p v (x ++ scaled (value c.of.result) y)) (λ v. SamePolynomial p v all)
     (λ v h. SamePolynomial-halves p v x y (product front b) (product back b) all (λ m. h m ∙ sum_by_one p (value c.of.result) x y one m)
     c.in_ok-front.ensures.same c.in_ok-back.ensures.same (sym (product-append front back b) ∙ ap (λ k. product k b) whole))
-    c.combined.ensures.same
+    c.add_scaled.ensures.same

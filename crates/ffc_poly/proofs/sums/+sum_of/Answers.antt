@@ -18,6 +18,6 @@ returns-in_ok-back-in_default-clause-same g t c =
     let y = c.in_ok-back-in_default.back in
     let whole = halved value c.args.terms.now c.split_at.result.0.now c.split_at.result.1.now _ c.split_at.ensures.front c.split_at.ensures.back in
     let one : value c.of.result ≡ 1 = c.of.ensures ∙ mod-eq_of_lt (omega (arith, g.met.F.Field.prime.least)) in
-    IfOk-weaker c.combined.result (λ v. SamePolynomial p v (x ++ scaled (value c.of.result) y)) (λ v. SamePolynomial p v all)
+    IfOk-weaker c.add_scaled.result (λ v. SamePolynomial p v (x ++ scaled (value c.of.result) y)) (λ v. SamePolynomial p v all)
     (λ v h. SamePolynomial-halves p v x y front back all (λ m. h m ∙ sum_by_one p (value c.of.result) x y one m) c.in_ok-front-in_default.ensures.same c.in_ok-back-in_default.ensures.same whole)
-    c.combined.ensures.same
+    c.add_scaled.ensures.same

@@ -7,8 +7,8 @@ use Rattle.ffc_poly.proofs.Clauses.{sum_by_one}
 use Rattle.ffc_poly.proofs.TailLemmas.{ordered_item, AreOrdered-set, AreOrdered-take, merged_last}
 use Rattle.ffc_poly.proofs.tails.merge_last.Goals as goal
 
-pub combined_from-requires-clause-a_is : goal.combined_from-requires-clause-a_is
-combined_from-requires-clause-a_is g c =
+pub add_scaled_from-requires-clause-a_is : goal.add_scaled_from-requires-clause-a_is
+add_scaled_from-requires-clause-a_is g c =
     let value = g.F.Field.value in
     let p = g.F.Field.ORDER in
     let cmp = g.O.MonoOrder.cmp in
@@ -17,8 +17,8 @@ combined_from-requires-clause-a_is g c =
     let size : n ≡ length xs = omega (arith, c.len-count.ensures, c.args.tails.now.ok) in
     subst (IsOrdered p cmp DEGREE_LIMIT) (sym c.a.view_is) (ordered_item p cmp DEGREE_LIMIT xs (n - 2) c.index-a.result.now c.requires (omega (arith, size, c.if-count-lt2.false)) c.index-a.ensures)
 
-pub combined_from-requires-clause-b_is : goal.combined_from-requires-clause-b_is
-combined_from-requires-clause-b_is g c =
+pub add_scaled_from-requires-clause-b_is : goal.add_scaled_from-requires-clause-b_is
+add_scaled_from-requires-clause-b_is g c =
     let value = g.F.Field.value in
     let p = g.F.Field.ORDER in
     let cmp = g.O.MonoOrder.cmp in

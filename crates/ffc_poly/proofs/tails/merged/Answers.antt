@@ -9,8 +9,8 @@ use Rattle.ffc_poly.proofs.TailLemmas.{AreOrdered-split}
 use Rattle.ffc_poly.proofs.TermLemmas.{sum_of-append}
 use Rattle.ffc_poly.proofs.tails.merged.Goals as goal
 
-pub combined_from-requires-clause-a_is : goal.combined_from-requires-clause-a_is
-combined_from-requires-clause-a_is g c =
+pub add_scaled_from-requires-clause-a_is : goal.add_scaled_from-requires-clause-a_is
+add_scaled_from-requires-clause-a_is g c =
     let p = g.F.Field.ORDER in
     let cmp = g.O.MonoOrder.cmp in
     subst (IsOrdered p cmp DEGREE_LIMIT) (sym c.last.view_is)

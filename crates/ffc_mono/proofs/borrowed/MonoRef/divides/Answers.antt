@@ -1,4 +1,4 @@
-use Rattle.std.proofs.Common.{◌≡◌, ◌≤◌, sym, ap, ◌∙◌, subst₂, true≢false}
+use Rattle.std.proofs.Common.{◌≤◌, sym, subst₂, true≢false}
 use Rattle.std.specs.Int.{bit_at}
 use Rattle.ffc_mono.proofs.MaskLemmas.{mask-divisor}
 use Rattle.ffc_mono.proofs.borrowed.MonoRef.divides.Goals as goal

@@ -10,17 +10,17 @@ pub invariant_of-result : goal.invariant_of-result
 invariant_of-result c =
     let a = c.args.self.now in
     let b = c.args.other.now in
-    let product : c.in_ok-powers.powers.items ≡ mono_lcm a b = c.in_ok-powers.ensures ∙ ap₂ mono_lcm c.pairs.ensures.value c.pairs-2.ensures.value in (
-      subst IsMonomial (sym product) (IsMonomial-mono_lcm a b c.pairs.ensures.monomial c.pairs-2.ensures.monomial),
-      omega (arith, c.in-Some.ensures.1, ap degree c.as_slice.ensures),
-      omega (arith, c.in-Some.ensures.0, c.in-Some.ensures.1),
+    let product : c.in_ok-powers.powers.items ≡ mono_lcm a b = c.in_ok-powers.ensures ∙ ap₂ mono_lcm c.pairs-first.ensures.value c.pairs-second.ensures.value in (
+      subst IsMonomial (sym product) (IsMonomial-mono_lcm a b c.pairs-first.ensures.monomial c.pairs-second.ensures.monomial),
+      omega (arith, c.lcm_degree-degree.ensures, ap degree c.in_ok-powers.ensures),
+      omega (arith, c.if-degree-gt-DEGREE_LIMIT.false),
       ap₂ bit_or (c.self.invariant.3 ∙ ap mask_of c.self.view_is) (c.other.invariant.3 ∙ ap mask_of c.other.view_is)
-          ∙ mask-lcm a b c.pairs.ensures.monomial c.pairs-2.ensures.monomial ∙ sym (ap mask_of product),
+          ∙ mask-lcm a b c.pairs-first.ensures.monomial c.pairs-second.ensures.monomial ∙ sym (ap mask_of product),
     )
 
 pub returns-clause-exponents : goal.returns-clause-exponents
 returns-clause-exponents c x =
     let a = c.args.self.now in
     let b = c.args.other.now in
-    ap (λ m. exponent m x) (c.in_ok-powers.ensures ∙ ap₂ mono_lcm c.pairs.ensures.value c.pairs-2.ensures.value)
-    ∙ exponent-mono_lcm a b c.pairs.ensures.monomial c.pairs-2.ensures.monomial x
+    ap (λ m. exponent m x) (c.in_ok-powers.ensures ∙ ap₂ mono_lcm c.pairs-first.ensures.value c.pairs-second.ensures.value)
+    ∙ exponent-mono_lcm a b c.pairs-first.ensures.monomial c.pairs-second.ensures.monomial x

@@ -1,4 +1,4 @@
-use Rattle.std.proofs.Common.{length, sym, ap, arith}
+use Rattle.std.proofs.Common.{length, ap, arith}
 use Rattle.ffc_mono.proofs.RowLemmas.{length-cut}
 use Rattle.ffc_mono.proofs.row.MonoRow.len.Goals as goal
 

@@ -1,4 +1,4 @@
-use Rattle.std.proofs.Common.{◌≡◌, ◌∷◌, ◌++◌, [], length, sym, ap, ◌∙◌, subst, arith}
+use Rattle.std.proofs.Common.{◌∷◌, ◌++◌, [], ap, ◌∙◌, arith}
 use Rattle.ffc_mono.specs.declared.row.Mark.{Mark}
 use Rattle.ffc_mono.proofs.RowLemmas.{row-push, row-is, row-view, row-moved}
 use Rattle.ffc_mono.proofs.row.MonoRow.push.Goals as goal

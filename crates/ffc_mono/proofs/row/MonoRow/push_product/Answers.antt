@@ -1,4 +1,4 @@
-use Rattle.std.proofs.Common.{◌≡◌, ◌+◌, ◌∷◌, ◌++◌, [], length, sym, ap, ap₂, ◌∙◌, arith, length-append}
+use Rattle.std.proofs.Common.{◌≡◌, ◌+◌, ◌∷◌, ◌++◌, [], length, ap, ap₂, ◌∙◌, arith, length-append}
 use Rattle.std.specs.Int.RustNames.{bit_or}
 use Rattle.ffc_ring.specs.Monomial.{mono_mul, degree}
 use Rattle.ffc_ring.proofs.MonomialLemmas.{IsMonomial-mono_mul, degree-mono_mul}

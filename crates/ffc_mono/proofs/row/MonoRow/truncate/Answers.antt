@@ -1,4 +1,4 @@
-use Rattle.std.proofs.Common.{◌≡◌, ◌≤◌, length, take, take_all, sym, ap, ap₂, ◌∙◌, arith}
+use Rattle.std.proofs.Common.{◌≡◌, ◌≤◌, length, take, take_all, sym, ap, ◌∙◌, arith}
 use Rattle.ffc_mono.specs.Rows.{cut_at, start_at}
 use Rattle.ffc_mono.proofs.RowLemmas.{length-cut, row-take, row-is, row-view, row-moved}
 use Rattle.ffc_mono.proofs.row.MonoRow.truncate.Goals as goal

@@ -16,7 +16,7 @@ returns-clause-sum g c =
     let one : value c.of.result ≡ 1 = c.of.ensures ∙ mod-eq_of_lt (omega (arith, g.met.F.Field.prime.least)) in
     let k = value c.of.result in
     let step = sum_by_one p k a b one in
-    IfOk-weaker c.plus_times.result (λ v. SamePolynomial p v (a ++ scaled k b)) (λ v. SamePolynomial p v (a ++ b)) (λ v h m. h m ∙ step m) c.plus_times.ensures.sum
+    IfOk-weaker c.add_scaled.result (λ v. SamePolynomial p v (a ++ scaled k b)) (λ v. SamePolynomial p v (a ++ b)) (λ v h m. h m ∙ step m) c.add_scaled.ensures.sum
 
 pub returns-clause-value : goal.returns-clause-value
 returns-clause-value g c =
@@ -27,8 +27,8 @@ returns-clause-value g c =
     let one : value c.of.result ≡ 1 = c.of.ensures ∙ mod-eq_of_lt (omega (arith, g.met.F.Field.prime.least)) in
     let k = value c.of.result in
     let step = sum_by_one p k a b one in
-    IfOk-weaker c.plus_times.result (λ v. SamePolynomial p v (a ++ scaled k b)) (λ v. (point : ℕ → ℕ) → poly_value p point v ≡ add_mod p (poly_value p point a) (poly_value p point b))
-    (λ v h. value_of_sum p v a b (λ m. h m ∙ step m)) c.plus_times.ensures.sum
+    IfOk-weaker c.add_scaled.result (λ v. SamePolynomial p v (a ++ scaled k b)) (λ v. (point : ℕ → ℕ) → poly_value p point v ≡ add_mod p (poly_value p point a) (poly_value p point b))
+    (λ v h. value_of_sum p v a b (λ m. h m ∙ step m)) c.add_scaled.ensures.sum
 
 pub returns-clause-fits : goal.returns-clause-fits
 returns-clause-fits g c =
@@ -39,7 +39,7 @@ returns-clause-fits g c =
     let one : value c.of.result ≡ 1 = c.of.ensures ∙ mod-eq_of_lt (omega (arith, g.met.F.Field.prime.least)) in
     let k = value c.of.result in
     let step = sum_by_one p k a b one in
-    on_ok_weaker c.plus_times.result (λ h. h (a ++ b) step) c.plus_times.ensures.fits
+    on_ok_weaker c.add_scaled.result (λ h. h (a ++ b) step) c.add_scaled.ensures.fits
 
 pub returns-clause-terms_over : goal.returns-clause-terms_over
 returns-clause-terms_over g c =
@@ -50,7 +50,7 @@ returns-clause-terms_over g c =
     let one : value c.of.result ≡ 1 = c.of.ensures ∙ mod-eq_of_lt (omega (arith, g.met.F.Field.prime.least)) in
     let k = value c.of.result in
     let step = sum_by_one p k a b one in
-    λ refused. c.plus_times.ensures.over refused (a ++ b) step
+    λ refused. c.add_scaled.ensures.over refused (a ++ b) step
 
 pub returns-clause-short : goal.returns-clause-short
 returns-clause-short g c =
@@ -61,4 +61,4 @@ returns-clause-short g c =
     let one : value c.of.result ≡ 1 = c.of.ensures ∙ mod-eq_of_lt (omega (arith, g.met.F.Field.prime.least)) in
     λ short refused.
     PassesTerms-length p TERM_LIMIT (a ++ b) (omega (arith, length-append a b, short))
-    (c.plus_times.ensures.over refused (a ++ b) (sum_by_one p (value c.of.result) a b one))
+    (c.add_scaled.ensures.over refused (a ++ b) (sum_by_one p (value c.of.result) a b one))

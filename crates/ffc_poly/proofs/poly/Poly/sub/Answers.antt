@@ -16,7 +16,7 @@ returns-clause-difference g c =
     let k = value c.neg.result in
     let minus : k ≡ p - 1 = minus_one p (value c.of.result) k (omega (arith, g.met.F.Field.prime.least)) c.of.ensures c.neg.ensures in
     let step = difference_by_factor p k a b minus in
-    IfOk-weaker c.plus_times.result (λ v. SamePolynomial p v (a ++ scaled k b)) (λ v. SamePolynomial p v (difference p a b)) (λ v h m. h m ∙ step m) c.plus_times.ensures.sum
+    IfOk-weaker c.add_scaled.result (λ v. SamePolynomial p v (a ++ scaled k b)) (λ v. SamePolynomial p v (difference p a b)) (λ v h m. h m ∙ step m) c.add_scaled.ensures.sum
 
 pub returns-clause-value : goal.returns-clause-value
 returns-clause-value g c =
@@ -27,8 +27,8 @@ returns-clause-value g c =
     let k = value c.neg.result in
     let minus : k ≡ p - 1 = minus_one p (value c.of.result) k (omega (arith, g.met.F.Field.prime.least)) c.of.ensures c.neg.ensures in
     let step = difference_by_factor p k a b minus in
-    IfOk-weaker c.plus_times.result (λ v. SamePolynomial p v (a ++ scaled k b)) (λ v. (point : ℕ → ℕ) → poly_value p point v ≡ sub_mod p (poly_value p point a) (poly_value p point b))
-    (λ v h. value_of_difference p (omega (arith, g.met.F.Field.prime.least)) v a b (λ m. h m ∙ step m)) c.plus_times.ensures.sum
+    IfOk-weaker c.add_scaled.result (λ v. SamePolynomial p v (a ++ scaled k b)) (λ v. (point : ℕ → ℕ) → poly_value p point v ≡ sub_mod p (poly_value p point a) (poly_value p point b))
+    (λ v h. value_of_difference p (omega (arith, g.met.F.Field.prime.least)) v a b (λ m. h m ∙ step m)) c.add_scaled.ensures.sum
 
 pub returns-clause-fits : goal.returns-clause-fits
 returns-clause-fits g c =
@@ -39,7 +39,7 @@ returns-clause-fits g c =
     let k = value c.neg.result in
     let minus : k ≡ p - 1 = minus_one p (value c.of.result) k (omega (arith, g.met.F.Field.prime.least)) c.of.ensures c.neg.ensures in
     let step = difference_by_factor p k a b minus in
-    on_ok_weaker c.plus_times.result (λ h. h (difference p a b) step) c.plus_times.ensures.fits
+    on_ok_weaker c.add_scaled.result (λ h. h (difference p a b) step) c.add_scaled.ensures.fits
 
 pub returns-clause-terms_over : goal.returns-clause-terms_over
 returns-clause-terms_over g c =
@@ -50,7 +50,7 @@ returns-clause-terms_over g c =
     let k = value c.neg.result in
     let minus : k ≡ p - 1 = minus_one p (value c.of.result) k (omega (arith, g.met.F.Field.prime.least)) c.of.ensures c.neg.ensures in
     let step = difference_by_factor p k a b minus in
-    λ refused. c.plus_times.ensures.over refused (difference p a b) step
+    λ refused. c.add_scaled.ensures.over refused (difference p a b) step
 
 pub returns-clause-short : goal.returns-clause-short
 returns-clause-short g c =
@@ -62,4 +62,4 @@ returns-clause-short g c =
     let minus : k ≡ p - 1 = minus_one p (value c.of.result) k (omega (arith, g.met.F.Field.prime.least)) c.of.ensures c.neg.ensures in
     λ short refused.
     PassesTerms-length p TERM_LIMIT (difference p a b) (omega (arith, length-append a (scaled (p - 1) b), length-term_product (p - 1) [] b, short))
-    (c.plus_times.ensures.over refused (difference p a b) (difference_by_factor p k a b minus))
+    (c.add_scaled.ensures.over refused (difference p a b) (difference_by_factor p k a b minus))

@@ -1,6 +1,6 @@
 use Rattle.std.proofs.Common.{◌≡◌, ◌≤◌, ◌+◌, ◌-◌, ◌++◌, length, drop}
 use Rattle.ffc_poly.proofs.Merging.{merged}
-use Rattle.ffc_poly.proofs.sums.combined_from.Given as goal
+use Rattle.ffc_poly.proofs.sums.add_scaled_from.Given as goal
 
 abbrev pub invariant-loop-i : goal.invariant-loop-i
 invariant-loop-i g l =

@@ -5,8 +5,8 @@ use Rattle.ffc_ring.specs.Polynomial.{SamePolynomial, scaled}
 use Rattle.ffc_poly.specs.Ordered.{IsOrdered, multiplied}
 use Rattle.ffc_poly.proofs.Merging.{merged, IsOrdered-merged, SamePolynomial-merged}
 use Rattle.ffc_poly.proofs.MergingSteps.{finished}
-use Rattle.ffc_poly.proofs.sums.combined_from.Goals as goal
-use Rattle.ffc_poly.proofs.sums.combined_from.Goals.{then-loop-i-test+else-j-len, else-loop-i-test}
+use Rattle.ffc_poly.proofs.sums.add_scaled_from.Goals as goal
+use Rattle.ffc_poly.proofs.sums.add_scaled_from.Goals.{then-loop-i-test+else-j-len, else-loop-i-test}
 
 pub returns-clause-ordered : goal.returns-clause-ordered
 returns-clause-ordered g c =

@@ -5,7 +5,7 @@ use Rattle.ffc_poly.specs.declared.poly.TheConstants.{TERM_LIMIT}
 use Rattle.ffc_poly.specs.declared.stop.PolyStop.TheVariants.{TermsOver}
 use Rattle.ffc_poly.specs.Ordered.{IsOverTerms}
 use Rattle.ffc_poly.proofs.Coefficients.{err_of}
-use Rattle.ffc_poly.proofs.poly.Poly.plus_times.Goals as goal
+use Rattle.ffc_poly.proofs.poly.Poly.add_scaled.Goals as goal
 
 pub returns-clause-fits : goal.returns-clause-fits
 returns-clause-fits g c =
