@@ -5,5 +5,6 @@ pub mod Reading
 pub mod Changes
 pub mod Taking
 pub mod Making
+pub mod Asserting
 pub mod Orders
 pub mod SortedTerms
