@@ -152,7 +152,7 @@ fn plain_assertion<'a>(
 }
 
 /// `assert`: the term, and its name if it has one.
-pub(crate) fn assertion<'a>(
+pub(crate) fn read_assertion<'a>(
     alloc: Global,
     words: &FormWords<'a>,
     symbols: &Symbols,
