@@ -2,6 +2,7 @@
 #![tactic(auto)]
 
 mod answers;
+mod assert;
 mod asserting;
 mod assertions;
 mod commands;
