@@ -88,7 +88,7 @@ inner_at words i o c closing is ts at = record {
   closed = at.proper.0.2;
 }
 
-after_leaf : (words : List Word) (i : ℕ) (w c : Word) (is : Trees) (rest : List Word) → AreItemsAt words i (First (Leaf w) is) c rest → AreItemsAt words (suc i) is c rest
+pub after_leaf : (words : List Word) (i : ℕ) (w c : Word) (is : Trees) (rest : List Word) → AreItemsAt words i (First (Leaf w) is) c rest → AreItemsAt words (suc i) is c rest
 unfolding tokens_of
 after_leaf words i w c is rest at = record { text = drop_next words i w (tokens_of_items is ++ c ∷ rest) at.text; proper = at.proper.1; closed = at.closed }
 
@@ -149,7 +149,7 @@ module _ (words : List Word) (closing : Word) (opens : (word_at words 2).kind �
 
 -- The label
 
-ended_kind : (k : TokenKind) (w : Word) (u : Unit {0}) → end_at_kind k w ≡ Ok u → k ≡ kinds.RightParen
+pub ended_kind : (k : TokenKind) (w : Word) (u : Unit {0}) → end_at_kind k w ≡ Ok u → k ≡ kinds.RightParen
 ended_kind kinds.RightParen w u e = refl
 ended_kind kinds.LeftParen w u e = cc
 ended_kind kinds.Symbol w u e = cc
@@ -161,7 +161,7 @@ ended_kind kinds.Str w u e = cc
 ended_kind kinds.FieldLiteral w u e = cc
 
 -- after the end of a list
-past_end : (words : List Word) (i : ℕ) (items : Trees) (closing : Word) (rest : List Word) (u : Unit {0}) → AreItemsAt words i items closing rest → end_at (word_at words i) ≡ Ok u → drop (suc i) words ≡ rest
+pub past_end : (words : List Word) (i : ℕ) (items : Trees) (closing : Word) (rest : List Word) (u : Unit {0}) → AreItemsAt words i items closing rest → end_at (word_at words i) ≡ Ok u → drop (suc i) words ≡ rest
 unfolding tokens_of
 past_end words i Empty closing rest u at e = drop_next words i closing rest at.text
 past_end words i (First t ts) closing rest u at e =

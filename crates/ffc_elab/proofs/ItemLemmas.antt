@@ -66,11 +66,11 @@ unfolding items_of
 missing_item f read next words i Empty closing rest at e = ap (λ w. Err (word_fault 5 w)) (sym (word_at_items words i Empty closing rest at))
 missing_item f read next words i (First t ts) closing rest at e = absurd (front_kind t at.proper.0 (ap (λ w. w.kind) (sym (word_at_items words i (First t ts) closing rest at)) ∙ e))
 
-placed_wrong : (t : Tree) (i : ℕ) (r : Result Sort Fault) (f : Fault) → Err f ≡ placed t i r → r ≡ Err f
+pub placed_wrong : (t : Tree) (i : ℕ) (r : Result Sort Fault) (f : Fault) → Err f ≡ placed t i r → r ≡ Err f
 placed_wrong t i (Ok s) f e = cc
 placed_wrong t i (Err g) f e = cc
 
-placed_right : (t : Tree) (i j : ℕ) (r : Result Sort Fault) (s : Sort) → Ok (s, j) ≡ placed t i r → (r ≡ Ok s) × (j ≡ i + length (tokens_of t))
+pub placed_right : (t : Tree) (i j : ℕ) (r : Result Sort Fault) (s : Sort) → Ok (s, j) ≡ placed t i r → (r ≡ Ok s) × (j ≡ i + length (tokens_of t))
 placed_right t i j (Ok u) s e =
     (ap Ok (sym (ap (λ r. elim r as (λ x. Sort) [ Ok p ↦ p.0 | Err g ↦ s ]) e)), ap (λ r. elim r as (λ x. ℕ) [ Ok p ↦ p.1 | Err g ↦ j ]) e)
 placed_right t i j (Err g) s e = cc

@@ -11,6 +11,9 @@ pub mod ConstantLemmas
 pub mod NameLemmas
 pub mod GrowthLemmas
 pub mod MakingLemmas
+pub mod ParameterLemmas
+pub mod ParameterReading
+pub mod ParameterLists
 pub mod AssertCommand
 pub mod SameLemmas
 pub mod TermItemLemmas

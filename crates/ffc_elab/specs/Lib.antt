@@ -6,5 +6,6 @@ pub mod Changes
 pub mod Taking
 pub mod Making
 pub mod Asserting
+pub mod Defining
 pub mod Orders
 pub mod SortedTerms

@@ -15,6 +15,7 @@ mod items;
 mod levels;
 mod making;
 mod orders;
+mod parameters;
 mod plain;
 mod plain_changes;
 mod sort_names;
