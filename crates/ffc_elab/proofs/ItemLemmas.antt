@@ -108,7 +108,7 @@ module _ {C : Type 0} (g : Sort × Unit {0} → C) (sorts : Env Sort) (words : L
 
 -- `()`, and then others
 
-empty_spelled : (c : Word) (ws : List Word) → tokens_of_items Empty ++ c ∷ ws ≡ c ∷ ws
+pub empty_spelled : (c : Word) (ws : List Word) → tokens_of_items Empty ++ c ∷ ws ≡ c ∷ ws
 unfolding tokens_of
 empty_spelled c ws = refl
 

@@ -14,6 +14,7 @@ pub mod MakingLemmas
 pub mod ParameterLemmas
 pub mod ParameterReading
 pub mod ParameterLists
+pub mod DefineReading
 pub mod AssertCommand
 pub mod SameLemmas
 pub mod TermItemLemmas

@@ -1,5 +1,5 @@
 -- The parameters of a definition, one after another.
-use Rattle.std.proofs.Common.{◌≡◌, ℕ, zero, suc, ◌+◌, ◌<◌, ◌≤◌, Bool, ◌||◌, true, false, List, [], ◌∷◌, ◌++◌, All, Contains, map, drop, length, reverse, if◌then◌else◌, Option, Some, None, is_some, Result, Ok, Err, refl, sym, ap, ◌∙◌, subst, inl, inr, arith, append_assoc, length-append}
+use Rattle.std.proofs.Common.{◌≡◌, ℕ, zero, suc, ◌+◌, ◌<◌, ◌≤◌, Bool, ◌||◌, true, false, List, [], ◌∷◌, ◌++◌, All, Contains, map, drop, length, reverse, if◌then◌else◌, Option, Some, None, is_some, Result, Ok, Err, refl, sym, ap, ◌∙◌, subst, inl, inr, arith, append_assoc, append-nil, length-append}
 use Rattle.std.specs.Str.{bytes_eq}
 use Rattle.std.specs.List.{list_any}
 use Rattle.std.proofs.lemmas.List.Elements.{All-nil, All-append, All-contains, All-head, All-tail, Contains-append_left, Contains-append_right}
@@ -14,7 +14,7 @@ use Rattle.ffc_smt.specs.Terms.{Name, Parameter}
 use Rattle.ffc_smt.specs.Faults.{Fault, word_fault, is_before, first_fault, Read, Sound, Faulty, faults, faulty, unless, read_map, last, item}
 use Rattle.ffc_smt.specs.Scopes.{State, scope_of}
 use Rattle.ffc_smt.specs.TermReading.{Named, variable_read, free_name, sort_read, is_among, twice, add_named}
-use Rattle.ffc_smt.specs.CommandReading.{fresh, fresh_read, ReadParameter, parameter_of, parameter_read, parameter_faults, parameter_names, sound_parameters, sound_parameter, parameters_of}
+use Rattle.ffc_smt.specs.CommandReading.{fresh, fresh_read, ReadParameter, parameter_of, parameter_read, parameter_faults, parameter_names, sound_parameters, sound_parameter, parameters_of, parameters_read}
 use Rattle.ffc_smt.proofs.PlaceLemmas.{each_from, each_from_items}
 use Rattle.ffc_smt.proofs.ReadLemmas.{IfSound}
 use Rattle.ffc_smt.proofs.TermWalk.{AllNamed, add_named_at, reads_sort, reads_variable, twice_at}
@@ -335,3 +335,15 @@ module _ (s : State) where
     parameter_goes (Group o (First x rest) c) us name srt order e =
         let g = list_goes o c x rest us before names same (inside_order o c x rest us order) name srt e in
         record { named = g.named; is = g.is; others = g.others }
+
+pub parameters_in : (s : State) (P : Fault → Type 0) (t : Tree) → EachToken (MayFail P) t → All P (faults (parameters_read s t))
+parameters_in s P (Leaf w) m = one_fault P 5 w m
+parameters_in s P (Group o items c) m =
+    let ts = items_of items in
+    let i = each_in (MayFail P) items m.1 in
+    let ps = map (read_one s) ts in
+    refused_at (parameter_faults ps ++ twice [] (parameter_names ps)) (sound_parameters ps) (All-append P (parameter_faults ps) (twice [] (parameter_names ps)) (faults_at s P ts i) (twice_at P [] (parameter_names ps) (names_at s P ts i)))
+  where
+    refused_at : (F : List Fault) (X : List Parameter) → All P F → All P (faults (unless F (Sound X)))
+    refused_at [] X h = h
+    refused_at (f ∷ fs) X h = subst (λ v. All P (f ∷ v)) (sym (append-nil fs)) h

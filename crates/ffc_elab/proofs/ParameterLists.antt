@@ -1,30 +1,32 @@
 -- The parameters of a definition while they are read.
-use Rattle.std.proofs.Common.{◌≡◌, ℕ, zero, suc, ◌+◌, ◌-◌, ◌^◌, ◌<◌, ◌≤◌, min, List, [], ◌∷◌, ◌++◌, All, map, drop, length, reverse, Result, Ok, Err, refl, sym, ap, ◌∙◌, subst, arith, append_assoc, append-nil, length-append}
+use Rattle.std.proofs.Common.{◌≡◌, ℕ, zero, suc, ◌+◌, ◌-◌, ◌^◌, ◌<◌, ◌≤◌, min, false, List, [], ◌∷◌, ◌++◌, All, map, drop, length, reverse, Result, Ok, Err, refl, sym, ap, ◌∙◌, subst, arith, append_assoc, append-nil, length-append}
 use Rattle.std.proofs.lemmas.List.{map-append, reverse-append}
 use Rattle.std.proofs.lemmas.List.Elements.{All-nil, All-cons, All-head, All-tail}
 use Rattle.ffc_lex.specs.declared.tokens.TokenKind.TheVariants as kinds
 use Rattle.ffc_term.specs.declared.node.Sort.{Sort}
 use Rattle.ffc_smt.specs.Trees.{Word, Tree, Leaf, Group, Trees, Empty, First, items_of, front, tokens_of, tokens_of_items}
 use Rattle.ffc_smt.specs.FaultLaws.{IsWordBefore}
+use Rattle.ffc_smt.specs.TreeShapes.{is_parenthesis}
 use Rattle.ffc_smt.specs.Meaning.{Env}
 use Rattle.ffc_smt.specs.Terms.{Name, Parameter}
 use Rattle.ffc_smt.specs.Faults.{Fault, word_fault, Read, Sound, Faulty}
 use Rattle.ffc_smt.specs.Scopes.{State, scope_of}
 use Rattle.ffc_smt.specs.TermReading.{Named}
 use Rattle.ffc_smt.specs.CommandReading.{ReadParameter, parameter_read, parameters_of, parameters_read}
+use Rattle.ffc_words.specs.declared.faults.ScriptFault.{ScriptFault}
 use Rattle.ffc_words.specs.declared.faults.TakeStop.{TakeStop}
 use Rattle.ffc_words.specs.declared.faults.TakeStop.TheVariants as stop
 use Rattle.ffc_words.specs.Words.{IsTreeAt, AreItemsAt, word_at, fault_of}
 use Rattle.ffc_words.specs.Outcomes.{outcome}
 use Rattle.ffc_elab.specs.declared.parameters.Parameters.{Parameters}
 use Rattle.ffc_elab.specs.Reading.{AreInOrder, and_then}
-use Rattle.ffc_elab.specs.Defining.{parameter_after, pair_of, IsParameterAfter, IsAdded, Adds, AreParameters, ReadsParameters, ReadsInside}
+use Rattle.ffc_elab.specs.Defining.{parameter_after, pair_of, IsParameterAfter, IsAdded, Adds, AreParameters, ReadsParameters, ReadsInside, ReadsParameterItem}
 use Rattle.ffc_elab.proofs.ChangeLemmas.{sound_of}
 use Rattle.ffc_elab.proofs.LevelLemmas.{reverse_cons}
 use Rattle.ffc_elab.proofs.OutcomeLemmas.{tokens_front, drop_plus, word_at_items, front_kind, spelled_first}
 use Rattle.ffc_elab.proofs.ItemLemmas.{first_tree, after_first, order_drop}
 use Rattle.ffc_elab.proofs.ParameterLemmas.{after, read_one, parameter_stops, parameter_goes}
-use Rattle.ffc_elab.proofs.ParameterReading.{items_inside}
+use Rattle.ffc_elab.proofs.ParameterReading.{items_inside, inside_of}
 
 -- some parameters are read, and others are left
 pub record IsUnderway (s : State) (words : List Word) (at : ℕ) (items : Trees) (closing : Word) (rest : List Word) (p : Parameters) (next : ℕ) : Type 0 where
@@ -159,3 +161,36 @@ goes_further s words at items closing rest p new next later h n sorts adds = by_
         let place = it.it.next_is in
         let some = ap (λ (ws : List Word). length ws) (tokens_front t) in
         omega (arith, place, some)
+
+-- The list as an item
+
+moved : (read : Read (List Parameter)) (i m k n : ℕ) (r : Result (Parameters × ℕ) TakeStop) → m + k ≡ i + n → ReadsParameters read m k r → ReadsParameters read i n r
+moved read i m k n (Ok (p, next)) e h = let place = h.next_is in record { parameters = h.parameters; sound = h.sound; names = h.names; sorts_are = h.sorts_are; next_is = omega (arith, place, e) }
+moved read i m k n (Err (stop.Fault f)) e h = h
+moved read i m k n (Err stop.Memory) e h = tt
+
+group_length : (o : Word) (is : Trees) (c : Word) → length (tokens_of (Group o is c)) ≡ 1 + length (tokens_of_items is ++ c ∷ [])
+unfolding tokens_of
+group_length o is c = omega arith
+
+module _ (s : State) (words : List Word) (i : ℕ) (closing : Word) (rest : List Word) where
+  pub item_none : (items : Trees) (f : ScriptFault) → AreItemsAt words i items closing rest → ((word_at words i).kind ≡ kinds.LeftParen → ⊥) → fault_of f ≡ word_fault 5 (word_at words i)
+      → ReadsParameterItem s items closing i (Err (stop.Fault f))
+  item_none Empty f at n e = sym (e ∙ ap (word_fault 5) (word_at_items words i Empty closing rest at))
+  item_none (First (Leaf w) ts) f at n e = ap Err (sym (e ∙ ap (word_fault 5) (word_at_items words i (First (Leaf w) ts) closing rest at)))
+  item_none (First (Group o is c) ts) f at n e = absurd (n (ap (λ w. w.kind) (word_at_items words i (First (Group o is c) ts) closing rest at) ∙ at.proper.0.0))
+
+  pub item_some : (items : Trees) (r : Result (Parameters × ℕ) TakeStop) (m : ℕ) → AreItemsAt words i items closing rest → AreInOrder (drop i words) → (word_at words i).kind ≡ kinds.LeftParen → length words ≤ 2 ^ 64 - 1
+      → m ≡ min (i + 1) (2 ^ 64 - 1) → ((is : Trees) (c : Word) (more : List Word) → AreItemsAt words m is c more → AreInOrder (drop m words) → ReadsInside s is c m r) → ReadsParameterItem s items closing i r
+  item_some Empty r m at order e few is_m h = let q : kinds.RightParen ≡ kinds.LeftParen = sym at.closed ∙ ap (λ w. w.kind) (sym (word_at_items words i Empty closing rest at)) ∙ e in cc
+  item_some (First (Leaf w) ts) r m at order e few is_m h =
+      let q : is_parenthesis kinds.LeftParen ≡ false = ap is_parenthesis (sym e) ∙ ap (λ v. is_parenthesis v.kind) (word_at_items words i (First (Leaf w) ts) closing rest at) ∙ at.proper.0 in cc
+  item_some (First (Group o is c) ts) r m at order e few is_m h =
+      let more = tokens_of_items ts ++ closing ∷ rest in
+      let inner = inside_of [] [] words i few o c is more (first_tree words i (Group o is c) ts closing rest at) in
+      let inside = items_inside words (suc i) is c more inner in
+      let place : m ≡ suc i = omega (arith, few, inside, is_m) in
+      let one_more : m ≡ i + 1 = omega (arith, place) in
+      let long = group_length o is c in
+      moved (parameters_read s (Group o is c)) i m (length (tokens_of_items is ++ c ∷ [])) (length (tokens_of (Group o is c))) r (omega (arith, place, long))
+      (h is c more (subst (λ k. AreItemsAt words k is c more) (sym place) inner) (subst (λ k. AreInOrder (drop k words)) (sym one_more) (subst AreInOrder (sym (drop_plus 1 i words)) (order_drop 1 (drop i words) order))))

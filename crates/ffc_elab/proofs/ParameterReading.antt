@@ -120,7 +120,7 @@ module _ (sorts names : Env Sort) (words : List Word) (i : ℕ) (few : length wo
   parameter_shapeless (Group o items c) rest at n = absurd (n (ap (λ v. v.kind) (front_at words i (Group o items c) rest at) ∙ at.proper.0))
 
   -- inside the parentheses
-  inside_of : (o c : Word) (items : Trees) (rest : List Word) → IsTreeAt words i (Group o items c) rest → AreItemsAt words (suc i) items c rest
+  pub inside_of : (o c : Word) (items : Trees) (rest : List Word) → IsTreeAt words i (Group o items c) rest → AreItemsAt words (suc i) items c rest
   unfolding tokens_of
   inside_of o c items rest at = record {
     text = drop_next words i o (tokens_of_items items ++ c ∷ rest) (at.text ∙ ap (λ ws. o ∷ ws) (append_assoc (tokens_of_items items) (c ∷ []) rest));

@@ -6,18 +6,20 @@ use Rattle.ffc_term.specs.declared.node.Sort.{Sort}
 use Rattle.ffc_smt.specs.Trees.{Word, Tree, Leaf, Group, Trees, Empty, First, items_of, tokens_of, tokens_of_items}
 use Rattle.ffc_smt.specs.Faults.{Fault, word_fault, Read, Sound, read_map, last, item}
 use Rattle.ffc_smt.specs.Meaning.{Env, found}
-use Rattle.ffc_smt.specs.Scopes.{State}
+use Rattle.ffc_smt.specs.Scopes.{State, scope_of}
 use Rattle.ffc_smt.specs.Terms as smt
 use Rattle.ffc_smt.specs.Terms.{Name, Term, Parameter, height, weight}
 use Rattle.ffc_smt.specs.TermReading.{sort_read}
-use Rattle.ffc_smt.specs.CommandReading.{fresh_read, parameter_read, parameters_of, parameters_read}
+use Rattle.ffc_smt.specs.CommandReading.{fresh_read, limits, parameter_read, parameters_of, parameters_read, term_of_sort}
 use Rattle.ffc_words.specs.declared.faults.ScriptFault.{ScriptFault}
 use Rattle.ffc_words.specs.declared.faults.TakeStop.{TakeStop}
 use Rattle.ffc_words.specs.declared.faults.TakeStop.TheVariants as stop
 use Rattle.ffc_words.specs.Outcomes.{outcome}
 use Rattle.ffc_words.specs.Words.{fault_of}
 use Rattle.ffc_terms.specs.declared.scope.Symbols.{Symbols}
+use Rattle.ffc_terms.specs.declared.terms.TermRead.{TermRead}
 use Rattle.ffc_terms.specs.Codes.{IsCode, capped_weight}
+use Rattle.ffc_elab.specs.declared.defining.Definition.{Definition}
 use Rattle.ffc_elab.specs.declared.parameters.Parameters.{Parameters}
 use Rattle.ffc_elab.specs.Reading.{and_then}
 
@@ -100,3 +102,37 @@ ReadsSortItem sorts Empty closing at (Ok r) = ⊥
 ReadsSortItem sorts (First t ts) closing at (Ok r) = (outcome (sort_read sorts t) ≡ Ok r.0) × (r.1 ≡ at + length (tokens_of t))
 ReadsSortItem sorts Empty closing at (Err f) = word_fault 5 closing ≡ fault_of f
 ReadsSortItem sorts (First t ts) closing at (Err f) = outcome (sort_read sorts t) ≡ Err (fault_of f)
+
+-- the sort and the body of a definition with these parameters
+abbrev pub body_after : State → List Parameter → Word → Trees → Result (Sort × Term) Fault
+body_after s ps closing Empty = Err (word_fault 5 closing)
+body_after s ps closing (First r rest) =
+    and_then (outcome (sort_read (scope_of s).sorts r)) (λ sort.
+    and_then (outcome (read_map (λ p. p.0) (item closing (term_of_sort limits s ps sort) last (items_of rest)))) (λ t. Ok (sort, t)))
+
+pub record IsBody (nodes : List Node) (symbols : Symbols) (ps : List Parameter) (wanted : Result (Sort × Term) Fault) (sort : Sort) (t : TermRead) : Type 0 where
+  pub term : Term
+  pub reads : wanted ≡ Ok (sort, term)
+  pub code : IsCode nodes symbols.terms (map (λ p. p.name) ps) term t.code.items
+  pub height_is : t.height ≡ height term
+  pub weight_is : t.weight ≡ capped_weight (weight term)
+
+abbrev pub ReadsBody : List Node → Symbols → List Parameter → Result (Sort × Term) Fault → Result (Sort × TermRead) TakeStop → Type 0
+ReadsBody nodes symbols ps wanted (Ok r) = IsBody nodes symbols ps wanted r.0 r.1
+ReadsBody nodes symbols ps wanted (Err (stop.Fault f)) = wanted ≡ Err (fault_of f)
+ReadsBody nodes symbols ps wanted (Err stop.Memory) = Unit {0}
+
+-- a definition with what makes its node, or what its calls do
+pub record IsDefinitionRead (nodes : List Node) (symbols : Symbols) (read : Read smt.Command) (d : Definition) : Type 0 where
+  pub parameters : List Parameter
+  pub term : Term
+  pub sound : read ≡ Sound (smt.Define d.name.now parameters d.sort term)
+  pub sorts_are : d.parameters.items ≡ map (λ p. p.sort) parameters
+  pub code : IsCode nodes symbols.terms (map (λ p. p.name) parameters) term d.body.code.items
+  pub height_is : d.body.height ≡ height term
+  pub weight_is : d.body.weight ≡ capped_weight (weight term)
+
+abbrev pub ReadsDefinition : List Node → Symbols → Read smt.Command → Result Definition TakeStop → Type 0
+ReadsDefinition nodes symbols read (Ok d) = IsDefinitionRead nodes symbols read d
+ReadsDefinition nodes symbols read (Err (stop.Fault f)) = outcome read ≡ Err (fault_of f)
+ReadsDefinition nodes symbols read (Err stop.Memory) = Unit {0}
