@@ -15,6 +15,7 @@ pub mod ParameterLemmas
 pub mod ParameterReading
 pub mod ParameterLists
 pub mod DefineReading
+pub mod DefineCommand
 pub mod AssertCommand
 pub mod SameLemmas
 pub mod TermItemLemmas

@@ -9,6 +9,7 @@ mod commands;
 mod constants;
 mod context;
 mod declaring;
+mod define;
 mod defining;
 mod definitions;
 mod dispatch;
