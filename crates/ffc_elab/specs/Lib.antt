@@ -6,3 +6,5 @@ pub mod Changes
 pub mod Taking
 pub mod Orders
 pub mod SortedTerms
+pub mod Asked
+pub mod AskedLists

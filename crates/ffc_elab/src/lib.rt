@@ -2,7 +2,11 @@
 #![tactic(auto)]
 
 mod answers;
+mod asked_lists;
+mod asked_terms;
+mod asked_texts;
 mod assertions;
+mod assumptions;
 mod commands;
 mod constants;
 mod context;
