@@ -5,6 +5,7 @@ pub mod SortNameLemmas
 pub mod SortedTermLemmas
 pub mod AssertionLemmas
 pub mod TakeLemmas
+pub mod TextLemmas
 pub mod GivenLemmas
 pub mod DeclareLemmas
 pub mod ConstantLemmas
@@ -18,3 +19,5 @@ pub mod ChangeLemmas
 pub mod ItemLemmas
 pub mod NamingLemmas
 pub mod OrderLemmas
+pub mod TextLemmas
+pub mod AskedLemmas

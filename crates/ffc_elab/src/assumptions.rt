@@ -41,7 +41,10 @@ fn is_negation(words: &FormWords, at: usize) -> bool
     ensures is { (opening closing : Word) (items : Trees) (rest : List Word) → IsTreeAt words.now at (Group opening items closing) rest → IsNegation items result }
     ensures room { result ≡ true → at + 4 < 2 ^ 64 }
 {
-    if words.len().saturating_sub(at) < 4 || !is_named(words, at + 1, b"not") {
+    if words.len().saturating_sub(at) < 4 {
+        return false;
+    }
+    if !is_named(words, at + 1, b"not") {
         return false;
     }
     match words.kind(at + 2) {
