@@ -21,3 +21,6 @@ pub mod NamingLemmas
 pub mod OrderLemmas
 pub mod TextLemmas
 pub mod AskedLemmas
+pub mod AskedFaultLemmas
+pub mod AskedListLemmas
+pub mod ListEndLemmas

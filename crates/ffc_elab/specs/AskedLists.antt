@@ -54,14 +54,14 @@ total_weight asked = sum_by (λ a. weight a.term) asked
 abbrev pub AreReadAs : List Node → Symbols → List Word → List Asked → List AskedTerm → Type 0
 AreReadAs nodes symbols words [] [] = Unit {0}
 AreReadAs nodes symbols words [] (t ∷ ts) = ⊥
-AreReadAs nodes symbols words (a ∷ as) [] = ⊥
-AreReadAs nodes symbols words (a ∷ as) (t ∷ ts) = IsReadAs nodes symbols words a t × AreReadAs nodes symbols words as ts
+AreReadAs nodes symbols words (a ∷ bs) [] = ⊥
+AreReadAs nodes symbols words (a ∷ bs) (t ∷ ts) = IsReadAs nodes symbols words a t × AreReadAs nodes symbols words bs ts
 
 -- The first items of a list were read. The others are at the next place, which is this far, unless there are none.
 pub record IsReadSoFar (nodes : List Node) (symbols : Symbols) (words : List Word) (read : Tree → Read Asked) (items : Trees) (closing : Word) (rest : List Word) (far : ℕ) (l : AskedList) : Type 0 where
   pub asked : List Asked
   pub others : Trees
-  pub whole : outcome (each read (items_of items)) ≡ and_then (outcome (each read (items_of others))) (λ as. Ok (asked ++ as))
+  pub whole : outcome (each read (items_of items)) ≡ and_then (outcome (each read (items_of others))) (λ bs. Ok (asked ++ bs))
   pub at : AreItemsAt words l.next others closing rest
   pub order : AreInOrder (drop l.next words)
   pub terms : AreReadAs nodes symbols words asked l.terms.items
