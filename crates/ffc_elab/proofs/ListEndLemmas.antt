@@ -56,7 +56,7 @@ module _ (which : Listed) (s : State) (words : List Word) (closing : Word) where
   no_list (First (Group o inner c) ts) at order other = absurd (other (ap (λ w. w.kind) (word_at_items words 2 (First (Group o inner c) ts) closing [] at) ∙ at.proper.0.0))
 
   module _ (opening inner_end : Word) (inner items : Trees) (at : AreItemsAt words 2 (First (Group opening inner inner_end) items) closing []) (order : AreInOrder (drop 2 words)) where
-    abbrev after : List Word
+    abbrev pub after : List Word
     after = tokens_of_items items ++ closing ∷ []
 
     pub inner_there : AreItemsAt words 3 inner inner_end after
