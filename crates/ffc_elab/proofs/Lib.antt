@@ -11,6 +11,7 @@ pub mod DeclareLemmas
 pub mod ConstantLemmas
 pub mod NameLemmas
 pub mod GrowthLemmas
+pub mod MakingLemmas
 pub mod PlainLemmas
 pub mod DispatchLemmas
 pub mod HeadLemmas

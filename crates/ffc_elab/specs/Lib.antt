@@ -4,6 +4,7 @@ pub mod Kept
 pub mod Reading
 pub mod Changes
 pub mod Taking
+pub mod Making
 pub mod Orders
 pub mod SortedTerms
 pub mod Asked

@@ -15,6 +15,7 @@ mod definitions;
 mod dispatch;
 mod items;
 mod levels;
+mod making;
 mod orders;
 mod plain;
 mod plain_changes;
