@@ -25,3 +25,4 @@ pub mod AskedLemmas
 pub mod AskedFaultLemmas
 pub mod AskedListLemmas
 pub mod ListEndLemmas
+pub mod AskedNodeLemmas

@@ -9,3 +9,4 @@ pub mod Orders
 pub mod SortedTerms
 pub mod Asked
 pub mod AskedLists
+pub mod AskedNodes

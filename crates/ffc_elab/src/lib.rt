@@ -3,6 +3,7 @@
 
 mod answers;
 mod asked_lists;
+mod asked_nodes;
 mod asked_terms;
 mod asked_texts;
 mod assertions;
