@@ -193,3 +193,9 @@ module _ (words : List Word) (old : List Node) (symbols : Symbols) (asked : List
             let all : asked ≡ g.done = g.whole ∙ ap (λ v. g.done ++ v) e ∙ append-nil g.done in
             record { nodes = g.nodes ∙ ap (asked_made old) (sym all); listed = g.listed ∙ ap (map (asked_as now)) (sym all); grows = g.grows }
         by_others (x ∷ xs) e = absurd (subst (AreReadAs old symbols words (x ∷ xs)) none (subst (λ v. AreReadAs old symbols words v left) e g.read))
+
+-- the item at a place of a list, and those after it
+pub drop_here : (xs : List AskedTerm) (i : ℕ) (x : AskedTerm) → i < length xs → x ≡ Rattle.std.proofs.Common.get_or xs i x → drop i xs ≡ x ∷ drop (i + 1) xs
+drop_here xs i x inside e =
+    let next : suc i ≡ i + 1 = omega arith in
+    Rattle.std.proofs.Common.drop-cons xs i x inside ∙ ap (λ v. v ∷ drop (suc i) xs) (sym e) ∙ ap (λ n. x ∷ drop n xs) next
