@@ -12,6 +12,10 @@ pub mod ConstantLemmas
 pub mod NameLemmas
 pub mod GrowthLemmas
 pub mod MakingLemmas
+pub mod AssertCommand
+pub mod SameLemmas
+pub mod TermItemLemmas
+pub mod AssertReading
 pub mod PlainLemmas
 pub mod DispatchLemmas
 pub mod HeadLemmas

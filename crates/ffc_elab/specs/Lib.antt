@@ -5,8 +5,10 @@ pub mod Reading
 pub mod Changes
 pub mod Taking
 pub mod Making
+pub mod Asserting
 pub mod Orders
 pub mod SortedTerms
 pub mod Asked
 pub mod AskedLists
 pub mod AskedNodes
+pub mod Asking

@@ -6,14 +6,12 @@ ghost use Rattle.ffc_elab.specs.AskedNodes.{AreToMake, IsNextMade, MakesAllOrNon
 use crate::answers::Asked;
 use crate::asked_terms::AskedTerm;
 use crate::asked_texts::text_between;
+use crate::making::MOST_WEIGHT;
 use ffc_making::make;
 use ffc_term::{NodeTable, TermStop};
 use ffc_terms::Symbols;
 use ffc_words::FormWords;
 use std::alloc::Global;
-
-/// How heavy a command may be.
-pub(crate) const MOST_WEIGHT: u32 = 16_777_216;
 
 /// Makes the node of a term and puts it after those of the terms before it.
 fn make_one(

@@ -6,13 +6,20 @@ ghost use Rattle.ffc_parts.specs.Growing.{Grows};
 ghost use Rattle.ffc_smt.specs.Making.{made};
 ghost use Rattle.ffc_smt.specs.Terms.{Term};
 ghost use Rattle.ffc_making.specs.Machine.{IsCodeOf};
-ghost use Rattle.ffc_elab.specs.Making.{MakesOrKeeps};
+ghost use Rattle.ffc_elab.specs.Making.{FitsOrNot, IsSoundRead, MakesOrKeeps};
 
 use crate::store::Store;
 use ffc_making::make;
 use ffc_term::{NodeId, NodeTable, TermStop};
-use ffc_terms::{Op, Symbols};
+use ffc_terms::{Op, Symbols, TermRead};
+use ffc_words::{FormWords, TakeStop};
 use std::alloc::Global;
+
+/// How much the terms of a command may weigh.
+pub(crate) const MOST_WEIGHT: u32 = 16_777_216;
+
+/// The code of a command that is too heavy, or makes too many nodes.
+pub(crate) const TOO_MUCH: u8 = 15;
 
 /// Makes the node of a term that is no heavier than this. Where it does not fit, or memory is out, the table is as before.
 fn make_or_keep(
@@ -54,5 +61,26 @@ impl Store {
         ensures others { self.new ≡ record self.old { table = self.new.table } }
     {
         make_or_keep(self.alloc, &mut self.table, &self.symbols, code, weight)
+    }
+
+    /// The node of the only term of a command, whose form has these words. Where the term is too much, the fault is at the
+    /// parenthesis of the form.
+    pub(crate) fn term_node(
+        &mut self,
+        words: &FormWords,
+        term: &TermRead,
+    ) -> Result<NodeId, TakeStop>
+        requires { (t : Term) × IsSoundRead self.old.table self.old.symbols.terms t term.now }
+        ensures fits { (t : Term) → IsSoundRead self.old.table self.old.symbols.terms t term.now → FitsOrNot words.now self.old.table self.new.table t result }
+        ensures others { self.new ≡ record self.old { table = self.new.table } }
+    {
+        if term.weight > MOST_WEIGHT {
+            return Err(TakeStop::Fault(words.fault(TOO_MUCH, 0)));
+        }
+        match self.make_term(&term.code, term.weight) {
+            Ok(id) => Ok(id),
+            Err(TermStop::Memory) => Err(TakeStop::Memory),
+            Err(TermStop::Nodes) => Err(TakeStop::Fault(words.fault(TOO_MUCH, 0))),
+        }
     }
 }
