@@ -30,3 +30,5 @@ pub mod AskedFaultLemmas
 pub mod AskedListLemmas
 pub mod ListEndLemmas
 pub mod AskedNodeLemmas
+pub mod AssumingLemmas
+pub mod AskingLemmas

@@ -38,7 +38,7 @@ pub record IsListMade (k : Known) (tree : Tree) (which : Listed) (old new : List
   pub made : AreMade old new asked r
 
 -- or the table is as before
-abbrev pub MakesListed : Known → Tree → Listed → List Node → List Node → Result (Vec Asked Global) TakeStop → Type 0
-MakesListed k tree which old new (Ok r) = IsListMade k tree which old new r.items
-MakesListed k tree which old new (Err (stop.Fault f)) = (outcome (command_read limits k.state tree) ≡ Err (fault_of f)) × (new ≡ old)
-MakesListed k tree which old new (Err stop.Memory) = new ≡ old
+abbrev pub MakesListed : Known → Tree → List Word → Listed → List Node → List Node → Result (Vec Asked Global) TakeStop → Type 0
+MakesListed k tree words which old new (Ok r) = IsListMade k tree which old new r.items
+MakesListed k tree words which old new (Err (stop.Fault f)) = (IsFormOf words tree → outcome (command_read limits k.state tree) ≡ Err (fault_of f)) × (new ≡ old)
+MakesListed k tree words which old new (Err stop.Memory) = new ≡ old

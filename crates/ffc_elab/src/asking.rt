@@ -38,8 +38,8 @@ impl Store {
     /// Makes the nodes of a command's terms. On an error the table is as before.
     fn make_listed(&mut self, words: &FormWords, listed: Listed) -> Result<Vec<Asked>, TakeStop>
         requires { IsReady words.now self.old (listed_head listed) }
-        ensures made { (k : Known) (tree : Tree) → IsKept k self.old → IsKnown k → IsFormOf words.now tree → IsCommandForm words.now k.state tree (listed_head listed)
-            → MakesListed k tree listed self.old.table self.new.table result }
+        ensures made { (k : Known) (tree : Tree) → IsKept k self.old → IsKnown k → IsCommandForm words.now k.state tree (listed_head listed)
+            → MakesListed k tree words.now listed self.old.table self.new.table result }
         ensures others { self.new ≡ record self.old { table = self.new.table } }
     {
         match self.read_light(words, listed) {
