@@ -24,7 +24,6 @@ pub mod ChangeLemmas
 pub mod ItemLemmas
 pub mod NamingLemmas
 pub mod OrderLemmas
-pub mod TextLemmas
 pub mod AskedLemmas
 pub mod AskedFaultLemmas
 pub mod AskedListLemmas
