@@ -1,15 +1,15 @@
 -- Where the faults of terms that are asked for are, and of lists of them.
-use Rattle.std.proofs.Common.{◌≡◌, ℕ, Bool, true, false, List, [], ◌∷◌, ◌++◌, All, Option, Some, None, codes, if◌then◌else◌, refl}
+use Rattle.std.proofs.Common.{Bool, true, false, List, [], ◌∷◌, All, Option, Some, None, codes, if◌then◌else◌, refl}
 use Rattle.std.proofs.lemmas.List.Elements.{All-nil, All-append}
 use Rattle.ffc_term.specs.declared.node.Sort.{Sort}
 use Rattle.ffc_term.specs.declared.node.Sort.TheVariants as sort
-use Rattle.ffc_smt.specs.Trees.{Word, Tree, Leaf, Group, Trees, items_of, front, tokens_of, name_of}
-use Rattle.ffc_smt.specs.Terms.{Name, Term}
+use Rattle.ffc_smt.specs.Trees.{Word, Tree, Leaf, Group, items_of, tokens_of, name_of}
+use Rattle.ffc_smt.specs.Terms.{Name}
 use Rattle.ffc_smt.specs.FaultLaws.{IsAtOneOf}
-use Rattle.ffc_smt.specs.Faults.{Fault, word_fault, Read, Sound, Faulty, faults, faulty, unless, read_map, both, behind}
-use Rattle.ffc_smt.specs.Scopes.{Scope, State, scope_of}
+use Rattle.ffc_smt.specs.Faults.{Fault, Read, Sound, Faulty, faults, faulty, unless, read_map, both, behind}
+use Rattle.ffc_smt.specs.Scopes.{State, scope_of}
 use Rattle.ffc_smt.specs.TermReading.{Sorted, is_named, is_sort, term_named, term_read}
-use Rattle.ffc_smt.specs.CommandReading.{limits, of_sort, asked_read, each, some_item, list_read, negated, assumed, assumption_of, assumption_read, assumption_asked}
+use Rattle.ffc_smt.specs.CommandReading.{limits, of_sort, asked_read, each, some_item, list_read, negated, assumed, assumption_of, assumption_read}
 use Rattle.ffc_smt.proofs.ConstantLemmas.{meant_constants_any}
 use Rattle.ffc_smt.proofs.PlaceLemmas.{each_from}
 use Rattle.ffc_smt.proofs.TermWalk.{reads_term, reads_term_named}

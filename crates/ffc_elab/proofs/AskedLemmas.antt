@@ -3,20 +3,19 @@ use Rattle.std.proofs.Common.{◌≡◌, ℕ, zero, suc, ◌+◌, ◌-◌, ◌^�
 use Rattle.ffc_lex.specs.declared.tokens.TokenKind.{TokenKind}
 use Rattle.ffc_lex.specs.declared.tokens.TokenKind.TheVariants as kinds
 use Rattle.ffc_term.specs.declared.node.Node.{Node}
-use Rattle.ffc_term.specs.declared.node.Sort.{Sort}
 use Rattle.ffc_term.specs.declared.node.Sort.TheVariants as sort
-use Rattle.ffc_smt.specs.Trees.{Word, Tree, Leaf, Group, Trees, Empty, First, items_of, front, tokens_of, tokens_of_items, name_by_kind, name_of}
-use Rattle.ffc_smt.specs.TreeShapes.{IsProper, AreProper, is_parenthesis}
-use Rattle.ffc_smt.specs.Terms.{Name, Asked, Not, Term, Applied, Terms, NoTerm, AndTerm, weight, weights}
-use Rattle.ffc_smt.specs.Faults.{Read, Sound, Faulty, faulty, read_map, behind, first_fault, word_fault}
+use Rattle.ffc_smt.specs.Trees.{Word, Tree, Leaf, Group, Trees, Empty, First, items_of, tokens_of, tokens_of_items, name_by_kind, name_of}
+use Rattle.ffc_smt.specs.TreeShapes.{AreProper, is_parenthesis}
+use Rattle.ffc_smt.specs.Terms.{Name, Asked, Term, weight}
+use Rattle.ffc_smt.specs.Faults.{Read, faulty, read_map, behind, word_fault}
 use Rattle.ffc_smt.specs.Scopes.{State, scope_of}
 use Rattle.ffc_smt.specs.TermReading.{Sorted, is_named, leaf_by_kind, term_named, term_read}
-use Rattle.ffc_smt.specs.CommandReading.{limits, of_sort, term_of_sort, asked_read, boolean_name, negated, assumed, assumption_of, assumption_read, assumption_asked}
+use Rattle.ffc_smt.specs.CommandReading.{limits, of_sort, term_of_sort, asked_read, negated, assumed, assumption_of, assumption_read, assumption_asked}
 use Rattle.ffc_parts.specs.declared.operators.Operator.TheVariants as operator
 use Rattle.ffc_words.specs.declared.faults.TakeStop.{TakeStop}
 use Rattle.ffc_words.specs.declared.faults.TakeStop.TheVariants as stop
 use Rattle.ffc_words.specs.Outcomes.{outcome}
-use Rattle.ffc_words.specs.Words.{IsTreeAt, AreItemsAt, word_at, fault_of}
+use Rattle.ffc_words.specs.Words.{IsTreeAt, AreItemsAt, word_at}
 use Rattle.ffc_terms.specs.declared.codes.Op.{Op}
 use Rattle.ffc_terms.specs.declared.codes.Op.TheVariants as op
 use Rattle.ffc_terms.specs.declared.scope.Symbols.{Symbols}
@@ -25,8 +24,8 @@ use Rattle.ffc_terms.specs.Codes.{IsCode, capped_weight}
 use Rattle.ffc_terms.specs.TermAnswers.{ReadsTerm}
 use Rattle.ffc_elab.specs.declared.asked_terms.AskedTerm.{AskedTerm}
 use Rattle.ffc_elab.specs.Reading.{and_then}
-use Rattle.ffc_elab.specs.SortedTerms.{IsTermOfSort, ReadsOfSort}
-use Rattle.ffc_elab.specs.Asked.{IsReadAs, IsAskedAt, ReadsAsked, IsNegation, Negates}
+use Rattle.ffc_elab.specs.SortedTerms.{ReadsOfSort}
+use Rattle.ffc_elab.specs.Asked.{IsAskedAt, ReadsAsked, IsNegation, Negates}
 use Rattle.ffc_elab.proofs.OutcomeLemmas.{word_is, drop_next, front_kind, word_at_items, outcome_map, spelled_first, tokens_front, tail_of}
 
 -- A term of any sort

@@ -1,31 +1,26 @@
 -- Lists of terms that are asked for, item by item.
-use Rattle.std.proofs.Common.{◌≡◌, ◌⊎◌, inl, inr, ⊎_elim, ℕ, suc, ◌+◌, ◌-◌, ◌^◌, ◌≤◌, min, Bool, true, false, List, [], ◌∷◌, ◌++◌, length, drop, All, if◌then◌else◌, Result, Ok, Err, refl, sym, ap, ◌∙◌, subst, arith, append_assoc, append-nil, length-append, length-drop}
+use Rattle.std.proofs.Common.{◌≡◌, ◌⊎◌, inl, inr, ⊎_elim, ℕ, suc, ◌+◌, ◌-◌, ◌^◌, ◌≤◌, min, List, [], ◌∷◌, ◌++◌, length, drop, Result, Ok, Err, refl, sym, ap, ◌∙◌, subst, arith, append_assoc, append-nil, length-drop}
 use Rattle.std.proofs.lemmas.List.Sums.{sum_by-append, sum_by-cons}
 use Rattle.ffc_lex.specs.declared.tokens.TokenKind.TheVariants as kinds
 use Rattle.ffc_term.specs.declared.node.Node.{Node}
-use Rattle.ffc_smt.specs.Trees.{Word, Tree, Leaf, Group, Trees, Empty, First, items_of, front, tokens_of, tokens_of_items}
-use Rattle.ffc_smt.specs.TreeShapes.{IsProper, is_parenthesis}
+use Rattle.ffc_smt.specs.Trees.{Word, Tree, Trees, Empty, First, items_of, tokens_of, tokens_of_items}
 use Rattle.ffc_smt.specs.Terms.{Asked, weight}
-use Rattle.ffc_smt.specs.Faults.{Fault, word_fault, Read, Sound, Faulty, faults, faulty, unless, read_map, both, item, last}
-use Rattle.ffc_smt.specs.Scopes.{State}
-use Rattle.ffc_smt.specs.CommandReading.{each, some_item, list_read}
+use Rattle.ffc_smt.specs.Faults.{Fault, Read, faults, both}
+use Rattle.ffc_smt.specs.CommandReading.{each}
 use Rattle.ffc_words.specs.declared.faults.TakeStop.{TakeStop}
 use Rattle.ffc_words.specs.declared.faults.TakeStop.TheVariants as stop
 use Rattle.ffc_words.specs.Outcomes.{outcome}
 use Rattle.ffc_words.specs.Words.{IsTreeAt, AreItemsAt, word_at, fault_of}
 use Rattle.ffc_terms.specs.declared.scope.Symbols.{Symbols}
 use Rattle.ffc_terms.specs.Codes.{capped_weight}
-use Rattle.ffc_elab.specs.declared.asked_lists.Listed.{Listed}
 use Rattle.ffc_elab.specs.declared.asked_lists.AskedList.{AskedList}
 use Rattle.ffc_elab.specs.declared.asked_terms.AskedTerm.{AskedTerm}
-use Rattle.ffc_elab.specs.Reading.{AreInOrder, and_then, end_at}
+use Rattle.ffc_elab.specs.Reading.{AreInOrder, and_then}
 use Rattle.ffc_elab.specs.Asked.{IsReadAs, IsAskedAt, ReadsAsked}
-use Rattle.ffc_elab.specs.AskedLists.{listed_read, may_be_empty, IsMissing, total_weight, AreReadAs, IsReadSoFar, GoesOn, AreRead, ReadsItems, list_alone, IsListRead}
-use Rattle.ffc_elab.proofs.OutcomeLemmas.{outcome_map, outcome_both, with_ok, word_at_items, front_kind, faults_after, spelled_first, drop_plus, drop_next, next_order, tokens_front, tail_of, end_outcome}
-use Rattle.ffc_elab.proofs.ItemLemmas.{order_across, one_before, tree_item, first_tree, after_first, order_drop}
-use Rattle.ffc_elab.proofs.PlainLemmas.{last_there}
-use Rattle.ffc_elab.proofs.AskedLemmas.{inside}
-use Rattle.ffc_elab.proofs.AskedFaultLemmas.{FaultsInside, listed_inside, each_there, list_inside, inside_tokens}
+use Rattle.ffc_elab.specs.AskedLists.{total_weight, AreReadAs, IsReadSoFar, GoesOn, AreRead, ReadsItems}
+use Rattle.ffc_elab.proofs.OutcomeLemmas.{outcome_map, outcome_both, with_ok, word_at_items, front_kind, faults_after, spelled_first, drop_plus, tokens_front, tail_of}
+use Rattle.ffc_elab.proofs.ItemLemmas.{order_across, one_before, first_tree, after_first, order_drop}
+use Rattle.ffc_elab.proofs.AskedFaultLemmas.{FaultsInside, each_there, inside_tokens}
 
 -- the first item, and then the others
 each_first : {A : Type 0} (read : Tree → Read A) → FaultsInside read → (t : Tree) (ts : Trees) (closing : Word) (rest : List Word) → AreInOrder (tokens_of_items (First t ts) ++ closing ∷ rest)
@@ -35,7 +30,7 @@ each_first read inner t ts closing rest order =
     let q = each read (items_of ts) in
     let whole = subst AreInOrder (spelled_first t ts closing rest) order in
     let before = one_before (tokens_of t) (faults (read t)) (faults q) (inside_tokens read inner t) (λ v has.
-        faults_after (λ c us. each read us) v ts closing rest (λ P c us m i. each_there read inner P us i) (order_across (tokens_of t) (tokens_of_items ts ++ closing ∷ rest) v whole has)) in
+    faults_after (λ c us. each read us) v ts closing rest (λ P c us m i. each_there read inner P us i) (order_across (tokens_of t) (tokens_of_items ts ++ closing ∷ rest) v whole has)) in
     outcome_map (λ p. p.0 ∷ p.1) (both (read t) q) ∙ ap (λ r. and_then r (λ p. Ok (p.0 ∷ p.1))) (outcome_both (read t) q before) ∙ by_cases (outcome (read t)) (outcome q)
   where
     by_cases : {A : Type 0} (r : Result A Fault) (q : Result (List A) Fault)

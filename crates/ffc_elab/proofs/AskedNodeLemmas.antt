@@ -5,22 +5,21 @@ use Rattle.std.proofs.lemmas.List.Elements.{All-head, All-tail, All-contains, Co
 use Rattle.ffc_term.specs.declared.node.Node.{Node}
 use Rattle.ffc_term.specs.declared.node.Sort.{Sort}
 use Rattle.ffc_term.specs.declared.table.TermStop.{TermStop}
-use Rattle.ffc_term.specs.declared.table.TermStop.TheVariants as stop
 use Rattle.ffc_term.specs.Tables.{most_nodes}
 use Rattle.ffc_smt.specs.Trees.{Word}
 use Rattle.ffc_smt.specs.Terms as smt
-use Rattle.ffc_smt.specs.Making.{Made, made}
+use Rattle.ffc_smt.specs.Making.{made}
 use Rattle.ffc_smt.specs.Bounds.{IsMade}
 use Rattle.ffc_smt.specs.CommandReading.{limits, asked_made}
 use Rattle.ffc_smt.specs.Scopes.{State}
-use Rattle.ffc_smt.specs.States.{IsTableWith, IsSoundState}
+use Rattle.ffc_smt.specs.States.{IsTableWith}
 use Rattle.ffc_smt.specs.TableChecks.{node_of}
 use Rattle.ffc_smt.specs.WellSorted.{IsSoundTerm}
 use Rattle.ffc_smt.proofs.Again.{made_anew}
-use Rattle.ffc_smt.proofs.Extends.{Extends, extends_same, extends_further, longer}
+use Rattle.ffc_smt.proofs.Extends.{Extends, extends_same, longer}
 use Rattle.ffc_smt.proofs.SoundStates.{asked_extends, asked_good}
 use Rattle.ffc_smt.proofs.SoundTerms.{sound_stays}
-use Rattle.ffc_parts.specs.Growing.{Grows, IsDone, IsLeft}
+use Rattle.ffc_parts.specs.Growing.{Grows, IsLeft}
 use Rattle.ffc_terms.specs.declared.scope.Symbols.{Symbols}
 use Rattle.ffc_making.specs.Machine.{IsCodeOf}
 use Rattle.ffc_elab.specs.declared.answers.Asked.{Asked}

@@ -1,19 +1,17 @@
 -- The commands `get-value` and `check-sat-assuming`: what their form says, and what is kept after them.
-use Rattle.std.proofs.Common.{◌≡◌, ℕ, ◌+◌, ◌<◌, ◌≤◌, List, [], ◌∷◌, ◌++◌, All, length, map, Result, Ok, Err, refl, sym, ap, ◌∙◌, subst, arith}
-use Rattle.std.proofs.lemmas.List.Elements.{All-nil, All-cons, All-weaker}
+use Rattle.std.proofs.Common.{◌≡◌, ℕ, ◌+◌, ◌<◌, ◌≤◌, List, [], ◌∷◌, ◌++◌, All, length, map, Ok, Err, refl, sym, ap, ◌∙◌, subst, arith}
+use Rattle.std.proofs.lemmas.List.Elements.{All-nil, All-cons}
 use Rattle.std.proofs.lemmas.List.Sums.{sum_by-cons}
 use Rattle.ffc_field.specs.Orders.{IsOrder}
 use Rattle.ffc_term.specs.declared.node.Node.{Node}
 use Rattle.ffc_term.specs.declared.node.Sort.{Sort}
-use Rattle.ffc_term.specs.declared.node.Sort.TheVariants as sort
-use Rattle.ffc_term.specs.declared.table.TermStop.TheVariants as term_stop
 use Rattle.ffc_term.specs.Tables.{most_nodes}
-use Rattle.ffc_smt.specs.Trees.{Word, Tree, Trees, items_of, front}
-use Rattle.ffc_smt.specs.Faults.{Fault, Read, Sound, Faulty, word_fault, read_map, both, item, last}
+use Rattle.ffc_smt.specs.Trees.{Word, Tree, items_of}
+use Rattle.ffc_smt.specs.Faults.{Read, Sound, Faulty, word_fault, read_map, both, item, last}
 use Rattle.ffc_smt.specs.Terms as smt
 use Rattle.ffc_smt.specs.Scopes.{State}
-use Rattle.ffc_smt.specs.CommandReading.{limits, one, nodes_after, asked_made, command_weight, form_read, command_read}
-use Rattle.ffc_smt.specs.Scripts.{after, first_named, named_orders, orders_in}
+use Rattle.ffc_smt.specs.CommandReading.{limits, nodes_after, asked_made, command_weight, form_read, command_read}
+use Rattle.ffc_smt.specs.Scripts.{after, named_orders, orders_in}
 use Rattle.ffc_smt.proofs.OrderLemmas.{named_are_orders}
 use Rattle.ffc_smt.proofs.ReadLemmas.{IfSound}
 use Rattle.ffc_smt.proofs.SoundStates.{IsSoundHere, Fine, some_sort}
@@ -22,15 +20,12 @@ use Rattle.ffc_words.specs.declared.faults.TakeStop.TheVariants as stop
 use Rattle.ffc_words.specs.Outcomes.{outcome}
 use Rattle.ffc_words.specs.Words.{fault_of, word_at}
 use Rattle.ffc_terms.specs.declared.scope.Symbols.{Symbols}
-use Rattle.ffc_parts.specs.Growing.{Grows}
-use Rattle.ffc_parts.specs.declared.heads.Head.TheVariants as head
 use Rattle.ffc_elab.specs.declared.answers.Asked.{Asked}
 use Rattle.ffc_elab.specs.declared.asked_lists.Listed.{Listed}
 use Rattle.ffc_elab.specs.declared.asked_lists.Listed.TheVariants as listed
 use Rattle.ffc_elab.specs.declared.asked_lists.AskedList.{AskedList}
-use Rattle.ffc_elab.specs.declared.asked_terms.AskedTerm.{AskedTerm}
 use Rattle.ffc_elab.specs.declared.store.Store.{Store}
-use Rattle.ffc_elab.specs.Histories.{Known, known_by}
+use Rattle.ffc_elab.specs.Histories.{Known}
 use Rattle.ffc_elab.specs.Answers.{asked_as}
 use Rattle.ffc_elab.specs.Kept.{IsKept, IsKnown}
 use Rattle.ffc_elab.specs.Changes.{in_state, with_state, with_nodes, with_orders, assuming}
@@ -38,7 +33,7 @@ use Rattle.ffc_elab.specs.Orders.{orders_of}
 use Rattle.ffc_elab.specs.Reading.{IsFormOf, IsCommandForm, and_then, read_by_head}
 use Rattle.ffc_elab.specs.Taking.{IsTaken, TakesKept}
 use Rattle.ffc_elab.specs.AskedLists.{AreReadAs, IsListRead, ReadsList, list_alone, listed_command, listed_head, total_weight}
-use Rattle.ffc_elab.specs.AskedNodes.{AreToMake, AreMade, NoneIsMade}
+use Rattle.ffc_elab.specs.AskedNodes.{AreToMake, AreMade}
 use Rattle.ffc_elab.specs.Asking.{IsLightList, ReadsLight, IsListMade, MakesListed}
 use Rattle.ffc_elab.proofs.ChangeLemmas.{sound_of, none_named, room_read, heavy_read, full_read, fault_read}
 use Rattle.ffc_elab.proofs.DeclareLemmas.{form_fine, front_is}

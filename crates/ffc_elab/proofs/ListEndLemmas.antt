@@ -1,18 +1,17 @@
 -- A list of terms that are asked for, in parentheses, and the end of its form.
-use Rattle.std.proofs.Common.{◌≡◌, ◌⊎◌, inl, inr, ⊎_elim, ℕ, suc, ◌+◌, ◌-◌, ◌^◌, ◌≤◌, ◌<◌, min, Bool, true, false, List, [], ◌∷◌, ◌++◌, length, drop, if◌then◌else◌, Result, Ok, Err, refl, sym, ap, ◌∙◌, subst, arith, length-drop}
-use Rattle.ffc_lex.specs.declared.tokens.TokenKind.{TokenKind}
+use Rattle.std.proofs.Common.{◌≡◌, ◌⊎◌, inl, inr, ⊎_elim, ℕ, suc, ◌+◌, ◌≤◌, Bool, true, false, List, [], ◌∷◌, ◌++◌, length, drop, Result, Ok, Err, refl, sym, ap, ◌∙◌, subst, arith, length-drop}
 use Rattle.ffc_lex.specs.declared.tokens.TokenKind.TheVariants as kinds
 use Rattle.ffc_term.specs.declared.node.Node.{Node}
 use Rattle.ffc_smt.specs.Trees.{Word, Tree, Leaf, Group, Trees, Empty, First, items_of, tokens_of, tokens_of_items}
 use Rattle.ffc_smt.specs.TreeShapes.{is_parenthesis}
 use Rattle.ffc_smt.specs.Terms.{Asked}
-use Rattle.ffc_smt.specs.Faults.{Fault, word_fault, Read, Sound, Faulty, faults, unless, first_fault, last}
+use Rattle.ffc_smt.specs.Faults.{Fault, word_fault, Read, last}
 use Rattle.ffc_smt.specs.Scopes.{State}
-use Rattle.ffc_smt.specs.CommandReading.{each, some_item, list_read}
+use Rattle.ffc_smt.specs.CommandReading.{each, list_read}
 use Rattle.ffc_words.specs.declared.faults.TakeStop.{TakeStop}
 use Rattle.ffc_words.specs.declared.faults.TakeStop.TheVariants as stop
 use Rattle.ffc_words.specs.Outcomes.{outcome}
-use Rattle.ffc_words.specs.Words.{IsTreeAt, AreItemsAt, word_at, fault_of}
+use Rattle.ffc_words.specs.Words.{AreItemsAt, word_at}
 use Rattle.ffc_terms.specs.declared.scope.Symbols.{Symbols}
 use Rattle.ffc_elab.specs.declared.asked_lists.Listed.{Listed}
 use Rattle.ffc_elab.specs.declared.asked_lists.AskedList.{AskedList}

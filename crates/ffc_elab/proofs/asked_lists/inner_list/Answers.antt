@@ -1,4 +1,4 @@
-use Rattle.std.proofs.Common.{◌≡◌, ◌+◌, true, false, Ok, Err, refl, sym, ap, ◌∙◌, subst, arith}
+use Rattle.std.proofs.Common.{◌≡◌, ◌+◌, true, false, Ok, Err, sym, ap, ◌∙◌, subst, arith}
 use Rattle.ffc_elab.specs.Reading.{end_at, result_as}
 use Rattle.ffc_elab.specs.AskedLists.{IsMissing, ReadsItems, listed_read}
 use Rattle.ffc_words.specs.Words.{word_at, fault_of}

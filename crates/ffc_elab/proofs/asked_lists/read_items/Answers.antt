@@ -1,9 +1,5 @@
-use Rattle.std.proofs.Common.{◌≡◌, List, Err, refl, sym, ◌∙◌, subst, arith}
-use Rattle.ffc_term.specs.declared.node.Node.{Node}
-use Rattle.ffc_smt.specs.Trees.{Trees, Word}
-use Rattle.ffc_words.specs.declared.faults.TakeStop.{TakeStop}
-use Rattle.ffc_words.specs.declared.faults.TakeStop.TheVariants as stop
-use Rattle.ffc_elab.specs.AskedLists.{GoesOn, ReadsItems, listed_read}
+use Rattle.std.proofs.Common.{refl, subst, arith}
+use Rattle.ffc_elab.specs.AskedLists.{GoesOn, listed_read}
 use Rattle.ffc_elab.proofs.AskedFaultLemmas.{listed_inside}
 use Rattle.ffc_elab.proofs.AskedListLemmas.{starts, ends, stopped}
 use Rattle.ffc_elab.proofs.asked_lists.read_items.Goals as goal

@@ -1,4 +1,4 @@
-use Rattle.std.proofs.Common.{ℕ, [], ◌+◌, List, drop}
+use Rattle.std.proofs.Common.{List, drop}
 use Rattle.ffc_term.specs.declared.node.Node.{Node}
 use Rattle.ffc_smt.specs.Trees.{Trees, Word}
 use Rattle.ffc_smt.specs.Scopes.{State, scope_of}

@@ -1,5 +1,5 @@
-use Rattle.std.proofs.Common.{◌≡◌, [], Err, sym, ap, ◌∙◌, subst}
-use Rattle.ffc_smt.specs.Trees.{Trees, Group, First}
+use Rattle.std.proofs.Common.{[], Err, sym, ap, ◌∙◌, subst}
+use Rattle.ffc_smt.specs.Trees.{Trees}
 use Rattle.ffc_words.specs.Words.{AreItemsAt}
 use Rattle.ffc_elab.specs.AskedLists.{ReadsList}
 use Rattle.ffc_elab.proofs.ListEndLemmas.{no_list, group_here}

@@ -1,4 +1,4 @@
-use Rattle.std.proofs.Common.{◌≡◌, List, ◌∷◌, [], ◌+◌, suc, drop, refl, sym, ap, ◌∙◌, subst, arith, drop-cons}
+use Rattle.std.proofs.Common.{List, ◌+◌, drop, sym, subst, arith}
 use Rattle.std.proofs.lemmas.List.{drop_all}
 use Rattle.ffc_elab.specs.declared.answers.Asked.{Asked}
 use Rattle.ffc_elab.proofs.AskedNodeLemmas.{IsMakingSoFar, a, drop_here, making_starts, next_now, making_goes_on, making_stops, making_ends}
@@ -19,9 +19,10 @@ make_one-requires c =
     let terms = c.args.terms.now in
     let i = c.loop-term.term-index in
     let split = drop_here terms i c.term-item.result c.loop-term-test.true c.term-item.is in
-    let g = c.loop-term.invariant asked h in
-    (a words old symbols asked terms h c.loop-term.table (drop i terms) c.loop-term.asked.items g c.term-item.result (drop (i + 1) terms) split,
-      next_now words old symbols asked terms h c.loop-term.table (drop i terms) c.loop-term.asked.items g c.term-item.result (drop (i + 1) terms) split)
+    let g = c.loop-term.invariant asked h in (
+      a words old symbols asked terms h c.loop-term.table (drop i terms) c.loop-term.asked.items g c.term-item.result (drop (i + 1) terms) split,
+      next_now words old symbols asked terms h c.loop-term.table (drop i terms) c.loop-term.asked.items g c.term-item.result (drop (i + 1) terms) split,
+    )
 
 pub returns-in-Err : goal.returns-in-Err
 returns-in-Err c = λ asked h.

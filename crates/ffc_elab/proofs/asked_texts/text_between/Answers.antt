@@ -1,8 +1,8 @@
-use Rattle.std.proofs.Common.{◌≡◌, ◌∷◌, ◌++◌, ℕ, ◌+◌, ap, sym, ◌∙◌, subst, length, arith, ◌≤◌}
+use Rattle.std.proofs.Common.{◌≡◌, ◌++◌, ◌+◌, ap, sym, ◌∙◌, subst, arith}
 use Rattle.ffc_lex.specs.declared.tokens.TokenKind.{TokenKind}
 use Rattle.ffc_smt.specs.Answering.{space_between, text_of}
 use Rattle.ffc_words.specs.Words.{word_at}
-use Rattle.ffc_elab.proofs.TextLemmas.{coming, spelled, text_goes_on, text_begins, text_ends}
+use Rattle.ffc_elab.proofs.TextLemmas.{coming, spelled, text_goes_on, text_ends}
 use Rattle.ffc_elab.proofs.asked_texts.text_between.Goals as goal
 
 pub loop-i-preserved : goal.loop-i-preserved

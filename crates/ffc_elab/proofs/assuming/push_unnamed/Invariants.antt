@@ -1,4 +1,4 @@
-use Rattle.std.proofs.Common.{◌≡◌, ◌+◌, ◌-◌, ◌≤◌, ◌++◌, None, length, map, take, vec_len, vec_capacity}
+use Rattle.std.proofs.Common.{◌≡◌, ◌+◌, ◌≤◌, ◌++◌, None, length, map, take, vec_len, vec_capacity}
 use Rattle.ffc_elab.proofs.assuming.push_unnamed.Given as goal
 
 abbrev pub invariant-loop : goal.invariant-loop

@@ -1,12 +1,10 @@
-use Rattle.std.proofs.Common.{◌≡◌, ◌∷◌, List, true, false, Result, sym, ap, ◌∙◌}
-use Rattle.ffc_lex.specs.declared.tokens.TokenKind.TheVariants as kinds
+use Rattle.std.proofs.Common.{◌≡◌, List, true, false, sym, ap, ◌∙◌}
 use Rattle.ffc_term.specs.declared.node.Node.{Node}
-use Rattle.ffc_smt.specs.Trees.{Word, Tree, Trees, Leaf, Group}
+use Rattle.ffc_smt.specs.Trees.{Word, Tree, Leaf, Group}
 use Rattle.ffc_smt.specs.TreeShapes.{is_parenthesis}
 use Rattle.ffc_smt.specs.Scopes.{State, scope_of}
 use Rattle.ffc_smt.specs.CommandReading.{assumption_asked}
-use Rattle.ffc_words.specs.declared.faults.TakeStop.{TakeStop}
-use Rattle.ffc_words.specs.Words.{IsTreeAt, word_at}
+use Rattle.ffc_words.specs.Words.{IsTreeAt}
 use Rattle.ffc_terms.specs.Codes.{IsScope}
 use Rattle.ffc_elab.specs.Asked.{ReadsAsked}
 use Rattle.ffc_elab.proofs.AskedLemmas.{leaf_word, group_word}

@@ -1,12 +1,12 @@
-use Rattle.std.proofs.Common.{◌≡◌, [], None, Some, Err, refl, sym, ap, ◌∙◌, subst}
+use Rattle.std.proofs.Common.{◌≡◌, [], None, Some, Err, sym, ap, ◌∙◌, subst}
 use Rattle.std.specs.Option.{option_copied}
 use Rattle.ffc_term.specs.declared.node.Sort.{Sort}
 use Rattle.ffc_term.specs.declared.node.Sort.TheVariants as sort
-use Rattle.ffc_smt.specs.Trees.{Leaf, Word, name_of}
+use Rattle.ffc_smt.specs.Trees.{Leaf, name_of}
 use Rattle.ffc_smt.specs.Faults.{Read}
 use Rattle.ffc_smt.specs.Terms.{Term}
 use Rattle.ffc_smt.specs.Meaning.{Env}
-use Rattle.ffc_smt.specs.CommandReading.{assumed, limits, term_of_sort}
+use Rattle.ffc_smt.specs.CommandReading.{limits, term_of_sort}
 use Rattle.ffc_words.specs.Words.{word_at}
 use Rattle.ffc_elab.specs.SortedTerms.{ReadsOfSort}
 use Rattle.ffc_elab.proofs.AskedLemmas.{leaf_word, name_reads, no_name_reads}

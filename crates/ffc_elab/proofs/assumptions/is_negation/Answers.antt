@@ -1,6 +1,5 @@
-use Rattle.std.proofs.Common.{◌≡◌, true, false, refl, sym, ap, ◌∙◌, ⊎_elim, arith}
+use Rattle.std.proofs.Common.{sym, ap, ◌∙◌, ⊎_elim, arith}
 use Rattle.ffc_smt.specs.TreeShapes.{is_parenthesis}
-use Rattle.ffc_words.specs.Words.{word_at}
 use Rattle.ffc_elab.proofs.AskedLemmas.{too_short, not_named, second_wrong, end_wrong, is_one, no_parenthesis}
 use Rattle.ffc_elab.proofs.assumptions.is_negation.Goals as goal
 

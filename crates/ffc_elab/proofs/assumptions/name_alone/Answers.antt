@@ -1,8 +1,7 @@
-use Rattle.std.proofs.Common.{[], Err, Ok, sym, ap, ◌∙◌, subst}
+use Rattle.std.proofs.Common.{[], subst}
 use Rattle.ffc_term.specs.declared.node.Sort.TheVariants as sort
 use Rattle.ffc_smt.specs.Trees.{Leaf, Word, name_of}
 use Rattle.ffc_smt.specs.CommandReading.{assumed}
-use Rattle.ffc_words.specs.Words.{word_at}
 use Rattle.ffc_elab.specs.SortedTerms.{ReadsOfSort}
 use Rattle.ffc_elab.proofs.AskedLemmas.{leaf_word, name_stops, name_is}
 use Rattle.ffc_elab.proofs.assumptions.name_alone.Goals as goal

@@ -1,6 +1,6 @@
-use Rattle.std.proofs.Common.{◌≡◌, ◌+◌, ◌∷◌, [], true, false, Err, Ok, sym, ap, ◌∙◌, subst}
+use Rattle.std.proofs.Common.{◌+◌, ◌∷◌, [], Err, sym, ap, ◌∙◌, subst}
 use Rattle.ffc_term.specs.declared.node.Sort.TheVariants as sort
-use Rattle.ffc_smt.specs.Trees.{Leaf, Group, name_of}
+use Rattle.ffc_smt.specs.Trees.{Leaf, name_of}
 use Rattle.ffc_smt.specs.CommandReading.{assumed}
 use Rattle.ffc_words.specs.Words.{word_at}
 use Rattle.ffc_elab.specs.SortedTerms.{ReadsOfSort}

@@ -1,6 +1,5 @@
 use Rattle.ffc_lex.specs.declared.tokens.TokenKind.TheVariants as kinds
-use Rattle.std.proofs.Common.{◌≡◌, ◌∷◌, ◌++◌, refl, sym, ◌∙◌, subst}
-use Rattle.ffc_smt.specs.Trees.{tokens_of_items}
+use Rattle.std.proofs.Common.{◌≡◌, refl, sym, ◌∙◌, subst}
 use Rattle.ffc_elab.specs.Asked.{ReadsAsked}
 use Rattle.ffc_elab.specs.AskedLists.{listed_read}
 use Rattle.ffc_elab.proofs.AskedFaultLemmas.{listed_inside}
