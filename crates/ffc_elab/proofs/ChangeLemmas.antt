@@ -40,7 +40,7 @@ settled_opened plain.ResetAssertions s = refl
 settled_opened plain.Reset s = refl
 settled_opened plain.Exit s = refl
 
-none_named : (o : Option ℕ) → first_named o [] ≡ o
+pub none_named : (o : Option ℕ) → first_named o [] ≡ o
 none_named None = refl
 none_named (Some p) = refl
 

@@ -28,7 +28,7 @@ order_across [] ys v h has = absurd (omega (arith, has.1))
 order_across (x ∷ xs) ys v h has =
     ⊎_elim (λ e. subst (λ w. All (IsWordBefore w) ys) (sym e) (all_right (IsWordBefore x) xs ys h.0)) (λ later. order_across xs ys v h.1 later) (in_front x xs v has)
 
-one_before : (words : List Word) (fs gs : List Fault) → All (IsAtOneOf words) fs → ((v : Word) → Contains words v → All (IsAfterWord v) gs) → AreAllBefore fs gs
+pub one_before : (words : List Word) (fs gs : List Fault) → All (IsAtOneOf words) fs → ((v : Word) → Contains words v → All (IsAfterWord v) gs) → AreAllBefore fs gs
 one_before words fs gs h after = All-weaker (IsAtOneOf words) (λ f. All (IsFaultBefore f) gs) (λ f e. at_word f e) fs h
   where
     at_word : (f : Fault) → IsAtOneOf words f → All (IsFaultBefore f) gs

@@ -5,6 +5,7 @@ pub mod SortNameLemmas
 pub mod SortedTermLemmas
 pub mod AssertionLemmas
 pub mod TakeLemmas
+pub mod TextLemmas
 pub mod GivenLemmas
 pub mod DeclareLemmas
 pub mod ConstantLemmas
@@ -28,3 +29,10 @@ pub mod ChangeLemmas
 pub mod ItemLemmas
 pub mod NamingLemmas
 pub mod OrderLemmas
+pub mod AskedLemmas
+pub mod AskedFaultLemmas
+pub mod AskedListLemmas
+pub mod ListEndLemmas
+pub mod AskedNodeLemmas
+pub mod AssumingLemmas
+pub mod AskingLemmas

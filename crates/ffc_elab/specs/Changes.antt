@@ -3,7 +3,7 @@ use Rattle.std.specs.Prelude.{◌≡◌, ◌<◌, ◌==◌, true, All, vec_len, 
 use Rattle.ffc_term.specs.declared.node.Node.{Node}
 use Rattle.ffc_term.specs.declared.node.Sort.{Sort}
 use Rattle.ffc_smt.specs.Making.{constant_node}
-use Rattle.ffc_smt.specs.Terms.{Name, Command}
+use Rattle.ffc_smt.specs.Terms.{Name, Asked, Command}
 use Rattle.ffc_smt.specs.Scopes.{Meant, AsConstant, AsTerm, AsMacro, State, empty_level, with_name}
 use Rattle.ffc_smt.specs.Scripts.{changed, first_named}
 use Rattle.ffc_elab.specs.declared.plain.Plain.{Plain}
@@ -16,6 +16,10 @@ use Rattle.ffc_elab.specs.Reading.{plain_of}
 -- a state after a command without assumptions
 abbrev pub in_state : State → Known
 in_state s = record { state = s; assumptions = [] }
+
+-- a state after a command with these assumptions
+abbrev pub assuming : List Asked → State → Known
+assuming terms s = record { state = s; assumptions = terms }
 
 -- another state with the same assumptions
 abbrev pub with_state : Known → State → Known

@@ -9,3 +9,7 @@ pub mod Asserting
 pub mod Defining
 pub mod Orders
 pub mod SortedTerms
+pub mod Asked
+pub mod AskedLists
+pub mod AskedNodes
+pub mod Asking

@@ -2,9 +2,16 @@
 #![tactic(auto)]
 
 mod answers;
+mod asked_lists;
+mod asked_nodes;
+mod asked_terms;
+mod asked_texts;
+mod asking;
 mod assert;
 mod asserting;
 mod assertions;
+mod assuming;
+mod assumptions;
 mod commands;
 mod constants;
 mod context;
