@@ -122,14 +122,6 @@ IsPlainHead head.CheckSatAssuming = ⊥
 IsPlainHead head.GetValue = ⊥
 IsPlainHead _ = Unit {0}
 
--- a command without terms
-abbrev pub HasNoTerms : Head → Type 0
-HasNoTerms head.DefineFun = ⊥
-HasNoTerms head.Assert = ⊥
-HasNoTerms head.CheckSatAssuming = ⊥
-HasNoTerms head.GetValue = ⊥
-HasNoTerms _ = Unit {0}
-
 -- A form with the head of this command: its items are read from the third word on.
 pub record IsCommandForm (words : List Word) (s : State) (tree : Tree) (h : Head) : Type 0 where
   pub opening : Word
