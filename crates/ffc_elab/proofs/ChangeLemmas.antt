@@ -1,5 +1,5 @@
 -- What commands without names, sorts and terms change.
-use Rattle.std.proofs.Common.{◌≡◌, ℕ, ◌<◌, ◌≤◌, nat_lt, true, false, if◌then◌else◌, List, [], length, Option, Some, None, Ok, Err, refl, sym, ap, ◌∙◌, subst, arith}
+use Rattle.std.proofs.Common.{◌≡◌, ℕ, ◌<◌, ◌≤◌, nat_lt, Bool, true, false, if◌then◌else◌, List, [], length, Option, Some, None, Ok, Err, refl, sym, ap, ◌∙◌, subst, arith}
 use Rattle.std.proofs.lemmas.Bool.Decides.{nat_tests}
 use Rattle.ffc_smt.specs.Trees.{Word, Tree, front, items_of}
 use Rattle.ffc_smt.specs.Faults.{Fault, word_fault, Read, Sound, Faulty, faulty, behind}
@@ -40,7 +40,7 @@ settled_opened plain.ResetAssertions s = refl
 settled_opened plain.Reset s = refl
 settled_opened plain.Exit s = refl
 
-none_named : (o : Option ℕ) → first_named o [] ≡ o
+pub none_named : (o : Option ℕ) → first_named o [] ≡ o
 none_named None = refl
 none_named (Some p) = refl
 
@@ -101,6 +101,26 @@ unfolding command_read
 full_read s tree c many e =
     ap (λ r. outcome (behind r (within limits s (front tree)))) e
     ∙ ap (λ b. outcome (if b then faulty 15 (front tree) else (if nat_lt limits.weight (command_weight c) then faulty 15 (front tree) else Sound c))) (is_more limits.nodes (length (nodes_after s c)) many)
+
+-- one that makes few nodes and is light
+pub room_read : (s : State) (tree : Tree) (c : smt.Command) → length (nodes_after s c) ≤ limits.nodes → command_weight c ≤ limits.weight → form_read limits s tree ≡ Sound c → command_read limits s tree ≡ Sound c
+unfolding command_read
+room_read s tree c few light e =
+    ap (λ r. behind r (within limits s (front tree))) e
+    ∙ ap (λ b. if b then faulty 15 (front tree) else (if nat_lt limits.weight (command_weight c) then faulty 15 (front tree) else Sound c)) (not_more limits.nodes (length (nodes_after s c)) few)
+    ∙ ap (λ b. if b then faulty 15 (front tree) else Sound c) (not_more limits.weight (command_weight c) light)
+
+-- one that is too heavy
+pub heavy_read : (s : State) (tree : Tree) (c : smt.Command) → limits.weight < command_weight c → form_read limits s tree ≡ Sound c → outcome (command_read limits s tree) ≡ Err (word_fault 15 (front tree))
+unfolding command_read
+heavy_read s tree c heavy e =
+    ap (λ r. outcome (behind r (within limits s (front tree)))) e
+    ∙ ap (λ b. outcome (if nat_lt limits.nodes (length (nodes_after s c)) then faulty 15 (front tree) else (if b then faulty 15 (front tree) else Sound c))) (is_more limits.weight (command_weight c) heavy)
+    ∙ either_way (nat_lt limits.nodes (length (nodes_after s c)))
+  where
+    either_way : (b : Bool) → outcome (if b then faulty 15 (front tree) else faulty {A = smt.Command} 15 (front tree)) ≡ Err (word_fault 15 (front tree))
+    either_way true = refl
+    either_way false = refl
 
 -- one that makes none
 pub quiet_read : (s : State) (tree : Tree) (c : smt.Command) → nodes_after s c ≡ s.nodes → command_weight c ≡ 0 → length s.nodes ≤ limits.nodes → form_read limits s tree ≡ Sound c → command_read limits s tree ≡ Sound c

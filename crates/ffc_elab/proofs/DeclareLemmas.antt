@@ -35,7 +35,7 @@ use Rattle.ffc_elab.proofs.ChangeLemmas.{fits_read, full_read, sound_of}
 use Rattle.ffc_elab.proofs.ConstantLemmas.{interned_so}
 use Rattle.ffc_elab.proofs.SortNameLemmas.{form_orders, innermost_first}
 
-form_fine : (s : State) (h : IsSoundState s) (t : Tree) → IfSound (form_read limits s t) (Fine s h)
+pub form_fine : (s : State) (h : IsSoundState s) (t : Tree) → IfSound (form_read limits s t) (Fine s h)
 form_fine s h t =
     let well = scope_is_sound s h in
     form_sorted limits s (IsSoundHere s h) IsSoundSort (λ locals tree. term_sound s.constants s.nodes limits.height (scope_of s) well tree locals)

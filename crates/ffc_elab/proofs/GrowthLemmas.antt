@@ -53,7 +53,7 @@ known_stays old new t id (more, e) h = record {
 }
 
 mutual
-  code_stays : (t : Term) (old new : List Node) (symbols : Env Meaning) (locals : List Name) (ops : List Op) → Extends old new → IsCode old symbols locals t ops → IsCode new symbols locals t ops
+  pub code_stays : (t : Term) (old new : List Node) (symbols : Env Meaning) (locals : List Name) (ops : List Op) → Extends old new → IsCode old symbols locals t ops → IsCode new symbols locals t ops
   code_stays (Truth b) old new symbols locals ops e h = h
   code_stays (Number negative size p) old new symbols locals ops e h = h
   code_stays (Constant k s) old new symbols locals ops e h = (h.0, h.1, known_stays old new (Constant k s) h.0 e h.2)

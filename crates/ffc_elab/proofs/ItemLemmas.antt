@@ -28,7 +28,7 @@ order_across [] ys v h has = absurd (omega (arith, has.1))
 order_across (x ∷ xs) ys v h has =
     ⊎_elim (λ e. subst (λ w. All (IsWordBefore w) ys) (sym e) (all_right (IsWordBefore x) xs ys h.0)) (λ later. order_across xs ys v h.1 later) (in_front x xs v has)
 
-one_before : (words : List Word) (fs gs : List Fault) → All (IsAtOneOf words) fs → ((v : Word) → Contains words v → All (IsAfterWord v) gs) → AreAllBefore fs gs
+pub one_before : (words : List Word) (fs gs : List Fault) → All (IsAtOneOf words) fs → ((v : Word) → Contains words v → All (IsAfterWord v) gs) → AreAllBefore fs gs
 one_before words fs gs h after = All-weaker (IsAtOneOf words) (λ f. All (IsFaultBefore f) gs) (λ f e. at_word f e) fs h
   where
     at_word : (f : Fault) → IsAtOneOf words f → All (IsFaultBefore f) gs
@@ -66,11 +66,11 @@ unfolding items_of
 missing_item f read next words i Empty closing rest at e = ap (λ w. Err (word_fault 5 w)) (sym (word_at_items words i Empty closing rest at))
 missing_item f read next words i (First t ts) closing rest at e = absurd (front_kind t at.proper.0 (ap (λ w. w.kind) (sym (word_at_items words i (First t ts) closing rest at)) ∙ e))
 
-placed_wrong : (t : Tree) (i : ℕ) (r : Result Sort Fault) (f : Fault) → Err f ≡ placed t i r → r ≡ Err f
+pub placed_wrong : (t : Tree) (i : ℕ) (r : Result Sort Fault) (f : Fault) → Err f ≡ placed t i r → r ≡ Err f
 placed_wrong t i (Ok s) f e = cc
 placed_wrong t i (Err g) f e = cc
 
-placed_right : (t : Tree) (i j : ℕ) (r : Result Sort Fault) (s : Sort) → Ok (s, j) ≡ placed t i r → (r ≡ Ok s) × (j ≡ i + length (tokens_of t))
+pub placed_right : (t : Tree) (i j : ℕ) (r : Result Sort Fault) (s : Sort) → Ok (s, j) ≡ placed t i r → (r ≡ Ok s) × (j ≡ i + length (tokens_of t))
 placed_right t i j (Ok u) s e =
     (ap Ok (sym (ap (λ r. elim r as (λ x. Sort) [ Ok p ↦ p.0 | Err g ↦ s ]) e)), ap (λ r. elim r as (λ x. ℕ) [ Ok p ↦ p.1 | Err g ↦ j ]) e)
 placed_right t i j (Err g) s e = cc
@@ -108,7 +108,7 @@ module _ {C : Type 0} (g : Sort × Unit {0} → C) (sorts : Env Sort) (words : L
 
 -- `()`, and then others
 
-empty_spelled : (c : Word) (ws : List Word) → tokens_of_items Empty ++ c ∷ ws ≡ c ∷ ws
+pub empty_spelled : (c : Word) (ws : List Word) → tokens_of_items Empty ++ c ∷ ws ≡ c ∷ ws
 unfolding tokens_of
 empty_spelled c ws = refl
 

@@ -17,8 +17,8 @@ use Rattle.ffc_elab.specs.declared.levels.Mark.{Mark}
 use Rattle.ffc_elab.specs.declared.store.Store.{Store}
 use Rattle.ffc_elab.specs.Histories.{Known}
 use Rattle.ffc_elab.specs.Answers.{declared_as}
-use Rattle.ffc_elab.specs.Kept.{mark_of, IsKept, IsKnown}
-use Rattle.ffc_elab.specs.Changes.{with_state, more, more_by, LastIsMore, IsDefinition}
+use Rattle.ffc_elab.specs.Kept.{mark_of, IsKept}
+use Rattle.ffc_elab.specs.Changes.{with_state, more, more_by, LastIsMore, IsDefinition, HasGlobalNames}
 use Rattle.ffc_elab.proofs.LevelLemmas.{reverse_cons, meanings_long}
 
 no_names : (ls rest : List Level) → All (λ l. l.names ≡ []) ls → flat_map (λ l. l.names) (ls ++ rest) ≡ flat_map (λ l. l.names) rest
@@ -166,9 +166,9 @@ module _ (k : Known) (name : Name) (m : Meant) (x : Store) (h : IsKept k x) (v :
   end : (s : State) → IsKept (with_state k s) (record x { marks = marks; symbols = record x.symbols { terms = (name, v) ∷ x.symbols.terms } }) → s ≡ with_name name m k.state → IsKept (with_state k (with_name name m k.state)) z
   end s kept e = subst (λ (ts : Env Meaning). IsKept (with_state k (with_name name m k.state)) (record x { marks = marks; symbols = record x.symbols { terms = ts } })) (sym terms_are) (subst (λ t. IsKept (with_state k t) (record x { marks = marks; symbols = record x.symbols { terms = (name, v) ∷ x.symbols.terms } })) e kept)
 
-  pub defined_global : IsKnown k → k.state.options.global_declarations ≡ true → marks.items ≡ x.marks.items → IsKept (with_state k (with_name name m k.state)) z
+  pub defined_global : HasGlobalNames k.state → k.state.options.global_declarations ≡ true → marks.items ≡ x.marks.items → IsKept (with_state k (with_name name m k.state)) z
   defined_global known g e =
-      end _ (name_global k name m k.state.constants x h v meaning x.constants h.constants marks x.declared x.declared_nodes unlisted unplaced (known.scoped.global g) g e) same
+      end _ (name_global k name m k.state.constants x h v meaning x.constants h.constants marks x.declared x.declared_nodes unlisted unplaced (known g) g e) same
 
   pub defined_local : k.state.options.global_declarations ≡ false → length x.symbols.terms + 1 ≤ 2 ^ 64 - 1 → LastIsMore (record { names = 1; sorts = 0; declared = 0; asserted = 0 }) x.marks.items marks.items → IsKept (with_state k (with_name name m k.state)) z
   defined_local g few e =

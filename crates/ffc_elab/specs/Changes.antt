@@ -1,20 +1,25 @@
 -- How commands change levels: one level fewer, and no more assertions and names than a level has.
-use Rattle.std.specs.Prelude.{◌≡◌, ◌==◌, if◌then◌else◌, ℕ, ◌+◌, ◌-◌, ◌^◌, min, List, [], ◌∷◌, ◌++◌, drop, replicate, length}
+use Rattle.std.specs.Prelude.{◌≡◌, ◌<◌, ◌==◌, true, All, vec_len, vec_capacity, if◌then◌else◌, ℕ, ◌+◌, ◌-◌, ◌^◌, min, List, [], ◌∷◌, ◌++◌, drop, replicate, length}
 use Rattle.ffc_term.specs.declared.node.Node.{Node}
 use Rattle.ffc_term.specs.declared.node.Sort.{Sort}
 use Rattle.ffc_smt.specs.Making.{constant_node}
-use Rattle.ffc_smt.specs.Terms.{Name, Command}
+use Rattle.ffc_smt.specs.Terms.{Name, Asked, Command}
 use Rattle.ffc_smt.specs.Scopes.{Meant, AsConstant, AsTerm, AsMacro, State, empty_level, with_name}
 use Rattle.ffc_smt.specs.Scripts.{changed, first_named}
 use Rattle.ffc_elab.specs.declared.plain.Plain.{Plain}
 use Rattle.ffc_elab.specs.declared.plain.Plain.TheVariants as plain
 use Rattle.ffc_elab.specs.declared.levels.Mark.{Mark}
+use Rattle.ffc_elab.specs.declared.store.Store.{Store}
 use Rattle.ffc_elab.specs.Histories.{Known}
 use Rattle.ffc_elab.specs.Reading.{plain_of}
 
 -- a state after a command without assumptions
 abbrev pub in_state : State → Known
 in_state s = record { state = s; assumptions = [] }
+
+-- a state after a command with these assumptions
+abbrev pub assuming : List Asked → State → Known
+assuming terms s = record { state = s; assumptions = terms }
 
 -- another state with the same assumptions
 abbrev pub with_state : Known → State → Known
@@ -73,3 +78,28 @@ abbrev pub IsDefinition : Meant → Type 0
 IsDefinition (AsConstant k s) = ⊥
 IsDefinition (AsTerm s t) = Unit {0}
 IsDefinition (AsMacro ps s t) = Unit {0}
+
+-- where declarations are global, levels above 0 have no names
+abbrev pub HasGlobalNames : State → Type 0
+HasGlobalNames s = s.options.global_declarations ≡ true → All (λ l. l.names ≡ []) s.levels
+
+-- the same is kept
+pub record IsSame (x y : Store) : Type 0 where
+  pub logic : y.logic ≡ x.logic
+  pub options : y.options ≡ x.options
+  pub marks : y.marks.items ≡ x.marks.items
+  pub terms : y.symbols.terms ≡ x.symbols.terms
+  pub sorts : y.symbols.sorts ≡ x.symbols.sorts
+  pub table : y.table ≡ x.table
+  pub constants : y.constants ≡ x.constants
+  pub first : y.first ≡ x.first
+  pub in_force : y.in_force.items ≡ x.in_force.items
+  pub names : y.names.items ≡ x.names.items
+  pub assumed : y.assumed ≡ x.assumed
+  pub declared : y.declared.items ≡ x.declared.items
+  pub declared_nodes : y.declared_nodes.items ≡ x.declared_nodes.items
+
+-- one more assertion takes no memory
+pub record HasRoom (x : Store) : Type 0 where
+  pub nodes : vec_len x.in_force < vec_capacity x.in_force
+  pub names : vec_len x.names < vec_capacity x.names

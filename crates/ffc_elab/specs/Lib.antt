@@ -4,5 +4,12 @@ pub mod Kept
 pub mod Reading
 pub mod Changes
 pub mod Taking
+pub mod Making
+pub mod Asserting
+pub mod Defining
 pub mod Orders
 pub mod SortedTerms
+pub mod Asked
+pub mod AskedLists
+pub mod AskedNodes
+pub mod Asking

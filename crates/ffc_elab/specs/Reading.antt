@@ -1,5 +1,5 @@
 -- How a command is read from the words of its form.
-use Rattle.std.specs.Prelude.{◌≡◌, ◌⊎◌, true, false, ℕ, ◌+◌, ◌≤◌, nat_le, drop, Bool, List, [], ◌∷◌, All, Some, None, Result, Ok, Err}
+use Rattle.std.specs.Prelude.{◌≡◌, ◌⊎◌, true, false, ℕ, suc, ◌+◌, ◌≤◌, nat_le, drop, Bool, List, [], ◌∷◌, All, Some, None, Result, Ok, Err}
 use Rattle.ffc_lex.specs.declared.tokens.TokenKind.{TokenKind}
 use Rattle.ffc_lex.specs.declared.tokens.TokenKind.TheVariants as kinds
 use Rattle.ffc_smt.specs.Trees.{Word, Tree, Leaf, Group, Trees, Empty, First, items_of, tokens_of}
@@ -7,10 +7,11 @@ use Rattle.ffc_smt.specs.TreeShapes.{IsProper}
 use Rattle.ffc_smt.specs.FaultLaws.{IsWordBefore}
 use Rattle.ffc_smt.specs.Faults.{Fault, word_fault, Read, faulty}
 use Rattle.ffc_smt.specs.Meaning.{found}
-use Rattle.ffc_smt.specs.Terms.{Command}
+use Rattle.ffc_smt.specs.Terms.{Name, Command}
 use Rattle.ffc_smt.specs.Terms as smt
 use Rattle.ffc_smt.specs.Scopes.{State}
-use Rattle.ffc_smt.specs.CommandReading.{Limits, limits, readers, form_read}
+use Rattle.ffc_smt.specs.TermReading.{exactly}
+use Rattle.ffc_smt.specs.CommandReading.{Limits, limits, readers, form_read, fresh_read, is_named_word}
 use Rattle.ffc_parts.specs.declared.heads.Head.{Head}
 use Rattle.ffc_parts.specs.declared.heads.Head.TheVariants as head
 use Rattle.ffc_parts.specs.Heads.{head_name, setting_of, MayComeAs}
@@ -56,6 +57,17 @@ end_at_kind _ w = Err (word_fault 5 w)
 -- the parenthesis that closes the list, or code 5
 abbrev pub end_at : Word → Result (Unit {0}) Fault
 end_at w = end_at_kind w.kind w
+
+-- `:named` and a new name, at these words, and then the ends of the list and of the form
+abbrev pub label_of : (Name → Bool) → Word → Word → Word → Word → Result Name Fault
+label_of taken v w end last =
+    and_then (outcome (exactly is_named_word (Leaf v))) (λ u.
+    and_then (outcome (fresh_read taken (Leaf w))) (λ name.
+    and_then (end_at end) (λ u. and_then (end_at last) (λ u. Ok name))))
+
+-- the same from a place on
+abbrev pub label_at : (Name → Bool) → List Word → ℕ → Result Name Fault
+label_at taken words i = label_of taken (word_at words i) (word_at words (suc i)) (word_at words (suc (suc i))) (word_at words (suc (suc (suc i))))
 
 abbrev pub keyword_of_kind : TokenKind → Word → Result (List ℕ) Fault
 keyword_of_kind kinds.Keyword w = Ok w.bytes
@@ -109,14 +121,6 @@ IsPlainHead head.Assert = ⊥
 IsPlainHead head.CheckSatAssuming = ⊥
 IsPlainHead head.GetValue = ⊥
 IsPlainHead _ = Unit {0}
-
--- a command without terms
-abbrev pub HasNoTerms : Head → Type 0
-HasNoTerms head.DefineFun = ⊥
-HasNoTerms head.Assert = ⊥
-HasNoTerms head.CheckSatAssuming = ⊥
-HasNoTerms head.GetValue = ⊥
-HasNoTerms _ = Unit {0}
 
 -- A form with the head of this command: its items are read from the third word on.
 pub record IsCommandForm (words : List Word) (s : State) (tree : Tree) (h : Head) : Type 0 where

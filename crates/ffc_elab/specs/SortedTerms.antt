@@ -29,3 +29,17 @@ abbrev pub ReadsOfSort : List Node → Symbols → Env Sort → Sort → Read Te
 ReadsOfSort nodes symbols locals wanted read tree at (Ok t) = IsTermOfSort nodes symbols locals wanted read tree at t
 ReadsOfSort nodes symbols locals wanted read tree at (Err (stop.Fault f)) = outcome read ≡ Err (fault_of f)
 ReadsOfSort nodes symbols locals wanted read tree at (Err stop.Memory) = Unit {0}
+
+-- the term that a part of a form reads as, and what makes its node
+pub record IsReadTerm (nodes : List Node) (symbols : Symbols) (locals : Env Sort) (read : Read Term) (t : TermRead) : Type 0 where
+  pub term : Term
+  pub sound : read ≡ Sound term
+  pub code : IsCode nodes symbols.terms (map (λ x. x.0) locals) term t.code.items
+  pub height_is : t.height ≡ height term
+  pub weight_is : t.weight ≡ capped_weight (weight term)
+
+-- the term, or the first fault
+abbrev pub ReadsAsTerm : List Node → Symbols → Env Sort → Read Term → Result TermRead TakeStop → Type 0
+ReadsAsTerm nodes symbols locals read (Ok t) = IsReadTerm nodes symbols locals read t
+ReadsAsTerm nodes symbols locals read (Err (stop.Fault f)) = outcome read ≡ Err (fault_of f)
+ReadsAsTerm nodes symbols locals read (Err stop.Memory) = Unit {0}

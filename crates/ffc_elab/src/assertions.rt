@@ -1,5 +1,5 @@
 //! Assertions.
-ghost use Rattle.std.specs.Prelude.{◌≡◌, ◌≤◌, [], ◌∷◌, ◌++◌, length, take, OnOk, OnErr};
+ghost use Rattle.std.specs.Prelude.{◌≡◌, ◌<◌, ◌≤◌, [], ◌∷◌, ◌++◌, length, take, vec_len, vec_capacity, IsOk, OnOk, OnErr};
 ghost use Rattle.ffc_smt.specs.Scopes.{with_assertion};
 ghost use Rattle.ffc_smt.specs.TableChecks.{node_of};
 ghost use Rattle.ffc_smt.specs.Terms.{Term};
@@ -23,6 +23,7 @@ fn put_after(
     ensures names { OnOk result (names.new.items ≡ take count names.old.items ++ name ∷ []) }
     ensures old_nodes { OnErr result (nodes.new.items ≡ nodes.old.items) }
     ensures old_names { OnErr result (names.new.items ≡ names.old.items) }
+    ensures sure { vec_len nodes.old < vec_capacity nodes.old → vec_len names.old < vec_capacity names.old → IsOk result }
 {
     nodes.reserve(1)?;
     names.reserve(1)?;
@@ -35,7 +36,17 @@ fn put_after(
 
 impl Store {
     ghost use Rattle.ffc_elab.specs.Kept.{IsKept};
-    ghost use Rattle.ffc_elab.specs.Changes.{in_state};
+    ghost use Rattle.ffc_elab.specs.Changes.{HasRoom, IsSame, in_state};
+
+    /// Takes the memory for one more assertion.
+    pub(crate) fn reserve_assertion(&mut self) -> Result<(), AllocError>
+        ensures same { IsSame self.old self.new }
+        ensures ok { OnOk result (HasRoom self.new) }
+    {
+        self.in_force.reserve(1)?;
+        self.names.reserve(1)?;
+        Ok(())
+    }
 
     /// Asserts a term of this node on the innermost level. Nothing is assumed any more.
     pub(crate) fn push_assertion(
@@ -45,7 +56,8 @@ impl Store {
     ) -> Result<(), AllocError>
         ensures ok { OnOk result ((k : Known) (t : Term) → node ≡ node_of k.state.nodes t → IsKept k self.old
             → IsKept (in_state (with_assertion (record { term = t; label = name }) k.state)) self.new) }
-        ensures err { OnErr result ((k : Known) → IsKept k self.old → IsKept k self.new) }
+        ensures err { OnErr result (IsSame self.old self.new) }
+        ensures sure { HasRoom self.old → IsOk result }
     {
         let count = self.in_force.len().saturating_sub(self.assumed);
         put_after(&mut self.in_force, &mut self.names, count, node, name)?;

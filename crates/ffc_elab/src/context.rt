@@ -112,16 +112,18 @@ impl Context {
 impl Context {
     ghost use Rattle.ffc_smt.specs.CommandReading.{command_read, limits};
     ghost use Rattle.ffc_smt.specs.Trees.{Tree, form_tree, word_of};
-    ghost use Rattle.ffc_parts.specs.declared.heads.Head.{Head};
     ghost use Rattle.ffc_words.specs.Given.{IsGiven};
     ghost use Rattle.ffc_elab.specs.Answers.{TakesAs};
-    ghost use Rattle.ffc_elab.specs.Reading.{HasNoTerms, IsCommandForm};
 
-    /// Takes the last form of a lexer, where its command has no terms. A form that is refused leaves the context as it
-    /// was.
-    pub(crate) fn take_termless(&mut self, form: &Form, lexer: &Lexer) -> Result<Command, TakeStop>
-        requires given { IsGiven form.now lexer.now }
-        requires termless { (tree : Tree) (h : Head) → IsCommandForm (map (word_of lexer.now.text) form.now) (state_of self.old) tree h → HasNoTerms h }
+    /// Takes the last form of a lexer: answers its command and does what it says, or answers its first fault. A form that is
+    /// refused leaves the context as it was.
+    ///
+    /// It takes one step a word, with a look-up of each name, and one look-up a node: a term makes its nodes by at most two
+    /// steps a unit of its weight, which is at most 16,777,216. No name, level, assertion or node is gone over but those that
+    /// the command drops. Terms of any depth take no more of the stack of calls. The texts of names, assertions' names and
+    /// terms that are asked for are copied.
+    pub fn take(&mut self, form: &Form, lexer: &Lexer) -> Result<Command, TakeStop>
+        requires { IsGiven form.now lexer.now }
         ensures taken { (tree : Tree) → form_tree lexer.now.text form.now ≡ Some tree
             → TakesAs (known_of self.old) tree (command_read limits (state_of self.old) tree) result (known_of self.new) }
         ensures ok { OnOk result (self.new ≡ self.old ++ map (word_of lexer.now.text) form.now ∷ []) }
@@ -130,7 +132,7 @@ impl Context {
         let words = FormWords::new(form, lexer);
         match head_of(&words, self.store.logic) {
             Err(fault) => Err(TakeStop::Fault(fault)),
-            Ok(head) => match self.store.termless_command(&words, head) {
+            Ok(head) => match self.store.take_command(&words, head) {
                 Err(stop) => Err(stop),
                 Ok(command) => {
                     self.taken.take(form, lexer);

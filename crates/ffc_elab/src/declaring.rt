@@ -22,7 +22,7 @@ use ffc_terms::{Meaning, Names, Symbols, name_at, sort_at};
 use ffc_words::{FormWords, ScriptFault};
 
 /// A name, unless it is taken.
-fn free_name<'a>(
+pub(crate) fn free_name<'a>(
     words: &FormWords,
     at: usize,
     name: &'a [u8],

@@ -1,5 +1,5 @@
 //! Names that stand for terms.
-ghost use Rattle.std.specs.Prelude.{OnOk, OnErr};
+ghost use Rattle.std.specs.Prelude.{◌≡◌, OnOk, OnErr};
 ghost use Rattle.ffc_smt.specs.Scopes.{Meant, with_name};
 ghost use Rattle.ffc_terms.specs.Codes.{IsMeaning};
 ghost use Rattle.ffc_elab.specs.Histories.{Known};
@@ -10,14 +10,15 @@ use ffc_terms::Meaning;
 use std::alloc::AllocError;
 
 impl Store {
-    ghost use Rattle.ffc_elab.specs.Kept.{IsKept, IsKnown};
-    ghost use Rattle.ffc_elab.specs.Changes.{IsDefinition, with_state};
+    ghost use Rattle.ffc_elab.specs.Kept.{IsKept};
+    ghost use Rattle.ffc_elab.specs.Changes.{HasGlobalNames, IsDefinition, IsSame, with_state};
 
     /// Gives a name to what is no constant: on level 0 where declarations are global, else on the innermost level.
     pub(crate) fn push_name(&mut self, name: &[u8], value: Meaning) -> Result<(), AllocError>
-        ensures ok { OnOk result ((k : Known) (m : Meant) → IsKnown k → IsDefinition m → IsMeaning k.state.nodes self.old.symbols.terms value m → IsKept k self.old
+        ensures ok { OnOk result ((k : Known) (m : Meant) → HasGlobalNames k.state → IsDefinition m → IsMeaning k.state.nodes self.old.symbols.terms value m → IsKept k self.old
             → IsKept (with_state k (with_name name.now m k.state)) self.new) }
-        ensures err { OnErr result ((k : Known) → IsKept k self.old → IsKept k self.new) }
+        ensures err { OnErr result (IsSame self.old self.new) }
+        ensures others { (self.new.in_force ≡ self.old.in_force) × (self.new.names ≡ self.old.names) }
     {
         let key = Vec::from_slice(self.alloc, name)?;
         self.symbols.terms.push(self.alloc, key, value)?;

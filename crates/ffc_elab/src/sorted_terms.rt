@@ -16,7 +16,7 @@ use ffc_words::{FormWords, TakeStop};
 use std::alloc::Global;
 
 /// How high a term may be.
-const MOST_HEIGHT: u32 = 65_536;
+pub(crate) const MOST_HEIGHT: u32 = 65_536;
 
 /// Whether two sorts are one.
 fn same_sort(wanted: Sort, found: Sort) -> bool

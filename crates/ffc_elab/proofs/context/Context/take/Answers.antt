@@ -11,25 +11,11 @@ use Rattle.ffc_words.specs.Words.{fault_of}
 use Rattle.ffc_elab.proofs.ChangeLemmas.{fault_read}
 use Rattle.ffc_elab.proofs.GivenLemmas.{given_tree, given_form}
 use Rattle.ffc_elab.proofs.TakeLemmas.{refused_as, stopped_as, stopped_keeps, taken_keeps, taken_as}
-use Rattle.ffc_elab.proofs.context.Context.take_termless.Goals as goal
+use Rattle.ffc_elab.proofs.context.Context.take.Goals as goal
 
-pub termless_command-requires-clause-termless : goal.termless_command-requires-clause-termless
-termless_command-requires-clause-termless c =
-    let given = c.requires.given in
-    let form = c.args.form.now in
-    let l = c.args.lexer.now in
-    let tree = given_tree form l given in
-    let words = map (word_of l.text) form in
-    let k = known_of c.self.inside.taken.forms in
-    let whole = given_form form l given tree.0 tree.1 in
-    let here : IsCommandForm c.new-words.result k.state tree.0 c.in-Ok.head = c.in-Ok.ensures k.state tree.0 (sym c.self.invariant.0.logic) (subst (λ ws. IsFormOf ws tree.0) (sym c.new-words.ensures) whole) in
-    let same : c.self.inside.taken.forms ≡ c.args.self.now = c.self.view_is in
-    c.requires.termless tree.0 c.in-Ok.head
-    (subst (λ (v : List (List Word)). IsCommandForm words (known_of v).state tree.0 c.in-Ok.head) same (subst (λ ws. IsCommandForm ws k.state tree.0 c.in-Ok.head) c.new-words.ensures here))
-
-pub termless_command-requires-clause-ready : goal.termless_command-requires-clause-ready
-termless_command-requires-clause-ready c =
-    let given = c.requires.given in
+pub take_command-requires : goal.take_command-requires
+take_command-requires c =
+    let given = c.requires in
     let form = c.args.form.now in
     let l = c.args.lexer.now in
     let tree = given_tree form l given in
@@ -45,7 +31,7 @@ termless_command-requires-clause-ready c =
 
 pub invariant_of-self : goal.invariant_of-self
 invariant_of-self c =
-    let given = c.requires.given in
+    let given = c.requires in
     let form = c.args.form.now in
     let l = c.args.lexer.now in
     let tree = given_tree form l given in
@@ -53,12 +39,12 @@ invariant_of-self c =
     let whole = subst (λ ws. IsFormOf ws tree.0) (sym c.new-words.ensures) (given_form form l given tree.0 tree.1) in
     let kept = c.self.invariant.0 in
     let here : IsCommandForm c.new-words.result k.state tree.0 c.in-Ok.head = c.in-Ok.ensures k.state tree.0 (sym kept.logic) whole in
-    let taken = subst (TakesKept k tree.0 c.termless_command.new.self) c.in-Err-termless_command.is (c.termless_command.ensures k tree.0 kept c.self.invariant.1 whole here) in
-    (stopped_keeps k tree.0 c.in-Err-termless_command.stop c.termless_command.new.self taken, c.self.invariant.1)
+    let taken = subst (TakesKept k tree.0 c.take_command.new.self) c.in-Err-take_command.is (c.take_command.ensures k tree.0 kept c.self.invariant.1 whole here) in
+    (stopped_keeps k tree.0 c.in-Err-take_command.stop c.take_command.new.self taken, c.self.invariant.1)
 
-pub invariant_of-self-in-Ok-termless_command : goal.invariant_of-self-in-Ok-termless_command
-invariant_of-self-in-Ok-termless_command c =
-    let given = c.requires.given in
+pub invariant_of-self-in-Ok-take_command : goal.invariant_of-self-in-Ok-take_command
+invariant_of-self-in-Ok-take_command c =
+    let given = c.requires in
     let form = c.args.form.now in
     let l = c.args.lexer.now in
     let words = map (word_of l.text) form in
@@ -68,9 +54,9 @@ invariant_of-self-in-Ok-termless_command c =
     let whole = subst (λ ws. IsFormOf ws tree.0) (sym c.new-words.ensures) (given_form form l given tree.0 tree.1) in
     let kept = c.self.invariant.0 in
     let here : IsCommandForm c.new-words.result k.state tree.0 c.in-Ok.head = c.in-Ok.ensures k.state tree.0 (sym kept.logic) whole in
-    let taken = subst (TakesKept k tree.0 c.termless_command.new.self) c.in-Ok-termless_command.is (c.termless_command.ensures k tree.0 kept c.self.invariant.1 whole here) in
-    let both = taken_keeps forms words tree.0 c.termless_command.new.self c.in-Ok-termless_command.command tree.1 taken c.self.invariant.1 in
-    subst (λ (v : List (List Word)). IsKept (known_of v) c.termless_command.new.self × IsKnown (known_of v)) (sym c.take.ensures) both
+    let taken = subst (TakesKept k tree.0 c.take_command.new.self) c.in-Ok-take_command.is (c.take_command.ensures k tree.0 kept c.self.invariant.1 whole here) in
+    let both = taken_keeps forms words tree.0 c.take_command.new.self c.in-Ok-take_command.command tree.1 taken c.self.invariant.1 in
+    subst (λ (v : List (List Word)). IsKept (known_of v) c.take_command.new.self × IsKnown (known_of v)) (sym c.take.ensures) both
 
 pub returns-in-Err-clause-taken : goal.returns-in-Err-clause-taken
 returns-in-Err-clause-taken c = λ tree is.
@@ -78,35 +64,35 @@ returns-in-Err-clause-taken c = λ tree is.
     let l = c.args.lexer.now in
     let forms = c.self.inside.taken.forms in
     let k = known_of forms in
-    let whole = subst (λ ws. IsFormOf ws tree) (sym c.new-words.ensures) (given_form form l c.requires.given tree is) in
+    let whole = subst (λ ws. IsFormOf ws tree) (sym c.new-words.ensures) (given_form form l c.requires tree is) in
     subst (λ (v : List (List Word)). TakesAs (known_of v) tree (command_read limits (known_of v).state tree) (Err (stop.Fault c.in-Err.fault)) (known_of v)) c.self.view_is
     (refused_as k tree c.in-Err.fault (fault_read k.state tree (fault_of c.in-Err.fault) (c.in-Err.ensures k.state tree (sym c.self.invariant.0.logic) whole)))
 
-pub returns-in-Err-termless_command-clause-taken : goal.returns-in-Err-termless_command-clause-taken
-returns-in-Err-termless_command-clause-taken c = λ tree is.
+pub returns-in-Err-take_command-clause-taken : goal.returns-in-Err-take_command-clause-taken
+returns-in-Err-take_command-clause-taken c = λ tree is.
     let form = c.args.form.now in
     let l = c.args.lexer.now in
     let forms = c.self.inside.taken.forms in
     let k = known_of forms in
-    let whole = subst (λ ws. IsFormOf ws tree) (sym c.new-words.ensures) (given_form form l c.requires.given tree is) in
+    let whole = subst (λ ws. IsFormOf ws tree) (sym c.new-words.ensures) (given_form form l c.requires tree is) in
     let kept = c.self.invariant.0 in
     let here : IsCommandForm c.new-words.result k.state tree c.in-Ok.head = c.in-Ok.ensures k.state tree (sym kept.logic) whole in
-    let taken = subst (TakesKept k tree c.termless_command.new.self) c.in-Err-termless_command.is (c.termless_command.ensures k tree kept c.self.invariant.1 whole here) in
-    subst (λ (v : List (List Word)). TakesAs (known_of v) tree (command_read limits (known_of v).state tree) (Err c.in-Err-termless_command.stop) (known_of forms)) c.self.view_is
-    (stopped_as k tree c.in-Err-termless_command.stop c.termless_command.new.self taken)
+    let taken = subst (TakesKept k tree c.take_command.new.self) c.in-Err-take_command.is (c.take_command.ensures k tree kept c.self.invariant.1 whole here) in
+    subst (λ (v : List (List Word)). TakesAs (known_of v) tree (command_read limits (known_of v).state tree) (Err c.in-Err-take_command.stop) (known_of forms)) c.self.view_is
+    (stopped_as k tree c.in-Err-take_command.stop c.take_command.new.self taken)
 
-pub returns-in-Ok-termless_command-clause-taken : goal.returns-in-Ok-termless_command-clause-taken
-returns-in-Ok-termless_command-clause-taken c = λ tree is.
+pub returns-in-Ok-take_command-clause-taken : goal.returns-in-Ok-take_command-clause-taken
+returns-in-Ok-take_command-clause-taken c = λ tree is.
     let form = c.args.form.now in
     let l = c.args.lexer.now in
     let words = map (word_of l.text) form in
     let forms = c.self.inside.taken.forms in
     let k = known_of forms in
-    let whole = subst (λ ws. IsFormOf ws tree) (sym c.new-words.ensures) (given_form form l c.requires.given tree is) in
+    let whole = subst (λ ws. IsFormOf ws tree) (sym c.new-words.ensures) (given_form form l c.requires tree is) in
     let kept = c.self.invariant.0 in
     let here : IsCommandForm c.new-words.result k.state tree c.in-Ok.head = c.in-Ok.ensures k.state tree (sym kept.logic) whole in
-    let taken = subst (TakesKept k tree c.termless_command.new.self) c.in-Ok-termless_command.is (c.termless_command.ensures k tree kept c.self.invariant.1 whole here) in
-    let r = c.in-Ok-termless_command.command in
-    let so = taken_as forms words tree c.termless_command.new.self r is taken in
+    let taken = subst (TakesKept k tree c.take_command.new.self) c.in-Ok-take_command.is (c.take_command.ensures k tree kept c.self.invariant.1 whole here) in
+    let r = c.in-Ok-take_command.command in
+    let so = taken_as forms words tree c.take_command.new.self r is taken in
     subst (λ (v : List (List Word)). TakesAs (known_of v) tree (command_read limits (known_of v).state tree) (Ok r) (known_of c.take.new.self.forms)) c.self.view_is
     (subst (λ (v : List (List Word)). TakesAs k tree (command_read limits k.state tree) (Ok r) (known_of v)) (sym c.take.ensures) so)
