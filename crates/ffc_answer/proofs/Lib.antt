@@ -1,0 +1,8 @@
+pub mod ListLemmas
+pub mod ConstantLemmas
+pub mod ModelLemmas
+pub mod SeenLemmas
+pub mod ViewLemmas
+pub mod LawLemmas
+pub mod RowLemmas
+pub mod TestLemmas
