@@ -1,0 +1,5 @@
+pub mod Stops
+pub mod Progress
+pub mod Answers
+pub mod Kept
+pub mod Laws
