@@ -1,51 +1,58 @@
-//! What no clause says: that these calls succeed, given enough memory.
+//! What no clause says: that forms are taken, given enough memory.
 use crate::context::Context;
-use crate::plain::Plain;
-use crate::store::Store;
-use ffc_term::Sort;
-use ffc_terms::Meaning;
+use ffc_lex::Lexer;
+use ffc_words::TakeStop;
 use std::test::Fail;
 
-#[test]
-fn a_context_begins_empty(rt: HostRuntime) -> Result<(), Fail> {
-    let context = Context::new(rt.alloc())?;
-    assert_eq!(rt; context.level(), 0);
-    assert_eq!(rt; context.in_force().len(), 0);
-    assert_eq!(rt; context.declared().len(), 0);
-    assert_eq!(rt; context.table().len(), 0);
-    assert!(rt; context.field().is_none());
-    assert!(rt; !context.print_success());
-    Ok(())
-}
+const FORMS: &[u8] = b"(set-logic QF_FF) (declare-const b Bool)
+(define-fun t () Bool (not b)) (define-fun both ((p Bool) (q Bool)) Bool (and p q))
+(assert (! (both b t) :named a)) (push 1) (assert (or a nope)) (assert (or a b))
+(check-sat-assuming (a (not t))) (get-value ((both t b) t)) (assert (= b #f1m5))
+(pop 1) (define-fun both () Bool b) (reset-assertions)
+";
+
+/// Of each form its fault's code, or 0, and how many nodes and active terms there are after it.
+const ROWS: [(u8, u32, usize); 14] = [
+    (0, 0, 0),
+    (0, 1, 0),
+    (0, 2, 0),
+    (0, 2, 0),
+    (0, 3, 1),
+    (0, 3, 1),
+    (8, 3, 1),
+    (0, 4, 2),
+    (0, 5, 4),
+    (0, 6, 2),
+    (10, 6, 2),
+    (0, 6, 1),
+    (9, 6, 1),
+    (0, 6, 0),
+];
 
 #[test]
-fn levels_come_and_go(rt: HostRuntime) -> Result<(), Fail> {
-    let mut store = Store::new(rt.alloc())?;
-    let rows = [
-        (Plain::Push(3), 3),
-        (Plain::Pop(1), 2),
-        (Plain::SetInfo, 2),
-        (Plain::ResetAssertions, 0),
-        (Plain::Push(1), 1),
-        (Plain::Reset, 0),
-    ];
-    for (plain, levels) in rows {
-        let _ = store.take_plain(plain)?;
-        assert_eq!(rt; store.marks.len(), levels);
+#[tactic(auto, using(ffc_terms::proofs::GivenLemmas::given_now))]
+fn forms_are_taken(rt: HostRuntime) -> Result<(), Fail> {
+    let mut lexer = Lexer::new(rt.alloc());
+    lexer.feed(FORMS)?;
+    let mut context = Context::new(rt.alloc())?;
+    for (code, nodes, active) in ROWS {
+        let Ok(Some(form)) = lexer.next_form() else {
+            return Err("a form".into());
+        };
+        let found = match context.take(&form, &lexer) {
+            Ok(_) => 0,
+            Err(TakeStop::Fault(fault)) => fault.code,
+            Err(TakeStop::Memory) => return Err("memory".into()),
+        };
+        assert_eq!(rt; found, code);
+        assert_eq!(rt; context.table().len(), nodes);
+        assert_eq!(rt; context.in_force().len(), active);
     }
-    Ok(())
-}
-
-#[test]
-fn a_pop_drops_what_its_level_has(rt: HostRuntime) -> Result<(), Fail> {
-    let mut store = Store::new(rt.alloc())?;
-    store.push_name(b"a", Meaning::Defined(Sort::Bool, 0))?;
-    store.push(1)?;
-    store.push_name(b"b", Meaning::Defined(Sort::Bool, 1))?;
-    store.push_assertion(1, None)?;
-    assert_eq!(rt; store.symbols.terms.len(), 2);
-    store.pop(1);
-    assert_eq!(rt; store.symbols.terms.len(), 1);
-    assert_eq!(rt; store.in_force.len(), 0);
+    assert_eq!(rt; context.level(), 0);
+    assert_eq!(rt; context.names().len(), 0);
+    assert_eq!(rt; context.declared().len(), 0);
+    assert_eq!(rt; context.declared_nodes().len(), 0);
+    assert!(rt; context.field().is_some());
+    assert!(rt; !context.print_success());
     Ok(())
 }
