@@ -26,7 +26,7 @@ take-requires c =
     let i = c.self.inside in
     let due = sym c.in-Ok-Some.field-0-is ∙ c.in-Ok-Some.ensures.form in
     let new : IfSome (Some c.in-Ok-Some.form) (λ _. c.next_form.new.self ≡ record i.lexer { given = i.lexer.given + 1 }) = rw c.in-Ok-Some.field-0-is at c.in-Ok-Some.ensures.given in
-    record { given = given_now i.lexer i.context i.over c.args.self.now c.self.view_is c.requires c.self.invariant c.in-Ok-Some.form due c.next_form.new.self new }
+    given_now i.lexer i.context i.over c.args.self.now c.self.view_is c.requires c.self.invariant c.in-Ok-Some.form due c.next_form.new.self new
 
 pub invariant_of-self-in-Ok : goal.invariant_of-self-in-Ok
 invariant_of-self-in-Ok c =
