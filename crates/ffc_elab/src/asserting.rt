@@ -122,7 +122,14 @@ fn named_assertion<'a>(
 {
     match words.kind(LABELLED) {
         TokenKind::RightParen => Err(TakeStop::Fault(words.fault(5, LABELLED))),
-        _ => match sorted_term(alloc, words, symbols, Names::new(alloc), Sort::Bool, LABELLED) {
+        _ => match sorted_term(
+            alloc,
+            words,
+            symbols,
+            Names::new(alloc),
+            Sort::Bool,
+            LABELLED,
+        ) {
             Err(stop) => Err(stop),
             Ok(term) => match label_at(words, &symbols.terms, term.next) {
                 Err(fault) => Err(TakeStop::Fault(fault)),

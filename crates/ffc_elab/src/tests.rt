@@ -4,7 +4,7 @@ use ffc_lex::Lexer;
 use ffc_words::TakeStop;
 use std::test::Fail;
 
-const FORMS: &[u8] = b"(set-logic QF_FF) (declare-const b Bool)
+const FORMS: &[u8] = b"(set-logic QF_FF) (declare-const b Bool) (declare-const x (_ FiniteField 5))
 (define-fun t () Bool (not b)) (define-fun both ((p Bool) (q Bool)) Bool (and p q))
 (assert (! (both b t) :named a)) (push 1) (assert (or a nope)) (assert (or a b))
 (check-sat-assuming (a (not t))) (get-value ((both t b) t)) (assert (= b #f1m5))
@@ -12,21 +12,22 @@ const FORMS: &[u8] = b"(set-logic QF_FF) (declare-const b Bool)
 ";
 
 /// Of each form its fault's code, or 0, and how many nodes and active terms there are after it.
-const ROWS: [(u8, u32, usize); 14] = [
+const ROWS: [(u8, u32, usize); 15] = [
     (0, 0, 0),
     (0, 1, 0),
     (0, 2, 0),
-    (0, 2, 0),
-    (0, 3, 1),
-    (0, 3, 1),
-    (8, 3, 1),
-    (0, 4, 2),
-    (0, 5, 4),
-    (0, 6, 2),
-    (10, 6, 2),
-    (0, 6, 1),
-    (9, 6, 1),
-    (0, 6, 0),
+    (0, 3, 0),
+    (0, 3, 0),
+    (0, 4, 1),
+    (0, 4, 1),
+    (8, 4, 1),
+    (0, 5, 2),
+    (0, 6, 4),
+    (0, 7, 2),
+    (10, 7, 2),
+    (0, 7, 1),
+    (9, 7, 1),
+    (0, 7, 0),
 ];
 
 #[test]
