@@ -42,7 +42,14 @@ fn makes_true(alloc: Global, check: &Check, pairs: &[(u32, u64)]) -> Result<bool
     give_listed(check.table, pairs, values.as_mut_slice());
     let mut out = vec![in alloc; Value::Bool(false); check.table.len() as usize]?;
     let assignment = Assignment::new(values);
-    Ok(is_model(check, nodes.as_slice(), &assignment, out.as_mut_slice()))
+    let asserted = check.in_force;
+    Ok(is_model(
+        check,
+        nodes.as_slice(),
+        asserted,
+        &assignment,
+        out.as_mut_slice(),
+    ))
 }
 
 /// Judges listed values: each constant has one of its own, and with them all is true that is in force.
