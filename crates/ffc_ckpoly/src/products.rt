@@ -1,12 +1,12 @@
 //! Sums of multiples.
-ghost use Rattle.std.specs.Prelude.{◌≡◌, ◌+◌, ◌^◌, ◌<◌, ◌++◌, [], IfOk};
+ghost use Rattle.std.specs.Prelude.{◌≡◌, ◌+◌, ◌^◌, ◌<◌, ◌++◌, ◌∷◌, [], IfOk};
 ghost use Rattle.ffc_ring.specs.Monomial.{IsMonomial, degree};
 ghost use Rattle.ffc_ring.specs.Polynomial.{SamePolynomial, term_product};
 ghost use Rattle.ffc_trees.specs.Normal.{IsNormal, degree_of};
 
 use crate::buffer::Buffer;
 use crate::poly::CkPoly;
-use crate::powers::append_written;
+use crate::powers::{Power, append_written};
 use ffc_field::Field;
 use std::alloc::{AllocError, Global};
 use std::marker::Model;
@@ -42,6 +42,17 @@ impl<F: Field> CkSum<F> {
         CkSum {
             buffer: Buffer::new(alloc),
         }
+    }
+
+    /// Adds one term.
+    pub(crate) fn with_term(self, c: F, m: &[Power]) -> Result<Self, AllocError>
+        requires m_is { IsMonomial m.now }
+        requires fits { degree m.now < 2 ^ 64 }
+        ensures { IfOk result (λ r. r ≡ self ++ (F.value c, m.now) ∷ []) }
+    {
+        let CkSum { mut buffer } = self;
+        buffer.push(c, m)?;
+        Ok(CkSum { buffer })
     }
 
     /// Adds the product of a written term and a polynomial. It costs the terms of the polynomial.
