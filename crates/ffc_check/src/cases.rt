@@ -12,6 +12,7 @@ ghost use Rattle.ffc_check.specs.Judged.{node_check};
 
 use crate::assigning::{blank, distinct, give_digits, is_model};
 use crate::stop::{CheckStop, breaks};
+use ffc_cktree::rules;
 use ffc_term::{Assignment, Check, NodeId, Value};
 use std::alloc::{AllocError, Global};
 
@@ -79,10 +80,10 @@ pub fn check_cases(alloc: Global, check: &Check, line: u64) -> Result<(), CheckS
 {
     let measures = check.table.measures(check.in_force)?;
     if measures.work > MOST_WORK {
-        return Err(breaks(11, line));
+        return Err(breaks(rules::LIMIT, line));
     }
     if has_model(alloc, check, measures.span as u64)? {
-        Err(breaks(10, line))
+        Err(breaks(rules::ENUMERATION, line))
     } else {
         Ok(())
     }

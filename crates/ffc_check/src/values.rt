@@ -9,6 +9,7 @@ ghost use Rattle.ffc_check.specs.Judged.{node_check};
 
 use crate::assigning::{blank, give_listed, is_model};
 use crate::stop::{CheckStop, breaks};
+use ffc_cktree::rules;
 use ffc_term::{Assignment, Check, NodeId, NodeTable, Value};
 use std::alloc::{AllocError, Global};
 
@@ -64,15 +65,15 @@ pub fn check_values(
     ensures { Answers result (sat_fault (node_check check.now) pairs.now line) }
 {
     if pairs.len() != check.declared.len() {
-        return Err(breaks(1, line));
+        return Err(breaks(rules::VALUES, line));
     }
     match first_misfit(check.table, check.declared, pairs) {
-        Some(i) => Err(breaks(1, line + 1 + i as u64)),
+        Some(i) => Err(breaks(rules::VALUES, line + 1 + i as u64)),
         None => {
             if makes_true(alloc, check, pairs)? {
                 Ok(())
             } else {
-                Err(breaks(1, line))
+                Err(breaks(rules::VALUES, line))
             }
         }
     }

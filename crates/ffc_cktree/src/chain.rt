@@ -12,6 +12,7 @@ ghost use Rattle.ffc_cktree.specs.Identities.{product_length, multiplied_length,
 use crate::rows::{
     are_below, are_same, elements, pair, product_and_rest, product_of, without_zeros,
 };
+use crate::rules;
 use crate::stop::LineStop;
 use ffc_ckpoly::CkPoly;
 use ffc_field::Field;
@@ -83,14 +84,14 @@ pub fn begin<F: Field>(
     ensures broken { (rule : ℕ) → result ≡ Err (LineStop.Rule rule) → chain_line F.ORDER lines.now k x steps ≡ Err rule }
 {
     let Some(line) = lines.get(k as usize) else {
-        return Err(LineStop::Rule(12));
+        return Err(LineStop::Rule(rules::REFERENCE));
     };
     let Some(modulus) = line.coefficients(alloc, x)? else {
-        return Err(LineStop::Rule(6));
+        return Err(LineStop::Rule(rules::CHAIN));
     };
     let factors = factors(alloc, F::ORDER)?;
     if factors.len() as u64 != u64::from(steps) {
-        return Err(LineStop::Rule(6));
+        return Err(LineStop::Rule(rules::CHAIN));
     }
     Ok((modulus, factors))
 }
@@ -205,17 +206,17 @@ pub fn step<F: Field>(
         → step_line limits F.ORDER (map F.value modulus.now) (factor_of factor) (map F.value power.now) quotient.now remainder.now ≡ Err rule }
 {
     if quotient.len() > MOST_COEFFICIENTS || remainder.len() > MOST_COEFFICIENTS {
-        return Err(LineStop::Rule(11));
+        return Err(LineStop::Rule(rules::LIMIT));
     }
     if !are_below(F::ORDER, quotient) || !are_below(F::ORDER, remainder) {
-        return Err(LineStop::Rule(6));
+        return Err(LineStop::Rule(rules::CHAIN));
     }
     let quotient = elements(alloc, quotient)?;
     let rest = elements(alloc, remainder)?;
     let (q, r) = (quotient.as_slice(), rest.as_slice());
     let holds = is_identity(alloc, modulus, factor, power, q, r)?;
     if !holds {
-        return Err(LineStop::Rule(6));
+        return Err(LineStop::Rule(rules::CHAIN));
     }
     Ok(rest)
 }
