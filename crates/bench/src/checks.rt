@@ -114,12 +114,7 @@ fn number(table: &mut NodeTable, order: u64, n: u64) -> Result<NodeId, TermStop>
 }
 
 /// Puts an equality.
-fn equality(
-    table: &mut NodeTable,
-    order: u64,
-    a: NodeId,
-    b: NodeId,
-) -> Result<NodeId, TermStop> {
+fn equality(table: &mut NodeTable, order: u64, a: NodeId, b: NodeId) -> Result<NodeId, TermStop> {
     if !are_of_one_field(table, order, a, b) {
         return Err(TermStop::Nodes);
     }
