@@ -3,12 +3,15 @@
 //! `bench lex KIB PIECE` reads a generated script, `bench cert KIB PIECE` a generated certificate, each of so many KiB
 //! in pieces of so many bytes. `bench term COUNT` makes, measures and evaluates a chain of so many nodes. `bench poly CASE TERMS TIMES`
 //! computes with polynomials of so many terms so many times. `bench roots CASE DEGREE` finds all roots of a polynomial of
-//! this degree. Without arguments each runs on a small input.
+//! this degree. `bench check CASE SIZE COUNT` judges a generated entry. Without arguments each runs on a small input.
 #![tactic(auto)]
 
 mod certificates;
 mod chains;
+mod checks;
+mod entries;
 mod polynomials;
+mod refutations;
 mod roots;
 mod scripts;
 
@@ -25,6 +28,8 @@ const NODES: u32 = 1000;
 const TERMS: u32 = 60;
 
 const DEGREE: u32 = 16;
+
+const DEPTH: u32 = 4;
 
 /// So many pieces of so many bytes.
 #[derive(Clone, Copy)]
@@ -63,8 +68,15 @@ fn run<R: Print>(
             third.unwrap_or(1),
         ),
         "roots" => roots::run(rt, alloc, first.unwrap_or(0), second.unwrap_or(DEGREE)),
+        "check" => entries::run(
+            rt,
+            alloc,
+            first.unwrap_or(0),
+            second.unwrap_or(DEPTH),
+            third.unwrap_or(1),
+        ),
         _ => println!(rt;
-            "bench lex KIB PIECE | cert KIB PIECE | term COUNT | poly CASE TERMS TIMES | roots CASE DEGREE"
+            "bench lex KIB PIECE | cert KIB PIECE | term COUNT | poly CASE TERMS TIMES | roots CASE DEGREE | check CASE SIZE COUNT"
         ),
     }
 }
@@ -73,7 +85,7 @@ fn main(rt: HostRuntime) -> io::Result<()> {
     let mut arguments = env::args(&rt)?;
     let _program = arguments.next();
     let Some(name) = arguments.next() else {
-        for name in ["lex", "cert", "term", "poly", "roots"] {
+        for name in ["lex", "cert", "term", "poly", "roots", "check"] {
             run(&rt, rt.alloc(), name, None, None, None)?;
         }
         return Ok(());

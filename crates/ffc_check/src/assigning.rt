@@ -1,13 +1,14 @@
 //! Assignments, and what they make true.
 ghost use Rattle.std.specs.Prelude.{◌≡◌, ◌<◌, length, All, IfOk};
 ghost use Rattle.std.specs.List.{list_all};
+ghost use Rattle.std.specs.List.Sorted.{IsStrictlyIncreasing};
 ghost use Rattle.ffc_term.specs.Nodes.{IsConstantAt};
 ghost use Rattle.ffc_term.specs.Tables.{constant_count};
 ghost use Rattle.ffc_term.specs.Values.{truth_in};
 ghost use Rattle.ffc_term.specs.Checks.{IsClosed, AreNodesOf};
 ghost use Rattle.ffc_rules.specs.Assignments.{are_true, digits};
 ghost use Rattle.ffc_rules.specs.Laws.{IsValid};
-ghost use Rattle.ffc_check.specs.Assigning.{with_value, with_values};
+ghost use Rattle.ffc_check.specs.Assigning.{with_value, with_values, HaveSameNumbers};
 ghost use Rattle.ffc_check.specs.Judged.{node_check};
 
 use ffc_term::{Assignment, Check, Node, NodeId, NodeTable, Value};
@@ -85,14 +86,34 @@ fn all_true(ids: &[NodeId], values: &[Value]) -> bool
     true
 }
 
-/// Whether all is true under an assignment that is in force. The values of the check's nodes go into `out`.
-pub fn is_model(check: &Check, nodes: &[NodeId], assignment: &Assignment, out: &mut [Value]) -> bool
+/// Nodes in increasing order, each once.
+pub fn distinct(alloc: Global, ids: &[NodeId]) -> Result<Vec<NodeId>, AllocError>
+    ensures increasing { IfOk result (λ v. IsStrictlyIncreasing v.items) }
+    ensures same { IfOk result (λ v. HaveSameNumbers v.items ids.now) }
+{
+    let mut sorted = Vec::new(alloc);
+    sorted.extend_from_slice(ids)?;
+    sorted.sort_unstable();
+    sorted.dedup();
+    Ok(sorted)
+}
+
+/// Whether all is true under an assignment that is in force, of which `asserted` lists the nodes, in any order. The values of
+/// the check's nodes go into `out`; then it costs the listed nodes up to the first that is false.
+pub fn is_model(
+    check: &Check,
+    nodes: &[NodeId],
+    asserted: &[NodeId],
+    assignment: &Assignment,
+    out: &mut [Value],
+) -> bool
     requires valid { IsValid (node_check check.now) }
     requires nodes { AreNodesOf check.now.table.now check.now.in_force.now nodes.now }
     requires closed { IsClosed check.now.table.now nodes.now }
+    requires asserted { HaveSameNumbers asserted.now check.now.in_force.now }
     requires long { length out.old ≡ length check.now.table.now }
     ensures { result ≡ are_true check.now.table.now check.now.in_force.now assignment.now }
 {
     check.table.eval_into(nodes, assignment, out);
-    all_true(check.in_force, out)
+    all_true(asserted, out)
 }

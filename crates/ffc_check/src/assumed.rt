@@ -8,8 +8,11 @@ use ffc_cert::Literal;
 use std::alloc::{AllocError, Global};
 use std::marker::Model;
 
-/// Literals that are assumed. Clauses see the list of them, the last one first. Each literal that was assumed once has a
-/// mark, which is cleared and not made anew, so that each call costs what it reads.
+/// Literals that are assumed. Clauses see the list of them, the last one first.
+///
+/// There is a mark for each literal up to the highest that was assumed so far, which is cleared and not made anew: so an
+/// entry makes at most two marks for each node of the table in all, the most of them perhaps at its first clause, and apart
+/// from this each call costs what it reads.
 #[derive(Drop)]
 pub struct Assumed {
     marks: Vec<bool>,

@@ -7,20 +7,24 @@ ghost use Rattle.ffc_rules.specs.Entries.{limits, cases_fault};
 ghost use Rattle.ffc_rules.specs.Cones.{span};
 ghost use Rattle.ffc_rules.specs.Laws.{IsValid};
 ghost use Rattle.ffc_check.specs.Answers.{Answers};
+ghost use Rattle.ffc_check.specs.Assigning.{HaveSameNumbers};
 ghost use Rattle.ffc_check.specs.Judged.{node_check};
 
-use crate::assigning::{blank, give_digits, is_model};
+use crate::assigning::{blank, distinct, give_digits, is_model};
 use crate::stop::{CheckStop, breaks};
+use ffc_cktree::rules;
 use ffc_term::{Assignment, Check, NodeId, Value};
 use std::alloc::{AllocError, Global};
 
 /// The most work of a check that is gone through: the number of its assignments times that of its nodes.
 const MOST_WORK: u128 = 16_777_216;
 
-/// Whether one of the first assignments, so many, makes all true that is in force. It takes no memory.
+/// Whether one of the first assignments, so many, makes all true that is in force. It takes no memory, and costs for each
+/// assignment one evaluation of the nodes, and the listed assertions up to the first that is false.
 fn search(
     check: &Check,
     nodes: &[NodeId],
+    asserted: &[NodeId],
     constants: &[NodeId],
     count: u64,
     values: Vec<Value>,
@@ -29,6 +33,7 @@ fn search(
     requires valid { IsValid (node_check check.now) }
     requires nodes { AreNodesOf check.now.table.now check.now.in_force.now nodes.now }
     requires closed { IsClosed check.now.table.now nodes.now }
+    requires asserted { HaveSameNumbers asserted.now check.now.in_force.now }
     requires constants { AreConstantsOf check.now.table.now check.now.in_force.now constants.now }
     requires values { length values.items ≡ constant_count check.now.table.now }
     requires long { length out.old ≡ length check.now.table.now }
@@ -38,7 +43,7 @@ fn search(
     for number in 0..count {
         give_digits(check.table, constants, number, values.as_mut_slice());
         let assignment = Assignment::new(values);
-        if is_model(check, nodes, &assignment, out) {
+        if is_model(check, nodes, asserted, &assignment, out) {
             return true;
         }
         values = assignment.into_vec();
@@ -52,12 +57,14 @@ fn has_model(alloc: Global, check: &Check, count: u64) -> Result<bool, AllocErro
     ensures { IfOk result (λ found. found ≡ has_model_below check.now.table.now check.now.in_force.now count) }
 {
     let nodes = check.table.nodes_of(check.in_force)?;
+    let asserted = distinct(alloc, check.in_force)?;
     let constants = check.table.constants_of(check.in_force)?;
     let values = blank(alloc, check.table)?;
     let mut out = vec![in alloc; Value::Bool(false); check.table.len() as usize]?;
     Ok(search(
         check,
         nodes.as_slice(),
+        asserted.as_slice(),
         constants.as_slice(),
         count,
         values,
@@ -65,17 +72,18 @@ fn has_model(alloc: Global, check: &Check, count: u64) -> Result<bool, AllocErro
     ))
 }
 
-/// Judges an entry by cases. It costs one evaluation of the check's nodes for each assignment of its constants.
+/// Judges an entry by cases. It costs one evaluation of the check's nodes for each assignment of its constants; a node that
+/// is in force more than once is looked at once.
 pub fn check_cases(alloc: Global, check: &Check, line: u64) -> Result<(), CheckStop>
     requires valid { IsValid (node_check check.now) }
     ensures { Answers result (cases_fault limits (node_check check.now) line) }
 {
     let measures = check.table.measures(check.in_force)?;
     if measures.work > MOST_WORK {
-        return Err(breaks(11, line));
+        return Err(breaks(rules::LIMIT, line));
     }
     if has_model(alloc, check, measures.span as u64)? {
-        Err(breaks(10, line))
+        Err(breaks(rules::ENUMERATION, line))
     } else {
         Ok(())
     }

@@ -17,7 +17,7 @@ use std::alloc::Global;
 
 /// Judges an entry that begins at this line of its certificate. A refutation costs about what its text has to be read, its
 /// products, the square of the lengths that are written for each step of a chain, and once the marks up to its highest
-/// literal; an entry by cases the work of the check, and for each assignment the list in force.
+/// literal; an entry by cases the work of the check, and once the list in force.
 pub fn check_entry(
     alloc: Global,
     check: &Check,

@@ -81,8 +81,8 @@ fn contradicts(
     Ok(false)
 }
 
-/// Whether a clause follows by hints. It costs the literals that it reads, and where a literal is higher than all before it,
-/// the marks up to its place.
+/// Whether a clause follows by hints. It costs the literals that it reads, and once an entry the marks up to the highest
+/// literal.
 pub fn follows(
     clauses: &ClauseList,
     assumed: &mut Assumed,

@@ -15,7 +15,7 @@ ghost use Rattle.ffc_check.specs.Judged.{node_check};
 
 use crate::stop::{CheckStop, breaks};
 use ffc_cert::{CertLine, Literal};
-use ffc_cktree::{Kept, TreeStop, lemma_tree};
+use ffc_cktree::{Kept, TreeStop, lemma_tree, rules};
 use ffc_term::{Check, Node, NodeId, NodeTable};
 use std::alloc::Global;
 
@@ -136,13 +136,13 @@ pub fn check_lemma(
 {
     let order = order.unwrap_or(check.first_order);
     if !is_order(order) {
-        return Err(breaks(12, line));
+        return Err(breaks(rules::REFERENCE, line));
     }
     if !are_equalities(check.table, order, literals) {
-        return Err(breaks(12, line));
+        return Err(breaks(rules::REFERENCE, line));
     }
     if !are_within(check.table, literals) {
-        return Err(breaks(11, line));
+        return Err(breaks(rules::LIMIT, line));
     }
     tree_lines(alloc, kept, order, literals, line, rest)
 }

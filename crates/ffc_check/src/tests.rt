@@ -14,7 +14,7 @@ use crate::{CheckStop, check_entry};
 use ffc_cert::CertReader;
 use ffc_field::FieldId;
 use ffc_term::{Check, Node, NodeId, NodeList, NodeTable, Sort, TermStop};
-use std::alloc::Global;
+use std::alloc::{AllocError, Global};
 use std::process::Abort;
 use std::test::Fail;
 
@@ -215,7 +215,7 @@ fn square_table(rt: &impl Abort, alloc: Global, order: u64, n: u64) -> Result<No
 }
 
 /// Entries for checks over a table of squares, by the order, n and the nodes in force: 3 is x*x = n, and 5 is x = 0.
-const SQUARES: [(u64, u64, &[NodeId], &str, (u64, u8)); 14] = [
+const SQUARES: [(u64, u64, &[NodeId], &str, (u64, u8)); 21] = [
     (17, 16, &[3], "ffcert 1\nsat 1\n= 0 4\n", (0, 0)),
     (17, 16, &[3], "ffcert 1\nsat 1\n= 0 13\n", (0, 0)),
     (17, 16, &[3], "ffcert 1\nsat 1\n= 0 15\n", (2, 1)),
@@ -223,6 +223,9 @@ const SQUARES: [(u64, u64, &[NodeId], &str, (u64, u8)); 14] = [
     (17, 16, &[3], "ffcert 1\nsat 0\n", (2, 1)),
     (17, 16, &[3], "ffcert 1\nunsat e\n", (2, 10)),
     (17, 16, &[3, 5], "ffcert 1\nunsat e\n", (0, 0)),
+    // A node may be in force more than once.
+    (17, 16, &[5, 3, 3, 5, 3], "ffcert 1\nunsat e\n", (0, 0)),
+    (17, 16, &[3, 3], "ffcert 1\nunsat e\n", (2, 10)),
     (3, 2, &[3], "ffcert 1\nunsat e\n", (0, 0)),
     (3, 1, &[3], "ffcert 1\nunsat e\n", (2, 10)),
     // The roots of x*x + 1 are 4 and 13 modulo 17, and 12 is none.
@@ -239,6 +242,43 @@ const SQUARES: [(u64, u64, &[NodeId], &str, (u64, u8)); 14] = [
         &[3, 5],
         "ffcert 2\nunsat 4\na 0\na 1\nf 17 2 -3 -5\ns 0 0 2 4 12\nc 2 1 1 1 0 2 1 16 0\nz\nc 2 1 1 1 0 2 1 16 0\nz\nr 0 3 0 1 2\n",
         (6, 7),
+    ),
+    // 3 is no square modulo 5, by the chain of x^5; with a false step; with zeros at the ends of lists; with a quotient that
+    // is too long.
+    (
+        5,
+        3,
+        &[3],
+        "ffcert 1\nunsat 3\na 0\nf 1 -3\np 0 0 3\nu 1 1 1 3\nu 0 1 4\nu 0 2 0 4\nc 2 0 1 1 0 1 1 3 1 0 1\nz\nr 0 2 0 1\n",
+        (0, 0),
+    ),
+    (
+        5,
+        3,
+        &[3],
+        "ffcert 1\nunsat 3\na 0\nf 1 -3\np 0 0 3\nu 1 1 1 3\nu 0 1 4\nu 0 2 0 3\nc 2 0 1 1 0 1 1 3 1 0 1\nz\nr 0 2 0 1\n",
+        (8, 6),
+    ),
+    (
+        5,
+        3,
+        &[3],
+        "ffcert 1\nunsat 3\na 0\nf 1 -3\np 0 0 3\nu 3 1 0 0 4 3 0 0 0\nu 2 0 0 3 4 0 0\nu 0 2 0 4\nc 2 0 1 1 0 1 1 3 1 0 1\nz\nr 0 2 0 1\n",
+        (0, 0),
+    ),
+    (
+        5,
+        3,
+        &[3],
+        "ffcert 1\nunsat 3\na 0\nf 1 -3\np 0 0 3\nu 2 1 1 1 3\nu 0 1 4\nu 0 2 0 4\nc 2 0 1 1 0 1 1 3 1 0 1\nz\nr 0 2 0 1\n",
+        (6, 6),
+    ),
+    (
+        5,
+        3,
+        &[3],
+        "ffcert 1\nunsat 3\na 0\nf 1 -3\np 0 0 3\nu 1 1 1 3\nu 0 1 4\nu 0 1 5\nc 2 0 1 1 0 1 1 3 1 0 1\nz\nr 0 2 0 1\n",
+        (8, 6),
     ),
     // Modulo 3 it has none: each value tried, one left out, and by the chain of x^3.
     (
@@ -278,5 +318,41 @@ fn squares(rt: HostRuntime) -> Result<(), Fail> {
         assert!(rt; is_valid(&check));
         assert_eq!(rt; judged(alloc, &check, text)?, answer, "{order} {n} {text}");
     }
+    Ok(())
+}
+
+/// x, 0, x = 0, 1 and x = 1 modulo 5, in this order.
+fn two_values(rt: &impl Abort, alloc: Global) -> Result<NodeTable, TermStop> {
+    assert!(rt; is_order(5));
+    let mut table = NodeTable::new(alloc)?;
+    let x = table.intern(Node::FieldConst(0, 5))?;
+    equality(rt, &mut table, 5, x, 0)?;
+    equality(rt, &mut table, 5, x, 1)?;
+    Ok(table)
+}
+
+/// A refutation of x = 0 and x = 1 with so many cases, each within the one before it.
+fn deep_cases(alloc: Global, count: u32) -> Result<String, AllocError> {
+    let mut text = String::from_str(alloc, "ffcert 1\nunsat 4\na 0\na 1\nf 2 -2 -4\n")?;
+    for _ in 0..count {
+        text.push_str("s 0 0 1 0\n")?;
+    }
+    text.push_str("c 2 0 1 1 0 1 1 4 0\nz\nr 0 3 0 1 2\n")?;
+    Ok(text)
+}
+
+#[test]
+fn cases_in_cases(rt: HostRuntime) -> Result<(), Fail> {
+    let alloc = rt.alloc();
+    let table = two_values(&rt, alloc)?;
+    let check = Check {
+        table: &table,
+        declared: &[0],
+        in_force: &[2, 4],
+        first_order: 5,
+    };
+    assert!(rt; is_valid(&check));
+    let text = deep_cases(alloc, 100_000)?;
+    assert_eq!(rt; judged(alloc, &check, text.as_str())?, (0, 0));
     Ok(())
 }

@@ -9,6 +9,7 @@ ghost use Rattle.ffc_check.specs.Judged.{node_check};
 
 use crate::assigning::{blank, give_listed, is_model};
 use crate::stop::{CheckStop, breaks};
+use ffc_cktree::rules;
 use ffc_term::{Assignment, Check, NodeId, NodeTable, Value};
 use std::alloc::{AllocError, Global};
 
@@ -42,7 +43,14 @@ fn makes_true(alloc: Global, check: &Check, pairs: &[(u32, u64)]) -> Result<bool
     give_listed(check.table, pairs, values.as_mut_slice());
     let mut out = vec![in alloc; Value::Bool(false); check.table.len() as usize]?;
     let assignment = Assignment::new(values);
-    Ok(is_model(check, nodes.as_slice(), &assignment, out.as_mut_slice()))
+    let asserted = check.in_force;
+    Ok(is_model(
+        check,
+        nodes.as_slice(),
+        asserted,
+        &assignment,
+        out.as_mut_slice(),
+    ))
 }
 
 /// Judges listed values: each constant has one of its own, and with them all is true that is in force.
@@ -57,15 +65,15 @@ pub fn check_values(
     ensures { Answers result (sat_fault (node_check check.now) pairs.now line) }
 {
     if pairs.len() != check.declared.len() {
-        return Err(breaks(1, line));
+        return Err(breaks(rules::VALUES, line));
     }
     match first_misfit(check.table, check.declared, pairs) {
-        Some(i) => Err(breaks(1, line + 1 + i as u64)),
+        Some(i) => Err(breaks(rules::VALUES, line + 1 + i as u64)),
         None => {
             if makes_true(alloc, check, pairs)? {
                 Ok(())
             } else {
-                Err(breaks(1, line))
+                Err(breaks(rules::VALUES, line))
             }
         }
     }

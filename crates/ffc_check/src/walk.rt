@@ -17,7 +17,7 @@ use crate::lemmas::check_lemma;
 use crate::schemes::scheme_clause;
 use crate::stop::{CheckStop, breaks};
 use ffc_cert::{CertLine, Literal, Sequence};
-use ffc_cktree::Kept;
+use ffc_cktree::{Kept, rules};
 use ffc_term::{Check, NodeId, NodeTable, Sort};
 use std::alloc::Global;
 
@@ -71,7 +71,7 @@ fn take_assumed(
     ensures { Gives result (clause_given limits (node_check check.now) clauses.old line (lines.Assume k) rest.now) (IsGiven clauses.old clauses.new rest.now) }
 {
     if k as usize >= check.in_force.len() {
-        return Err(breaks(2, line));
+        return Err(breaks(rules::ASSUME, line));
     }
     clauses.push(&[(true, check.in_force[k as usize])])?;
     Ok(0)
@@ -90,10 +90,10 @@ fn take_scheme(
 {
     let (node, scheme, index) = at;
     if node >= check.table.len() {
-        return Err(breaks(12, line));
+        return Err(breaks(rules::REFERENCE, line));
     }
     match scheme_clause(alloc, check.table, node, scheme, index)? {
-        None => Err(breaks(3, line)),
+        None => Err(breaks(rules::NODE_RULE, line)),
         Some(clause) => {
             clauses.push(clause.as_slice())?;
             Ok(0)
@@ -118,13 +118,13 @@ fn take_hinted(
     let lits = literals.as_slice();
     let numbers = hints.as_slice();
     if !are_boolean(check.table, lits) {
-        return Err(breaks(12, line));
+        return Err(breaks(rules::REFERENCE, line));
     }
     if !are_earlier(numbers, state.clauses.len()) {
-        return Err(breaks(12, line));
+        return Err(breaks(rules::REFERENCE, line));
     }
     if !follows(&state.clauses, &mut state.assumed, lits, numbers)? {
-        return Err(breaks(4, line));
+        return Err(breaks(rules::HINTS, line));
     }
     state.clauses.push(lits)?;
     Ok(0)
@@ -163,7 +163,7 @@ fn take_clause(
             state.clauses.push(literals)?;
             Ok(used)
         }
-        _ => Err(breaks(12, line)),
+        _ => Err(breaks(rules::REFERENCE, line)),
     }
 }
 
@@ -195,6 +195,6 @@ pub fn check_lines(
     if state.clauses.ends_empty() {
         Ok(())
     } else {
-        Err(breaks(9, line + i as u64 - 1))
+        Err(breaks(rules::NOT_EMPTY, line + i as u64 - 1))
     }
 }

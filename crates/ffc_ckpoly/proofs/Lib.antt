@@ -10,3 +10,4 @@ pub mod Values
 pub mod UnivariateLemmas
 pub mod DegreeLemmas
 pub mod PartLemmas
+pub mod OpeningLemmas

@@ -4,6 +4,7 @@
 mod buffer;
 mod merge;
 mod nodes;
+mod opening;
 mod poly;
 mod powers;
 mod products;
@@ -11,6 +12,7 @@ mod reading;
 #[cfg(test)]
 mod tests;
 mod univariate;
+mod uses;
 
 pub use nodes::{CkStop, NodePolys, ck_poly_of};
 pub use poly::CkPoly;

@@ -7,12 +7,13 @@ ghost use Rattle.ffc_term.specs.Measuring.{degree_at, length_at};
 ghost use Rattle.ffc_trees.specs.Normal.{IsNormal, degree_of};
 ghost use Rattle.ffc_trees.specs.NodePolynomials.{product_of, node_polys, poly_at};
 ghost use Rattle.ffc_trees.specs.Same.{IsSameLine};
-ghost use Rattle.ffc_ckpoly.specs.Parts.{parts_of, weighted, IsWithin, AreKnown};
+ghost use Rattle.ffc_ckpoly.specs.Parts.{IsWithin, AreKnown};
 
 use crate::buffer::Buffer;
+use crate::opening::opened_sum;
 use crate::poly::CkPoly;
 use crate::powers::Power;
-use crate::products::CkSum;
+use crate::uses::Uses;
 use ffc_field::Field;
 use ffc_term::{Node, NodeId, NodeTable};
 use std::alloc::{AllocError, Global};
@@ -25,6 +26,9 @@ const MOST_DEGREE: u64 = 255;
 /// The greatest number of terms of such a node.
 const MOST_TERMS: u64 = 65_536;
 
+/// How many terms of polynomials are kept from one difference to the next.
+const MOST_KEPT: usize = 4_194_304;
+
 /// The polynomial of one term.
 fn term<F: Field>(alloc: Global, c: F, m: &[Power]) -> Result<CkPoly<F>, AllocError>
     requires m_is { IsMonomial m.now }
@@ -35,33 +39,6 @@ fn term<F: Field>(alloc: Global, c: F, m: &[Power]) -> Result<CkPoly<F>, AllocEr
     let mut buffer = Buffer::new(alloc);
     buffer.push(c, m)?;
     CkPoly::sum_in(alloc, &buffer)
-}
-
-/// The sum of the parts' polynomials, the first times the weight and each further one times the ratio of weights more.
-/// `None` where a part's polynomial is not known yet.
-fn weighted_sum<F: Field>(
-    alloc: Global,
-    table: &NodeTable,
-    known: &BTreeMap<NodeId, CkPoly<F>>,
-    ids: &[NodeId],
-    first: F,
-    ratio: F,
-) -> Result<Option<CkPoly<F>>, AllocError>
-    requires { AreKnown F.ORDER table.now known.now }
-    ensures same { IfOk result (λ o. IfSome o (λ r. SamePolynomial F.ORDER r (weighted (F.value first) (F.value ratio) (node_polys table.now) ids.now))) }
-    ensures normal { IfOk result (λ o. IfSome o (λ r. IsNormal F.ORDER r)) }
-{
-    let mut sum = CkSum::new(alloc);
-    let mut weight = first;
-    for id in ids {
-        let Some(part) = known.get(id) else {
-            return Ok(None);
-        };
-        let _degree = part.degree();
-        sum = sum.with_product(weight.residue(), &[], part)?;
-        weight = weight.mul(ratio);
-    }
-    Ok(Some(sum.total()?))
 }
 
 /// The product of the parts' polynomials, by halves. `None` where one is not known yet.
@@ -98,11 +75,13 @@ fn product<F: Field>(
     }
 }
 
-/// The polynomial of a node, or `None` where that of a part is not known yet.
+/// The polynomial of a node, or `None` where that of a part is not known that is not made in place. The known nodes that it is
+/// made of are listed as used.
 fn polynomial_of<F: Field>(
     alloc: Global,
     table: &NodeTable,
     known: &BTreeMap<NodeId, CkPoly<F>>,
+    used: &mut Vec<NodeId>,
     id: NodeId,
 ) -> Result<Option<CkPoly<F>>, AllocError>
     requires within { IsWithin table.now F.ORDER id }
@@ -110,66 +89,174 @@ fn polynomial_of<F: Field>(
     ensures { IfOk result (λ o. IfSome o (λ r. IsSameLine F.ORDER r (poly_at table.now id))) }
 {
     match table.node(id) {
-        Node::FieldConst(..) => Ok(Some(term(alloc, F::of(1), &[(id, 1)])?)),
-        Node::IteField(..) => Ok(Some(term(alloc, F::of(1), &[(id, 1)])?)),
-        Node::Num(n, _) => Ok(Some(term(alloc, F::of(u128::from(*n)), &[])?)),
-        Node::Add(ids) => { weighted_sum(alloc, table, known, ids.as_slice(), F::of(1), F::of(1)) }
-        Node::Bitsum(ids) => {
-            weighted_sum(alloc, table, known, ids.as_slice(), F::of(1), F::of(2))
+        Node::Mul(ids) => {
+            used.extend_from_slice(ids.as_slice())?;
+            product(alloc, table, known, ids.as_slice())
         }
-        Node::Neg(a) => weighted_sum(alloc, table, known, &[*a], F::of(1).neg(), F::of(1)),
-        Node::Mul(ids) => product(alloc, table, known, ids.as_slice()),
-        _ => Ok(Some(CkPoly::zero(alloc))),
+        _ => opened_sum(alloc, table, known, used, id),
     }
 }
 
-/// Appends the parts of a node.
-fn push_parts(stack: &mut Vec<NodeId>, node: &Node) -> Result<(), AllocError>
-    ensures { OnOk result (stack.new.items ≡ stack.old.items ++ parts_of node.now) }
-{
-    match node {
-        Node::Add(ids) | Node::Mul(ids) | Node::Bitsum(ids) => {
-            stack.extend_from_slice(ids.as_slice())
-        }
-        Node::Neg(a) => {
-            stack.push(*a)?;
-            Ok(())
-        }
-        _ => Ok(()),
-    }
-}
-
-/// Keeps the polynomial of a node, or lets the node wait under its parts.
-fn visit<F: Field>(
-    alloc: Global,
+/// Counts a use of a node that is not known, and lists it where it was not used before.
+fn push_one<F: Field>(
     table: &NodeTable,
-    known: &mut BTreeMap<NodeId, CkPoly<F>>,
-    stack: &mut Vec<NodeId>,
+    known: &BTreeMap<NodeId, CkPoly<F>>,
+    uses: &mut Uses,
+    found: &mut Vec<NodeId>,
     id: NodeId,
+    factor: bool,
 ) -> Result<(), AllocError>
     requires within { IsWithin table.now F.ORDER id }
-    requires known { AreKnown F.ORDER table.now known.old }
-    requires stack { All (IsWithin table.now F.ORDER) stack.old.items }
-    ensures known { AreKnown F.ORDER table.now known.new }
-    ensures stack { OnOk result (All (IsWithin table.now F.ORDER) stack.new.items) }
+    requires found { All (IsWithin table.now F.ORDER) found.old.items }
+    ensures { OnOk result (All (IsWithin table.now F.ORDER) found.new.items) }
 {
     if known.contains_key(&id) {
         return Ok(());
     }
-    match polynomial_of(alloc, table, known, id)? {
-        Some(found) => {
-            known.insert(id, found)?;
-        }
-        None => {
-            stack.push(id)?;
-            push_parts(stack, table.node(id))?;
-        }
+    if !uses.count(id, factor)? {
+        return Ok(());
+    }
+    found.push(id)?;
+    Ok(())
+}
+
+/// The same for each of these nodes.
+fn push_new<F: Field>(
+    table: &NodeTable,
+    known: &BTreeMap<NodeId, CkPoly<F>>,
+    uses: &mut Uses,
+    found: &mut Vec<NodeId>,
+    ids: &[NodeId],
+    factors: bool,
+) -> Result<(), AllocError>
+    requires ids { All (IsWithin table.now F.ORDER) ids.now }
+    requires found { All (IsWithin table.now F.ORDER) found.old.items }
+    ensures { OnOk result (All (IsWithin table.now F.ORDER) found.new.items) }
+{
+    for id in ids {
+        push_one(table, known, uses, found, *id, factors)?;
     }
     Ok(())
 }
 
-/// Keeps the polynomials of a node and of all nodes under it that it is made of, the parts of a node before it. Each is
-/// computed once, and each edge is looked at twice.
+/// The same for the parts of a node.
+fn push_parts<F: Field>(
+    table: &NodeTable,
+    known: &BTreeMap<NodeId, CkPoly<F>>,
+    uses: &mut Uses,
+    found: &mut Vec<NodeId>,
+    id: NodeId,
+) -> Result<(), AllocError>
+    requires within { IsWithin table.now F.ORDER id }
+    requires found { All (IsWithin table.now F.ORDER) found.old.items }
+    ensures { OnOk result (All (IsWithin table.now F.ORDER) found.new.items) }
+{
+    match table.node(id) {
+        Node::Add(ids) => push_new(table, known, uses, found, ids.as_slice(), false),
+        Node::Bitsum(ids) => push_new(table, known, uses, found, ids.as_slice(), false),
+        Node::Mul(ids) => push_new(table, known, uses, found, ids.as_slice(), true),
+        Node::Neg(a) => push_new(table, known, uses, found, &[*a], false),
+        _ => Ok(()),
+    }
+}
+
+/// A node and all nodes under it that it is made of and that are not known, in increasing order, so that parts come first.
+fn cone<F: Field>(
+    alloc: Global,
+    table: &NodeTable,
+    known: &BTreeMap<NodeId, CkPoly<F>>,
+    uses: &mut Uses,
+    id: NodeId,
+) -> Result<Vec<NodeId>, AllocError>
+    requires { IsWithin table.now F.ORDER id }
+    ensures { IfOk result (λ v. All (IsWithin table.now F.ORDER) v.items) }
+{
+    let mut found = Vec::new(alloc);
+    found.push(id)?;
+    for place in 0..table.len() as usize {
+        if place >= found.len() {
+            break;
+        }
+        let next = found[place];
+        push_parts(table, known, uses, &mut found, next)?;
+    }
+    found.sort_unstable();
+    Ok(found)
+}
+
+/// Drops the polynomial of a node that was used for the last time.
+fn forget_one<F: Field>(
+    table: &NodeTable,
+    known: &mut BTreeMap<NodeId, CkPoly<F>>,
+    uses: &mut Uses,
+    id: NodeId,
+)
+    requires { AreKnown F.ORDER table.now known.old }
+    ensures { AreKnown F.ORDER table.now known.new }
+{
+    if !uses.release(id) {
+        return;
+    }
+    let _ = known.remove(&id);
+}
+
+/// The same for each use of a node.
+fn forget<F: Field>(
+    table: &NodeTable,
+    known: &mut BTreeMap<NodeId, CkPoly<F>>,
+    uses: &mut Uses,
+    used: &[NodeId],
+)
+    requires { AreKnown F.ORDER table.now known.old }
+    ensures { AreKnown F.ORDER table.now known.new }
+{
+    for id in used {
+        forget_one(table, known, uses, *id);
+    }
+}
+
+/// Keeps a polynomial, if there is one.
+fn keep<F: Field>(
+    table: &NodeTable,
+    known: &mut BTreeMap<NodeId, CkPoly<F>>,
+    id: NodeId,
+    made: Option<CkPoly<F>>,
+) -> Result<(), AllocError>
+    requires known { AreKnown F.ORDER table.now known.old }
+    requires made { IfSome made (λ f. IsSameLine F.ORDER f (poly_at table.now id)) }
+    ensures { AreKnown F.ORDER table.now known.new }
+{
+    let _nodes = table.len();
+    if let Some(f) = made {
+        known.insert(id, f)?;
+    }
+    Ok(())
+}
+
+/// Keeps the polynomial of a node, if it is one that is made by itself.
+fn make<F: Field>(
+    alloc: Global,
+    table: &NodeTable,
+    known: &mut BTreeMap<NodeId, CkPoly<F>>,
+    uses: &mut Uses,
+    id: NodeId,
+) -> Result<(), AllocError>
+    requires within { IsWithin table.now F.ORDER id }
+    requires known { AreKnown F.ORDER table.now known.old }
+    ensures { AreKnown F.ORDER table.now known.new }
+{
+    if !uses.is_made(table.node(id), id) {
+        return Ok(());
+    }
+    let mut used = Vec::new(alloc);
+    let made = polynomial_of(alloc, table, known, &mut used, id)?;
+    keep(table, known, id, made)?;
+    forget(table, known, uses, used.as_slice());
+    Ok(())
+}
+
+/// Keeps the polynomial of a node. Each node under it is looked at once; sums under it are opened in place, and the
+/// polynomials of products, of their factors and of sums that are used more than once are dropped after their last use.
 fn learn<F: Field>(
     alloc: Global,
     table: &NodeTable,
@@ -180,18 +267,27 @@ fn learn<F: Field>(
     requires known { AreKnown F.ORDER table.now known.old }
     ensures { AreKnown F.ORDER table.now known.new }
 {
-    let mut stack = Vec::new(alloc);
-    stack.push(id)?;
-    for _ in 0..u64::MAX {
-        let Some(next) = stack.pop() else {
-            return Ok(());
-        };
-        visit(alloc, table, known, &mut stack, next)?;
+    if known.contains_key(&id) {
+        return Ok(());
+    }
+    let mut uses = Uses::new(alloc);
+    let order = cone(alloc, table, known, &mut uses, id)?;
+    for next in order.as_slice() {
+        make(alloc, table, known, &mut uses, *next)?;
     }
     Ok(())
 }
 
-/// The difference of two polynomials that are known.
+/// How many terms the polynomial of a node has, if it is known.
+fn terms_of<F: Field>(known: &BTreeMap<NodeId, CkPoly<F>>, id: NodeId) -> usize {
+    match known.get(&id) {
+        Some(f) => f.terms(),
+        None => 0,
+    }
+}
+
+/// The difference of two polynomials that are known. That one of them is not never comes up, since both were just made; no
+/// clause says so, and the answer would be that of out of memory.
 fn known_difference<F: Field>(
     table: &NodeTable,
     known: &BTreeMap<NodeId, CkPoly<F>>,
@@ -215,15 +311,25 @@ fn known_difference<F: Field>(
     left.sub(right)
 }
 
-/// The polynomials of a table's nodes over one field that were computed so far. Clauses see the nodes of the table.
+/// The polynomials of nodes that differences were asked of, over one field. Clauses see the nodes of the table.
+///
+/// The sides of differences are kept, until they have 4,194,304 terms together: then they are dropped, before the next
+/// difference. While a side is made, the polynomials of products, of their factors and of sums that are used more than once
+/// are kept until their last use, at most 65,536 terms each; of other sums none is made.
 pub struct NodePolys<'a, F: Field> {
     table: &'a NodeTable,
     known: BTreeMap<NodeId, CkPoly<F>>,
+    /// How many terms the sides have that were made since they were last dropped.
+    kept: usize,
 }
 
 impl<'a, F: Field> Drop for NodePolys<'a, F> {
     fn drop(self) {
-        let NodePolys { table: _, known: _ } = self;
+        let NodePolys {
+            table: _,
+            known: _,
+            kept: _,
+        } = self;
     }
 }
 
@@ -247,6 +353,7 @@ impl<'a, F: Field> NodePolys<'a, F> {
         NodePolys {
             table,
             known: BTreeMap::new(alloc),
+            kept: 0,
         }
     }
 
@@ -257,7 +364,30 @@ impl<'a, F: Field> NodePolys<'a, F> {
         self.table
     }
 
-    /// The difference of the polynomials of two nodes. Each node's polynomial is computed once, and kept.
+    /// Drops what is kept, where it is too much.
+    fn make_room(&mut self, alloc: Global)
+        ensures { self.new ≡ self.old }
+    {
+        if self.kept > MOST_KEPT {
+            self.known = BTreeMap::new(alloc);
+            self.kept = 0;
+        }
+    }
+
+    /// Keeps the polynomial of a node.
+    fn learn_side(&mut self, alloc: Global, side: NodeId) -> Result<(), AllocError>
+        requires { IsWithin self.old F.ORDER side }
+        ensures { self.new ≡ self.old }
+    {
+        if self.known.contains_key(&side) {
+            return Ok(());
+        }
+        learn(alloc, self.table, &mut self.known, side)?;
+        self.kept = self.kept.saturating_add(terms_of(&self.known, side));
+        Ok(())
+    }
+
+    /// The difference of the polynomials of two nodes, which are kept for later ones.
     pub fn difference(
         &mut self,
         alloc: Global,
@@ -271,8 +401,9 @@ impl<'a, F: Field> NodePolys<'a, F> {
         ensures normal { IfOk result (λ r. IsNormal F.ORDER r) }
         ensures low { IfOk result (λ r. degree_of r ≤ 255) }
     {
-        learn(alloc, self.table, &mut self.known, s)?;
-        learn(alloc, self.table, &mut self.known, t)?;
+        self.make_room(alloc);
+        self.learn_side(alloc, s)?;
+        self.learn_side(alloc, t)?;
         known_difference(self.table, &self.known, s, t)
     }
 }

@@ -76,6 +76,16 @@ impl<F: Field> CkPoly<F> {
         Ok(CkPoly { buffer })
     }
 
+    /// Its terms.
+    pub(crate) fn into_buffer(self) -> Buffer<F>
+        ensures terms { cut F.value 0 result.marks.items result.powers.items ≡ self }
+        ensures parts { Parts 0 result.marks.items result.powers.items }
+        ensures monomials { HaveMonomials (cut F.value 0 result.marks.items result.powers.items) }
+    {
+        let CkPoly { buffer } = self;
+        buffer
+    }
+
     /// The same polynomial once more.
     pub(crate) fn copied(&self, alloc: Global) -> Result<Self, AllocError>
         ensures same { IfOk result (λ r. r ≡ self.now) }

@@ -1,25 +1,34 @@
 //! Sums of multiples.
-ghost use Rattle.std.specs.Prelude.{◌≡◌, ◌+◌, ◌^◌, ◌<◌, ◌++◌, [], IfOk};
+ghost use Rattle.std.specs.Prelude.{◌≡◌, ◌+◌, ◌^◌, ◌<◌, ◌++◌, ◌∷◌, [], IfOk};
 ghost use Rattle.ffc_ring.specs.Monomial.{IsMonomial, degree};
 ghost use Rattle.ffc_ring.specs.Polynomial.{SamePolynomial, term_product};
 ghost use Rattle.ffc_trees.specs.Normal.{IsNormal, degree_of};
 
 use crate::buffer::Buffer;
 use crate::poly::CkPoly;
-use crate::powers::append_written;
+use crate::powers::{Power, append_written};
 use ffc_field::Field;
 use std::alloc::{AllocError, Global};
 use std::marker::Model;
 
-/// The products of a sum, before like terms are merged. A clause sees the list of their terms.
+/// How many products wait at least before like terms are merged.
+const FEW_PRODUCTS: usize = 65_536;
+
+/// The products of a sum. Like terms are merged at its end, and before each product where more than twice as many terms are
+/// there as after the last merge, so that memory is bounded by the terms of the sum so far. A clause sees the list of terms.
 #[derive(Debug)]
 pub struct CkSum<F: Field> {
     buffer: Buffer<F>,
+    /// How many terms wait at most for a merge.
+    limit: usize,
 }
 
 impl<F: Field> Drop for CkSum<F> {
     fn drop(self) {
-        let CkSum { buffer: _ } = self;
+        let CkSum {
+            buffer: _,
+            limit: _,
+        } = self;
     }
 }
 
@@ -41,7 +50,34 @@ impl<F: Field> CkSum<F> {
     {
         CkSum {
             buffer: Buffer::new(alloc),
+            limit: FEW_PRODUCTS,
         }
+    }
+
+    /// The same sum, with like terms merged where there are many terms.
+    fn merged(self) -> Result<Self, AllocError>
+        ensures { IfOk result (λ r. SamePolynomial F.ORDER r self) }
+    {
+        let CkSum { buffer, limit } = self;
+        if buffer.marks.len() <= limit {
+            return Ok(CkSum { buffer, limit });
+        }
+        let alloc = *buffer.marks.allocator();
+        let sum = CkPoly::sum_in(alloc, &buffer)?;
+        let limit = sum.terms().saturating_mul(2).max(FEW_PRODUCTS);
+        let buffer = sum.into_buffer();
+        Ok(CkSum { buffer, limit })
+    }
+
+    /// Adds one term.
+    pub(crate) fn with_term(self, c: F, m: &[Power]) -> Result<Self, AllocError>
+        requires m_is { IsMonomial m.now }
+        requires fits { degree m.now < 2 ^ 64 }
+        ensures { IfOk result (λ r. r ≡ self ++ (F.value c, m.now) ∷ []) }
+    {
+        let CkSum { mut buffer, limit } = self;
+        buffer.push(c, m)?;
+        Ok(CkSum { buffer, limit })
     }
 
     /// Adds the product of a written term and a polynomial. It costs the terms of the polynomial.
@@ -50,13 +86,23 @@ impl<F: Field> CkSum<F> {
         requires fits { degree m.now + degree_of f.now < 2 ^ 64 }
         ensures { IfOk result (λ r. SamePolynomial F.ORDER r (self ++ term_product c m.now f.now)) }
     {
-        let CkSum { mut buffer } = self;
+        let sum = self.merged()?;
+        sum.with_more(c, m, f)
+    }
+
+    /// The same, without a merge before it.
+    fn with_more(self, c: u64, m: &[(u32, u32)], f: &CkPoly<F>) -> Result<Self, AllocError>
+        requires m_is { IsMonomial m.now }
+        requires fits { degree m.now + degree_of f.now < 2 ^ 64 }
+        ensures { IfOk result (λ r. SamePolynomial F.ORDER r (self ++ term_product c m.now f.now)) }
+    {
+        let CkSum { mut buffer, limit } = self;
         let alloc = *buffer.marks.allocator();
         let mut powers = Vec::new(alloc);
         append_written(&mut powers, m)?;
         let terms = f.borrowed()?;
         buffer.push_row(F::of(u128::from(c)), powers.as_slice(), terms.as_slice())?;
-        Ok(CkSum { buffer })
+        Ok(CkSum { buffer, limit })
     }
 
     /// The sum of the products, merged by halves.
@@ -64,7 +110,7 @@ impl<F: Field> CkSum<F> {
         ensures sum { IfOk result (λ r. SamePolynomial F.ORDER r self) }
         ensures normal { IfOk result (λ r. IsNormal F.ORDER r) }
     {
-        let CkSum { buffer } = self;
+        let CkSum { buffer, limit: _ } = self;
         let alloc = *buffer.marks.allocator();
         CkPoly::sum_in(alloc, &buffer)
     }

@@ -13,6 +13,13 @@ fn line(alloc: Global, c: u64) -> Result<CkPoly<F5>, AllocError> {
     CkPoly::from_terms(alloc, terms.as_slice())
 }
 
+/// The polynomial 1.
+fn one(alloc: Global) -> Result<CkPoly<F5>, AllocError> {
+    let mut terms = Vec::new(alloc);
+    terms.push((F5::of(1), Vec::new(alloc)))?;
+    CkPoly::from_terms(alloc, terms.as_slice())
+}
+
 /// The number of terms, the degree and the value at 3.
 fn measures(f: &CkPoly<F5>) -> (usize, u64, u64) {
     (f.terms(), f.degree(), f.value(&[F5::of(3)]).residue())
@@ -38,6 +45,7 @@ fn sums_and_products(rt: HostRuntime) -> Result<(), Fail> {
     assert!(rt; measures(&a.sub(&b)?) == (1, 0, 2));
     assert!(rt; measures(&a.sub(&a)?) == (0, 0, 0));
     assert!(rt; measures(&product(rt.alloc(), &a, &b)?) == (2, 2, 3));
+    assert!(rt; measures(&product(rt.alloc(), &a, &b)?.add(&one(rt.alloc())?)?) == (1, 2, 4));
     assert!(rt; measures(&CkPoly::zero(rt.alloc())) == (0, 0, 0));
     Ok(())
 }

@@ -7,14 +7,16 @@ use Rattle.ffc_ring.specs.Polynomial.{Terms, SamePolynomial, scaled, difference}
 use Rattle.ffc_ring.proofs.PolynomialLemmas.{same_sums, same_term_products}
 use Rattle.ffc_uni.specs.Univariate.{Coefficients, indeterminate, plus, times, SameUnivariate, terms_in}
 use Rattle.ffc_uni.specs.Chains.{binary, behind_first, digits_of, pairs_over, pair_count}
-use Rattle.ffc_trees.specs.TreeLines.{limits, Factor, factors_over, times_factor, line_at, is_in, coefficients_of, are_below, is_same, chain_line, step_line, fermat_line}
+use Rattle.ffc_trees.specs.TreeLines.{limits, Factor, Itself, Variable, factors_over, times_factor, line_at, is_in, coefficients_of, are_below, is_same, chain_line, step_line, fermat_line}
 use Rattle.ffc_trees.specs.Normal.{IsNormal}
 use Rattle.ffc_trees.specs.Same.{IsSameLine}
 use Rattle.ffc_trees.proofs.NormalLemmas.{normal_same, normal_is_normal}
 use Rattle.ffc_uni.proofs.RingLemmas.{same_in_ring}
 use Rattle.ffc_cktree.proofs.RowLemmas.{is_same-alike}
 use Rattle.ffc_cktree.specs.declared.chain.Factor.{Factor as Written}
+use Rattle.ffc_uni.proofs.Coefficients.{plus_alike, products_alike}
 use Rattle.ffc_cktree.specs.Factors.{factor_of, factors_of}
+use Rattle.ffc_cktree.specs.Identities.{is_identity}
 
 -- ---- factors
 
@@ -108,11 +110,20 @@ digit_after d ds old new all e h =
 
 -- ---- the identity of a step, by other lists for the same polynomials
 
-pub identity_tested : (p : ℕ) (f r quotient remainder left right q rest : Coefficients) (factor : Factor) → SameUnivariate p left (times_factor factor r) → SameUnivariate p right (plus (times q f) rest) → q ≡ quotient → rest ≡ remainder
-    → is_same p left right ≡ is_same p (times_factor factor r) (plus (times quotient f) remainder)
-identity_tested p f r quotient remainder left right q rest factor x y e g =
-    is_same-alike p left right (times_factor factor r) (plus (times q f) rest) x y
-    ∙ ap₂ (λ a b. is_same p (times_factor factor r) (plus (times a f) b)) e g
+factor_alike : (p : ℕ) (factor : Factor) (a b : Coefficients) → SameUnivariate p a b → SameUnivariate p (times_factor factor a) (times_factor factor b)
+factor_alike p Itself a b same = products_alike p a b a b same same
+factor_alike p Variable a b same = products_alike p indeterminate indeterminate a b (λ k. refl) same
+
+pub identity_alike : (p : ℕ) (f r quotient rest f' r' quotient' rest' : Coefficients) (factor : Factor) → SameUnivariate p f' f → SameUnivariate p r' r → SameUnivariate p quotient' quotient → SameUnivariate p rest' rest
+    → is_identity p f' factor r' quotient' rest' ≡ is_identity p f factor r quotient rest
+identity_alike p f r quotient rest f' r' quotient' rest' factor same_f same_r same_quotient same_rest =
+    is_same-alike p (times_factor factor r') (plus (times quotient' f') rest') (times_factor factor r) (plus (times quotient f) rest)
+    (factor_alike p factor r' r same_r)
+    (plus_alike p (times quotient' f') (times quotient f) rest' rest (products_alike p quotient' quotient f' f same_quotient same_f) same_rest)
+
+pub identity_tested : (p : ℕ) (f r quotient rest left right : Coefficients) (factor : Factor) → SameUnivariate p left (times_factor factor r) → SameUnivariate p right (plus (times quotient f) rest)
+    → is_same p left right ≡ is_identity p f factor r quotient rest
+identity_tested p f r quotient rest left right factor x y = is_same-alike p left right (times_factor factor r) (plus (times quotient f) rest) x y
 
 -- ---- the line of a chain
 

@@ -1,5 +1,6 @@
 pub mod SumLemmas
 pub mod RowLemmas
+pub mod LengthLemmas
 pub mod ChainLemmas
 pub mod CaseLemmas
 pub mod WalkLemmas

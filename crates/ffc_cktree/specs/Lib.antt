@@ -1,4 +1,5 @@
 pub mod Lines
 pub mod Factors
+pub mod Identities
 pub mod Waiting
 pub mod Walking

@@ -9,6 +9,7 @@ ghost use Rattle.ffc_cktree.specs.Lines.{AreLines};
 ghost use Rattle.ffc_cktree.specs.Waiting.{cases_at};
 
 use crate::rows::{are_below, are_same, elements, pair, root_product};
+use crate::rules;
 use crate::stop::LineStop;
 use ffc_ckpoly::CkPoly;
 use ffc_field::Field;
@@ -50,21 +51,21 @@ pub fn split<F: Field>(
     ensures broken { (rule : ℕ) → result ≡ Err (LineStop.Rule rule) → split_line F.ORDER lines.now k x roots.now ≡ Err rule }
 {
     let Some(line) = lines.get(k as usize) else {
-        return Err(LineStop::Rule(12));
+        return Err(LineStop::Rule(rules::REFERENCE));
     };
     if roots.is_empty() || !are_below(F::ORDER, roots) {
-        return Err(LineStop::Rule(7));
+        return Err(LineStop::Rule(rules::SPLIT));
     }
     let Some(coefs) = line.coefficients(alloc, x)? else {
-        return Err(LineStop::Rule(7));
+        return Err(LineStop::Rule(rules::SPLIT));
     };
     if roots.len() >= coefs.len() {
-        return Err(LineStop::Rule(7));
+        return Err(LineStop::Rule(rules::SPLIT));
     }
     let elements = elements::<F>(alloc, roots)?;
     let product = root_product(alloc, elements.as_slice())?;
     if !are_same(coefs.as_slice(), product.as_slice()) {
-        return Err(LineStop::Rule(7));
+        return Err(LineStop::Rule(rules::SPLIT));
     }
     Ok(())
 }
@@ -76,7 +77,7 @@ pub fn values<F: Field>(alloc: Global, count: u32) -> Result<Vec<u64>, LineStop>
     ensures broken { (rule : ℕ) → result ≡ Err (LineStop.Rule rule) → (lines : List Terms) (x : ℕ) → values_line F.ORDER lines x count ≡ Err rule }
 {
     if F::ORDER > MOST_VALUES || u64::from(count) != F::ORDER {
-        return Err(LineStop::Rule(7));
+        return Err(LineStop::Rule(rules::SPLIT));
     }
     let mut all = Vec::new(alloc);
     for value in 0..F::ORDER {

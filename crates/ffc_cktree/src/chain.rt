@@ -1,14 +1,18 @@
 //! Chains: x^p modulo a line in x alone, by repeated squaring, as its steps are written.
-ghost use Rattle.std.specs.Prelude.{◌≡◌, ℕ, ◌≤◌, length, map, ◌++◌, ◌∷◌, [], IfOk, OnOk};
+ghost use Rattle.std.specs.Prelude.{◌≡◌, ℕ, ◌+◌, ◌^◌, ◌<◌, ◌≤◌, length, map, ◌++◌, ◌∷◌, [], IfOk, OnOk};
 ghost use Rattle.ffc_uni.specs.Chains.{digits_of};
-ghost use Rattle.ffc_uni.specs.Univariate.{SameUnivariate};
+ghost use Rattle.ffc_uni.specs.Univariate.{SameUnivariate, IsNormal};
 ghost use Rattle.ffc_trees.specs.Normal.{degree_of};
 ghost use Rattle.ffc_trees.specs.Same.{IsSameLine};
 ghost use Rattle.ffc_trees.specs.TreeLines.{limits, chain_line, step_line, times_factor, fermat_line, factors_over};
 ghost use Rattle.ffc_cktree.specs.Lines.{AreLines};
 ghost use Rattle.ffc_cktree.specs.Factors.{factor_of, factors_of};
+ghost use Rattle.ffc_cktree.specs.Identities.{product_length, multiplied_length, is_one_longer, is_identity};
 
-use crate::rows::{are_below, are_same, elements, pair, product_and_rest, product_of};
+use crate::rows::{
+    are_below, are_same, elements, pair, product_and_rest, product_of, without_zeros,
+};
+use crate::rules;
 use crate::stop::LineStop;
 use ffc_ckpoly::CkPoly;
 use ffc_field::Field;
@@ -80,14 +84,14 @@ pub fn begin<F: Field>(
     ensures broken { (rule : ℕ) → result ≡ Err (LineStop.Rule rule) → chain_line F.ORDER lines.now k x steps ≡ Err rule }
 {
     let Some(line) = lines.get(k as usize) else {
-        return Err(LineStop::Rule(12));
+        return Err(LineStop::Rule(rules::REFERENCE));
     };
     let Some(modulus) = line.coefficients(alloc, x)? else {
-        return Err(LineStop::Rule(6));
+        return Err(LineStop::Rule(rules::CHAIN));
     };
     let factors = factors(alloc, F::ORDER)?;
     if factors.len() as u64 != u64::from(steps) {
-        return Err(LineStop::Rule(6));
+        return Err(LineStop::Rule(rules::CHAIN));
     }
     Ok((modulus, factors))
 }
@@ -106,9 +110,86 @@ fn multiplied<F: Field>(alloc: Global, factor: Factor, power: &[F]) -> Result<Ve
     }
 }
 
+/// How many coefficients the product of two rows has, where neither ends with a zero.
+fn product_length(a: usize, b: usize) -> usize
+    requires { a + b < 2 ^ 64 }
+    ensures { result ≡ product_length a b }
+{
+    if a == 0 || b == 0 { 0 } else { a + b - 1 }
+}
+
+/// Whether one of three lengths is greater than both others.
+fn is_one_longer(a: usize, b: usize, c: usize) -> bool
+    ensures { result ≡ is_one_longer a b c }
+{
+    (a > b && a > c) || (b > a && b > c) || (c > a && c > b)
+}
+
+/// How many coefficients a power times its factor has, where the power does not end with a zero.
+fn multiplied_length(factor: Factor, power: usize) -> usize
+    requires { power ≤ 1025 }
+    ensures { result ≡ multiplied_length (factor_of factor) power }
+{
+    match factor {
+        Factor::Itself => product_length(power, power),
+        Factor::Variable => product_length(2, power),
+    }
+}
+
+/// Whether a power times its factor is quotient times modulus and the rest, of rows that do not end with zeros. Where one of
+/// the three has more coefficients than both others it is not, and no product is made.
+fn is_short_identity<F: Field>(
+    alloc: Global,
+    modulus: &[F],
+    factor: Factor,
+    power: &[F],
+    quotient: &[F],
+    rest: &[F],
+) -> Result<bool, AllocError>
+    requires modulus { length modulus.now ≤ 1025 }
+    requires power { length power.now ≤ 1025 }
+    requires quotient { length quotient.now ≤ 1025 }
+    requires modulus_is { IsNormal F.ORDER (map F.value modulus.now) }
+    requires power_is { IsNormal F.ORDER (map F.value power.now) }
+    requires quotient_is { IsNormal F.ORDER (map F.value quotient.now) }
+    requires rest_is { IsNormal F.ORDER (map F.value rest.now) }
+    ensures { IfOk result (λ b. b ≡ is_identity F.ORDER (map F.value modulus.now) (factor_of factor) (map F.value power.now) (map F.value quotient.now) (map F.value rest.now)) }
+{
+    let left = multiplied_length(factor, power.len());
+    let right = product_length(quotient.len(), modulus.len());
+    if is_one_longer(left, right, rest.len()) {
+        return Ok(false);
+    }
+    let left = multiplied(alloc, factor, power)?;
+    let right = product_and_rest(alloc, quotient, modulus, rest)?;
+    Ok(are_same(left.as_slice(), right.as_slice()))
+}
+
+/// The same of any rows: zeros at their ends are left out first.
+fn is_identity<F: Field>(
+    alloc: Global,
+    modulus: &[F],
+    factor: Factor,
+    power: &[F],
+    quotient: &[F],
+    rest: &[F],
+) -> Result<bool, AllocError>
+    requires modulus { length modulus.now ≤ 1025 }
+    requires power { length power.now ≤ 1025 }
+    requires quotient { length quotient.now ≤ 1025 }
+    ensures { IfOk result (λ b. b ≡ is_identity F.ORDER (map F.value modulus.now) (factor_of factor) (map F.value power.now) (map F.value quotient.now) (map F.value rest.now)) }
+{
+    let modulus = without_zeros(modulus);
+    let power = without_zeros(power);
+    let quotient = without_zeros(quotient);
+    let rest = without_zeros(rest);
+    is_short_identity(alloc, modulus, factor, power, quotient, rest)
+}
+
 /// The power after a step. Rule 11 where the quotient or the remainder is too long; rule 6 where a coefficient is no
-/// residue, or the product is not quotient times modulus and the remainder. It costs the product of
-/// the lengths that are written, zeros at the end included.
+/// residue, or the product is not quotient times modulus and the remainder. It costs the lengths that are written, and
+/// where the identity may hold the square of the power's length and the product of the quotient's and the modulus', none of
+/// them with zeros at its end. With remainders below the degree of the modulus this is the square of that degree.
 pub fn step<F: Field>(
     alloc: Global,
     modulus: &[F],
@@ -125,17 +206,17 @@ pub fn step<F: Field>(
         → step_line limits F.ORDER (map F.value modulus.now) (factor_of factor) (map F.value power.now) quotient.now remainder.now ≡ Err rule }
 {
     if quotient.len() > MOST_COEFFICIENTS || remainder.len() > MOST_COEFFICIENTS {
-        return Err(LineStop::Rule(11));
+        return Err(LineStop::Rule(rules::LIMIT));
     }
     if !are_below(F::ORDER, quotient) || !are_below(F::ORDER, remainder) {
-        return Err(LineStop::Rule(6));
+        return Err(LineStop::Rule(rules::CHAIN));
     }
     let quotient = elements(alloc, quotient)?;
     let rest = elements(alloc, remainder)?;
-    let left = multiplied(alloc, factor, power)?;
-    let right = product_and_rest(alloc, quotient.as_slice(), modulus, rest.as_slice())?;
-    if !are_same(left.as_slice(), right.as_slice()) {
-        return Err(LineStop::Rule(6));
+    let (q, r) = (quotient.as_slice(), rest.as_slice());
+    let holds = is_identity(alloc, modulus, factor, power, q, r)?;
+    if !holds {
+        return Err(LineStop::Rule(rules::CHAIN));
     }
     Ok(rest)
 }

@@ -5,6 +5,7 @@ mod cases;
 mod chain;
 mod lemma;
 mod rows;
+pub mod rules;
 mod stop;
 mod sums;
 #[cfg(test)]

@@ -1,6 +1,6 @@
 //! Rows of coefficients from the lowest, and their products.
 ghost use Rattle.std.specs.Prelude.{◌≡◌, ◌+◌, ◌-◌, ◌^◌, ◌<◌, ◌≤◌, true, [], ◌∷◌, length, map, max, IfOk};
-ghost use Rattle.ffc_uni.specs.Univariate.{SameUnivariate, plus, multiple, times, product_of_roots};
+ghost use Rattle.ffc_uni.specs.Univariate.{SameUnivariate, IsNormal, plus, multiple, times, product_of_roots};
 ghost use Rattle.ffc_uni.specs.Rows.{shifted};
 ghost use Rattle.ffc_trees.specs.TreeLines.{is_same, are_below};
 
@@ -39,6 +39,20 @@ pub fn pair<F: Field>(alloc: Global, low: F, high: F) -> Result<Vec<F>, AllocErr
     row.push(low)?;
     row.push(high)?;
     Ok(row)
+}
+
+/// A row up to its last coefficient other than 0.
+pub fn without_zeros<F: Field>(row: &[F]) -> &[F]
+    ensures within { length result.now ≤ length row.now }
+    ensures normal { IsNormal F.ORDER (map F.value result.now) }
+    ensures same { SameUnivariate F.ORDER (map F.value result.now) (map F.value row.now) }
+{
+    for place in (0..row.len()).rev() {
+        if row[place].residue() != 0 {
+            return &row[..place + 1];
+        }
+    }
+    &row[..0]
 }
 
 /// Adds c times a row, in one pass.

@@ -6,6 +6,7 @@ ghost use Rattle.ffc_trees.specs.Normal.{IsNormal, degree_of};
 ghost use Rattle.ffc_trees.specs.TreeLines.{limits, are_there, are_residues, products_in, sum_of_multiples, combine_line};
 ghost use Rattle.ffc_cktree.specs.Lines.{AreLines, Gives, is_low, are_low, all_low};
 
+use crate::rules;
 use crate::stop::LineStop;
 use ffc_cert::{Multiple, Power, Term};
 use ffc_ckpoly::{CkPoly, CkSum};
@@ -163,23 +164,23 @@ pub fn combine<F: Field>(
     ensures broken { (rule : ℕ) → result ≡ Err (LineStop.Rule rule) → combine_line limits F.ORDER lines.now multiples.now ≡ Err rule }
 {
     if !are_there(lines, multiples) {
-        return Err(LineStop::Rule(12));
+        return Err(LineStop::Rule(rules::REFERENCE));
     }
     if !are_few(lines, multiples) {
-        return Err(LineStop::Rule(11));
+        return Err(LineStop::Rule(rules::LIMIT));
     }
     if !all_low(multiples) {
-        return Err(LineStop::Rule(11));
+        return Err(LineStop::Rule(rules::LIMIT));
     }
     let line = total(alloc, lines, multiples)?;
     if line.degree() > MOST_DEGREE {
-        return Err(LineStop::Rule(11));
+        return Err(LineStop::Rule(rules::LIMIT));
     }
     if line.terms() > MOST_TERMS {
-        return Err(LineStop::Rule(11));
+        return Err(LineStop::Rule(rules::LIMIT));
     }
     if !all_below(F::ORDER, multiples) {
-        return Err(LineStop::Rule(5));
+        return Err(LineStop::Rule(rules::COMBINATION));
     }
     Ok(line)
 }

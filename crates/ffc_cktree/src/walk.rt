@@ -15,6 +15,7 @@ ghost use Rattle.ffc_cktree.specs.Walking.{power_of, IsShort, is_closed, stage_r
 
 use crate::cases::{Case, push_cases, root_line, split, values};
 use crate::chain::{Factor, Running, begin, fermat, step};
+use crate::rules;
 use crate::stop::{BrokenLine, LineStop, TreeStop};
 use crate::sums::combine;
 use ffc_cert::{CertLine, Multiple};
@@ -226,12 +227,12 @@ fn read_branch<F: Field>(
         }
         CertLine::Close => {
             if !closes(lines.as_slice()) {
-                return Err(LineStop::Rule(8));
+                return Err(LineStop::Rule(rules::NOT_CLOSED));
             }
             let next = next_branch(alloc, lines, waiting)?;
             Ok(next)
         }
-        _ => Err(LineStop::Rule(8)),
+        _ => Err(LineStop::Rule(rules::NOT_CLOSED)),
     }
 }
 
@@ -250,7 +251,7 @@ fn read_step<F: Field>(
     ensures broken { (rule : ℕ) → result ≡ Err (LineStop.Rule rule) → step_read limits F.ORDER (power_of F.value running) lines.items (branches_of F.ORDER lines.items (reverse waiting.items)) line.now ≡ Err rule }
 {
     let CertLine::Step(quotient, remainder) = line else {
-        return Err(LineStop::Rule(8));
+        return Err(LineStop::Rule(rules::NOT_CLOSED));
     };
     let Running {
         variable,
@@ -349,5 +350,5 @@ pub fn read_tree<F: Field>(
     if walk.is_closed() {
         return Ok(lines.len());
     }
-    Err(stopped(LineStop::Rule(8), lines.len() as u64))
+    Err(stopped(LineStop::Rule(rules::NOT_CLOSED), lines.len() as u64))
 }

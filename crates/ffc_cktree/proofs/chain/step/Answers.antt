@@ -1,6 +1,7 @@
 use Rattle.std.proofs.Common.{◌≡◌, ◌&&◌, map, false, true, ℕ, Result, Ok, sym, ap, ap₂, ◌∙◌, refl}
 use Rattle.ffc_uni.specs.Univariate.{Coefficients}
-use Rattle.ffc_trees.specs.TreeLines.{are_below, is_same}
+use Rattle.ffc_trees.specs.TreeLines.{are_below}
+use Rattle.ffc_cktree.specs.Identities.{is_identity}
 use Rattle.ffc_cktree.specs.Factors.{factor_of}
 use Rattle.ffc_cktree.proofs.SumLemmas.{rule_is}
 use Rattle.ffc_cktree.proofs.ChainLemmas.{long_quotient, long_remainder, no_residues, no_identity, step_kept, identity_tested}
@@ -38,21 +39,21 @@ returns-then-not-are_below-clause-broken g c rule e =
           (ap₂ (λ a b. a && b) all none)) e refl
     ]
 
-pub returns-then-not-are_same-clause-broken : goal.returns-then-not-are_same-clause-broken
-returns-then-not-are_same-clause-broken g c rule e =
+pub returns-then-not-holds-clause-broken : goal.returns-then-not-holds-clause-broken
+returns-then-not-holds-clause-broken g c rule e =
     let value = g.F.Field.value in
     let p = g.F.Field.ORDER in
     let f = map value c.args.modulus.now in
     let r = map value c.args.power.now in
     let quotient = c.args.quotient.now in
     let remainder = c.args.remainder.now in
+    let factor = factor_of c.args.factor in
     let first : are_below p quotient ≡ true = ap (λ q. are_below q quotient) (sym c.ORDER.ensures) ∙ sym c.if-not-are_below.ensures in
     let second : are_below p remainder ≡ true = ap (λ q. are_below q remainder) (sym c.ORDER-else-not-are_below.ensures) ∙ sym c.if-not-are_below-2.ensures in
-    let tested = identity_tested p f r quotient remainder (map value c.in_ok-left.left.items) (map value c.in_ok-right.right.items) (map value c.as_slice.result.now) (map value c.as_slice-2.result.now) (factor_of c.args.factor)
-    c.in_ok-left.ensures c.in_ok-right.ensures.sum (ap (map value) c.as_slice.ensures.value ∙ c.in_ok-quotient.ensures) (ap (map value) c.as_slice-2.ensures.value ∙ c.in_ok-rest.ensures) in
-    let same = ap₂ (λ a b. is_same p (map value a) (map value b)) (sym c.as_slice-3.ensures.value) (sym c.as_slice-4.ensures.value) in
-    rule_is 6 rule _ _ (no_identity p f (factor_of c.args.factor) r quotient remainder c.if-quotient-gt-MOST_COEFFICIENTS.false c.if-remainder-gt-MOST_COEFFICIENTS.false
-    (ap₂ (λ a b. a && b) first second) (sym tested ∙ same ∙ sym c.if-not-are_same.ensures)) e refl
+    let tested : c.in_ok-holds.holds ≡ is_identity p f factor r quotient remainder =
+    c.in_ok-holds.ensures ∙ ap₂ (is_identity p f factor r) (ap (map value) c.as_slice-q.ensures.value ∙ c.in_ok-quotient.ensures) (ap (map value) c.as_slice-r.ensures.value ∙ c.in_ok-rest.ensures) in
+    rule_is 6 rule _ _ (no_identity p f factor r quotient remainder c.if-quotient-gt-MOST_COEFFICIENTS.false c.if-remainder-gt-MOST_COEFFICIENTS.false
+    (ap₂ (λ a b. a && b) first second) (sym tested ∙ c.if-not-holds.true)) e refl
 
 pub returns-clause-kept : goal.returns-clause-kept
 returns-clause-kept g c =
@@ -62,11 +63,11 @@ returns-clause-kept g c =
     let r = map value c.args.power.now in
     let quotient = c.args.quotient.now in
     let remainder = c.args.remainder.now in
+    let factor = factor_of c.args.factor in
     let first : are_below p quotient ≡ true = ap (λ q. are_below q quotient) (sym c.ORDER.ensures) ∙ sym c.if-not-are_below.ensures in
     let second : are_below p remainder ≡ true = ap (λ q. are_below q remainder) (sym c.ORDER-else-not-are_below.ensures) ∙ sym c.if-not-are_below-2.ensures in
-    let tested = identity_tested p f r quotient remainder (map value c.in_ok-left.left.items) (map value c.in_ok-right.right.items) (map value c.as_slice.result.now) (map value c.as_slice-2.result.now) (factor_of c.args.factor)
-    c.in_ok-left.ensures c.in_ok-right.ensures.sum (ap (map value) c.as_slice.ensures.value ∙ c.in_ok-quotient.ensures) (ap (map value) c.as_slice-2.ensures.value ∙ c.in_ok-rest.ensures) in
-    let same = ap₂ (λ a b. is_same p (map value a) (map value b)) (sym c.as_slice-3.ensures.value) (sym c.as_slice-4.ensures.value) in
-    step_kept p f (factor_of c.args.factor) r quotient remainder c.if-quotient-gt-MOST_COEFFICIENTS.false c.if-remainder-gt-MOST_COEFFICIENTS.false
-    (ap₂ (λ a b. a && b) first second) (sym tested ∙ same ∙ sym c.if-not-are_same.ensures)
+    let tested : c.in_ok-holds.holds ≡ is_identity p f factor r quotient remainder =
+    c.in_ok-holds.ensures ∙ ap₂ (is_identity p f factor r) (ap (map value) c.as_slice-q.ensures.value ∙ c.in_ok-quotient.ensures) (ap (map value) c.as_slice-r.ensures.value ∙ c.in_ok-rest.ensures) in
+    step_kept p f factor r quotient remainder c.if-quotient-gt-MOST_COEFFICIENTS.false c.if-remainder-gt-MOST_COEFFICIENTS.false
+    (ap₂ (λ a b. a && b) first second) (sym tested ∙ c.if-not-holds.false)
     ∙ ap (λ (k : Coefficients). let q : Result Coefficients ℕ = Ok k in q) (sym c.in_ok-rest.ensures)

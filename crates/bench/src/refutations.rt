@@ -1,0 +1,170 @@
+//! Texts of certificates for a check that asserts 1 = 2 and its negation. The nodes are 1, 2, 1 = 2 as node 2, and negations
+//! from node 3 on.
+use ffc_base::Meter;
+use ffc_field::{Field, Goldilocks};
+use ffc_uni::{Uni, UniStop, pow_mod_chain};
+use std::alloc::{AllocError, Global};
+
+/// The node of the first literal that is not asserted.
+const FIRST_NODE: u32 = 4;
+
+/// The units that a chain may take.
+const BUDGET: u64 = 1_000_000;
+
+/// The coefficients are multiples of this number, 2^64 over the golden ratio.
+const STEP: u64 = 0x9e37_79b9_7f4a_7c15;
+
+/// Appends the literals of a clause: each of so many nodes, by the binary digits of its number from the highest.
+fn push_literals(text: &mut String, number: u32, count: u32) -> Result<(), AllocError> {
+    for place in 0..count.min(24) {
+        let digit = (number >> (count.min(24) - 1 - place)) % 2;
+        let sign = if digit == 0 { "+" } else { "-" };
+        let node = FIRST_NODE + place;
+        write!(text, " {sign}{node}")?;
+    }
+    Ok(())
+}
+
+/// Appends the clauses of this many literals, each from the two clauses with one literal more.
+fn push_level(text: &mut String, literals: u32, below: u32) -> Result<(), AllocError> {
+    for number in 0..1u32 << literals.min(24) {
+        write!(text, "r {literals}")?;
+        push_literals(text, number, literals)?;
+        let first = below.saturating_add(number).saturating_add(number);
+        writeln!(text, " 2 {first} {}", first.saturating_add(1))?;
+    }
+    Ok(())
+}
+
+/// A clause refutation in the form of a full binary tree: all clauses over so many nodes, and by each two of them the clause
+/// without the last literal.
+pub fn clauses(alloc: Global, depth: u32) -> Result<String, AllocError> {
+    let depth = depth.min(20);
+    let leaves = 1u32 << depth;
+    let mut text = String::new(alloc);
+    writeln!(text, "ffcert 2")?;
+    let clauses = leaves.saturating_mul(2).saturating_add(2);
+    writeln!(text, "unsat {clauses}")?;
+    text.push_str("a 0\na 1\nn 3 1 0\n")?;
+    for number in 0..leaves {
+        write!(text, "r {depth}")?;
+        push_literals(&mut text, number, depth)?;
+        text.push_str(" 3 0 1 2\n")?;
+    }
+    let mut below = 3u32;
+    for up in 0..depth {
+        let literals = depth - 1 - up;
+        push_level(&mut text, literals, below)?;
+        below = below.saturating_add(2u32 << literals.min(20));
+    }
+    Ok(text)
+}
+
+/// Begins a refutation by one lemma over Goldilocks, whose first line is the constant -1.
+fn begun(alloc: Global) -> Result<String, AllocError> {
+    let mut text = String::new(alloc);
+    let order = Goldilocks::ORDER;
+    writeln!(text, "ffcert 2")?;
+    text.push_str("unsat 3\na 0\n")?;
+    writeln!(text, "f {order} 1 -2")?;
+    Ok(text)
+}
+
+/// Ends it by the constant 1.
+fn end(text: &mut String) -> Result<(), AllocError> {
+    let order = Goldilocks::ORDER;
+    writeln!(text, "c 1 0 1 {} 0", order - 1)?;
+    text.push_str("z\nr 0 2 0 1\n")
+}
+
+/// A coefficient other than 0.
+fn coefficient(number: u32) -> u64 {
+    (u64::from(number) + 1).wrapping_mul(STEP) % (Goldilocks::ORDER - 1) + 1
+}
+
+/// Appends a power of a variable, unless it is 1.
+fn push_power(text: &mut String, variable: u32, exponent: u32) -> Result<(), AllocError> {
+    if exponent > 0 {
+        write!(text, " {variable} {exponent}")?;
+    }
+    Ok(())
+}
+
+/// Appends a line that multiplies another one by 2,048 terms in two variables.
+fn push_multiple(text: &mut String, line: u32) -> Result<(), AllocError> {
+    write!(text, "c 1 {line} 2048")?;
+    for number in 0..2048u32 {
+        let (i, j) = (number / 8, number % 8);
+        let variables = u32::from(i > 0) + u32::from(j > 0);
+        write!(text, " {} {variables}", coefficient(number))?;
+        push_power(text, 10, i)?;
+        push_power(text, 11, j)?;
+    }
+    text.push_str("\n")
+}
+
+/// A refutation with so many lines of 4,194,304 products.
+pub fn products(alloc: Global, count: u32) -> Result<String, AllocError> {
+    let mut text = begun(alloc)?;
+    push_multiple(&mut text, 0)?;
+    for _ in 0..count {
+        push_multiple(&mut text, 1)?;
+    }
+    end(&mut text)?;
+    Ok(text)
+}
+
+/// Appends a list of coefficients.
+fn push_list(text: &mut String, coefs: &[Goldilocks]) -> Result<(), AllocError> {
+    write!(text, " {}", coefs.len())?;
+    for coef in coefs {
+        write!(text, " {}", coef.residue())?;
+    }
+    Ok(())
+}
+
+/// Appends the line of a polynomial in the variable 10, by a multiple of -1.
+fn push_polynomial(text: &mut String, coefs: &[Goldilocks]) -> Result<(), AllocError> {
+    write!(text, "c 1 0 {}", coefs.len())?;
+    for (exponent, coef) in coefs.iter().enumerate() {
+        write!(text, " {}", coef.neg().residue())?;
+        if exponent == 0 {
+            text.push_str(" 0")?;
+        } else {
+            write!(text, " 1 10 {exponent}")?;
+        }
+    }
+    text.push_str("\n")
+}
+
+/// A polynomial of this degree.
+fn polynomial(alloc: Global, degree: u32) -> Result<Uni<Goldilocks>, AllocError> {
+    let mut coefs = Vec::new(alloc);
+    for number in 0..degree.clamp(2, 1024) + 1 {
+        coefs.push(Goldilocks::of(u128::from(coefficient(number))))?;
+    }
+    Uni::from_coefs(alloc, coefs.as_slice())
+}
+
+/// A refutation with so many chains over a polynomial of this degree.
+pub fn chains(alloc: Global, degree: u32, count: u32) -> Result<String, UniStop> {
+    let f = polynomial(alloc, degree)?;
+    if f.coefs().len() < 2 {
+        return Err(UniStop::Memory);
+    }
+    let mut meter = Meter::new(BUDGET);
+    let chain = pow_mod_chain(alloc, &f, &mut meter)?;
+    let mut text = begun(alloc)?;
+    push_polynomial(&mut text, f.coefs())?;
+    for _ in 0..count {
+        writeln!(text, "p 1 10 {}", chain.steps.as_slice().len())?;
+        for step in chain.steps.as_slice() {
+            text.push_str("u")?;
+            push_list(&mut text, step.0.coefs())?;
+            push_list(&mut text, step.1.coefs())?;
+            text.push_str("\n")?;
+        }
+    }
+    end(&mut text)?;
+    Ok(text)
+}

@@ -1,0 +1,149 @@
+-- Sums that are opened: what waits is worth the same after a node has given way to its parts.
+use Rattle.std.proofs.Common.{◌≡◌, ℕ, zero, suc, ◌+◌, ◌-◌, ◌*◌, ◌%◌, ◌<◌, cond, Bool, true, false, List, [], ◌∷◌, ◌++◌, length, take, All, refl, sym, ap, ap₂, ◌∙◌, subst, arith, append_assoc, append-nil, mul_assoc}
+use Rattle.std.proofs.Math.Nat.{mod-mod}
+use Rattle.std.proofs.lemmas.List.Elements.{All-append}
+use Rattle.ffc_ring.specs.Monomial.{Monomial, same_monomial}
+use Rattle.ffc_ring.specs.Polynomial.{Terms, SamePolynomial, written, scaled}
+use Rattle.ffc_ring.proofs.PolynomialLemmas.{written-append, written-scaled, times_alike, same_sums, same_term_products}
+use Rattle.ffc_term.specs.declared.node.Node.{Node}
+use Rattle.ffc_term.specs.declared.node.Node.TheVariants.{Add, Neg, Bitsum}
+use Rattle.ffc_term.specs.Nodes.{IsNodeAt, order_at, order_of_sort}
+use Rattle.ffc_term.specs.Tables.{IsFieldAt}
+use Rattle.ffc_trees.specs.NodePolynomials.{poly_in, expanded, poly_of_node, node_polys, poly_at}
+use Rattle.ffc_trees.proofs.NormalLemmas.{normal_same}
+use Rattle.ffc_trees.proofs.NodePolyLemmas.{poly_at-is}
+use Rattle.ffc_ckpoly.specs.Parts.{weighted, owed, AreOwed}
+use Rattle.ffc_ckpoly.proofs.PartLemmas.{weights_alike, as_sum, as_bits, as_negation, reduced}
+
+-- a node's polynomial is the one that is written from those of its parts
+pub node_expands : (ns : List Node) (p id : ℕ) (n : Node) → IsFieldAt ns p id → IsNodeAt ns id n → SamePolynomial p (poly_at ns id) (expanded p id (take id (node_polys ns)) n)
+node_expands ns p id n is at m =
+    let made = expanded p id (take id (node_polys ns)) n in
+    let order : order_at ns id ≡ p = ap order_of_sort is.1 in
+    ap (λ ts. written ts m % p) (poly_at-is ns id n at ∙ ap (λ q. poly_of_node q id (take id (node_polys ns)) n) order) ∙ normal_same p made m
+
+-- ---- weights
+
+weighted_more : (w a r : ℕ) (polys : List Terms) (ids : List ℕ) (m : Monomial) → written (weighted (w * a) r polys ids) m ≡ w * written (weighted a r polys ids) m
+weighted_more w a r polys [] m = omega arith
+weighted_more w a r polys (id ∷ ids) m =
+    let f = poly_in polys id in
+    let k = written f m in
+    let n = written (weighted (a * r) r polys ids) m in
+    written-append (scaled (w * a) f) (weighted (w * a * r) r polys ids) m
+    ∙ ap₂ (λ x y. x + y) (written-scaled (w * a) f m) (ap (λ v. written (weighted v r polys ids) m) (mul_assoc w a r) ∙ weighted_more w (a * r) r polys ids m)
+    ∙ (let turned : w * a * k + w * n ≡ w * (a * k + n) = omega arith in turned)
+    ∙ ap (λ x. w * x) (ap (λ x. x + n) (sym (written-scaled a f m)) ∙ sym (written-append (scaled a f) (weighted (a * r) r polys ids) m))
+
+weighted_scaled : (p w a r : ℕ) (polys : List Terms) (ids : List ℕ) → SamePolynomial p (weighted (w * a) r polys ids) (scaled w (weighted a r polys ids))
+weighted_scaled p w a r polys ids m = ap (λ k. k % p) (weighted_more w a r polys ids m ∙ sym (written-scaled w (weighted a r polys ids) m))
+
+-- ---- what waits
+
+module _ {F : Type 0} (value : F → ℕ) (polys : List Terms) where
+  owed-append : (xs ys : List (F × ℕ)) → owed value polys (xs ++ ys) ≡ owed value polys xs ++ owed value polys ys
+  owed-append [] ys = refl
+  owed-append (x ∷ xs) ys =
+      ap (λ ts. scaled (value x.0) (poly_in polys x.1) ++ ts) (owed-append xs ys)
+      ∙ sym (append_assoc (scaled (value x.0) (poly_in polys x.1)) (owed value polys xs) (owed value polys ys))
+
+  pub owed-push : (xs : List (F × ℕ)) (w : F) (id : ℕ) → owed value polys (xs ++ (w, id) ∷ []) ≡ owed value polys xs ++ scaled (value w) (poly_in polys id)
+  owed-push xs w id = owed-append xs ((w, id) ∷ []) ∙ ap (λ ts. owed value polys xs ++ ts) (append-nil (scaled (value w) (poly_in polys id)))
+
+-- a node gives way to parts with the same sum
+pub parts_owed : (p w v a r : ℕ) (polys : List Terms) (id : ℕ) (ids : List ℕ) (new old : Terms) → v ≡ w * a % p
+    → SamePolynomial p (poly_in polys id) (weighted a r polys ids) → SamePolynomial p new (old ++ weighted v r polys ids) → SamePolynomial p new (old ++ scaled w (poly_in polys id))
+parts_owed p w v a r polys id ids new old e is pushed m =
+    let all = weighted a r polys ids in
+    pushed m
+    ∙ same_sums p old old (weighted v r polys ids) (scaled w (poly_in polys id)) (λ k. refl)
+    (λ k. weights_alike p v r (w * a) r polys ids (ap (λ j. j % p) e ∙ mod-mod (w * a) p) refl k
+    ∙ weighted_scaled p w a r polys ids k ∙ sym (same_term_products p w [] (poly_in polys id) all is k)) m
+
+pub sum_kept : (p : ℕ) (sum new old : Terms) → SamePolynomial p new old → SamePolynomial p (sum ++ new) (sum ++ old)
+sum_kept p sum new old same = same_sums p sum sum new old (λ m. refl) same
+
+-- a term is added in place of what waits
+pub term_added : (p : ℕ) (sum old added part : Terms) → SamePolynomial p added part → SamePolynomial p ((sum ++ added) ++ old) (sum ++ (old ++ part))
+term_added p sum old added part same m =
+    ap (λ k. k % p) (written-append (sum ++ added) old m ∙ ap (λ k. k + written old m) (written-append sum added m)
+    ∙ (let turned : written sum m + written added m + written old m ≡ written sum m + written old m + written added m = omega arith in turned)
+    ∙ ap (λ k. k + written added m) (sym (written-append sum old m)) ∙ sym (written-append (sum ++ old) added m))
+    ∙ same_sums p (sum ++ old) (sum ++ old) added part (λ k. refl) same m
+    ∙ ap (λ ts. written ts m % p) (append_assoc sum old part)
+
+-- one field node more waits
+pub owed_fields : {F : Type 0} (ns : List Node) (p : ℕ) (old new : List (F × ℕ)) (w : F) (id : ℕ) → new ≡ old ++ (w, id) ∷ [] → AreOwed ns p old → IsFieldAt ns p id → AreOwed ns p new
+owed_fields {F} ns p old new w id e are is =
+    let Has : F × ℕ → Type 0 = λ x. IsFieldAt ns p x.1 in
+    subst (All Has) (sym e) (All-append Has old ((w, id) ∷ []) are (all_of_one Has (w, id) is))
+  where
+    all_of_one : {X : Type 0} (P : X → Type 0) (x : X) → P x → All P (x ∷ [])
+    all_of_one P x h zero d inside = h
+    all_of_one P x h (suc i) d inside = absurd (omega arith)
+
+-- ---- kinds of nodes
+
+weigh : (p v w c : ℕ) (b : Bool) → v % p ≡ w * c % p → (cond b v 0 + 0) % p ≡ w * (cond b c 0 + 0) % p
+weigh p v w c true e =
+    ap (λ k. k % p) (let same : v + 0 ≡ v = omega arith in same) ∙ e ∙ ap (λ k. k % p) (let same : w * c ≡ w * (c + 0) = omega arith in same)
+weigh p v w c false e = ap (λ k. k % p) (let same : 0 ≡ w * (0 + 0) = omega arith in same)
+
+-- a multiple of one term
+pub term_scaled : (p v w c : ℕ) (m : Monomial) (f : Terms) → v % p ≡ w * c % p → SamePolynomial p f ((c, m) ∷ []) → SamePolynomial p ((v, m) ∷ []) (scaled w f)
+term_scaled p v w c m f e is k =
+    weigh p v w c (same_monomial m k) e
+    ∙ ap (λ j. j % p) (sym (written-scaled w ((c, m) ∷ []) k))
+    ∙ sym (same_term_products p w [] f ((c, m) ∷ []) is k)
+
+module _ (ns : List Node) (p id : ℕ) (is : IsFieldAt ns p id) where
+  pub sum_expands : (a r : ℕ) (ids : List ℕ) → IsNodeAt ns id (Add ids) → All (λ c. c < id) ids → a ≡ 1 % p → r ≡ 1 % p → SamePolynomial p (poly_at ns id) (weighted a r (node_polys ns) ids)
+  sum_expands a r ids at before e f m =
+      node_expands ns p id (Add ids) is at m
+      ∙ sym (as_sum ns id p a r ids (weighted a r (node_polys ns) ids) before (reduced p 1 a e) (reduced p 1 r f) (λ k. refl) m)
+
+  pub bits_expand : (a r : ℕ) (ids : List ℕ) → IsNodeAt ns id (Bitsum ids) → All (λ c. c < id) ids → a ≡ 1 % p → r ≡ 2 % p → SamePolynomial p (poly_at ns id) (weighted a r (node_polys ns) ids)
+  bits_expand a r ids at before e f m =
+      node_expands ns p id (Bitsum ids) is at m
+      ∙ sym (as_bits ns id p a r ids (weighted a r (node_polys ns) ids) before (reduced p 1 a e) (reduced p 2 r f) (λ k. refl) m)
+
+  pub negation_expands : (a r c : ℕ) → IsNodeAt ns id (Neg c) → c < id → a ≡ p - 1 → SamePolynomial p (poly_at ns id) (weighted a r (node_polys ns) (c ∷ []))
+  negation_expands a r c at before e m =
+      node_expands ns p id (Neg c) is at m
+      ∙ sym (as_negation ns id p a r c (weighted a r (node_polys ns) (c ∷ [])) before e (λ k. refl) m)
+
+all_front : {X : Type 0} (P : X → Type 0) (xs : List X) (x : X) → All P (xs ++ x ∷ []) → All P xs
+all_front P [] x h k d inside = absurd (omega arith)
+all_front P (y ∷ ys) x h zero d inside = h 0 d (omega arith)
+all_front P (y ∷ ys) x h (suc k) d inside = all_front P ys x (λ i e j. h (suc i) e (omega (arith, j))) k d (omega (arith, inside))
+
+all_last : {X : Type 0} (P : X → Type 0) (xs : List X) (x : X) → All P (xs ++ x ∷ []) → P x
+all_last P [] x h = h 0 x (omega arith)
+all_last P (y ∷ ys) x h = all_last P ys x (λ i e j. h (suc i) e (omega (arith, j)))
+
+module _ {F : Type 0} (ns : List Node) (p : ℕ) (old rest : List (F × ℕ)) (item : F × ℕ) (e : old ≡ rest ++ item ∷ []) (are : AreOwed ns p old) where
+  abbrev Has : F × ℕ → Type 0
+  Has x = IsFieldAt ns p x.1
+
+  both : AreOwed ns p (rest ++ item ∷ [])
+  both = subst (All Has) e are
+
+  pub rest_fields : AreOwed ns p rest
+  rest_fields = all_front Has rest item both
+
+  pub last_field : IsFieldAt ns p item.1
+  last_field = all_last Has rest item both
+
+-- a sum is begun with one node that waits
+pub owed_first : {F : Type 0} (value : F → ℕ) (p : ℕ) (polys : List Terms) (items : List (F × ℕ)) (one : F) (id : ℕ) (sum : Terms) → sum ≡ [] → items ≡ (one, id) ∷ [] → value one ≡ 1 % p
+    → SamePolynomial p (sum ++ owed value polys items) (poly_in polys id)
+owed_first value p polys items one id sum none is unit m =
+    ap₂ (λ (a : Terms) b. written (a ++ owed value polys b) m % p) none is
+    ∙ ap (λ ts. written ts m % p) (append-nil (scaled (value one) (poly_in polys id)))
+    ∙ ap (λ k. k % p) (written-scaled (value one) (poly_in polys id) m)
+    ∙ times_alike p (value one) 1 (written (poly_in polys id) m) (ap (λ k. k % p) unit ∙ mod-mod 1 p)
+    ∙ ap (λ k. k % p) (let same : 1 * written (poly_in polys id) m ≡ written (poly_in polys id) m = omega arith in same)
+
+pub nothing_waits : {X : Type 0} (xs : List X) → length xs ≡ 0 → xs ≡ []
+nothing_waits [] h = refl
+nothing_waits (x ∷ xs) h = absurd (omega arith)

@@ -1,0 +1,16 @@
+use Rattle.std.proofs.Common.{◌++◌, drop}
+use Rattle.ffc_ring.specs.Polynomial.{SamePolynomial}
+use Rattle.ffc_trees.specs.NodePolynomials.{node_polys}
+use Rattle.ffc_ckpoly.specs.Parts.{weighted, owed, AreOwed}
+use Rattle.ffc_ckpoly.proofs.opening.push_weighted.Given as goal
+
+abbrev pub invariant-loop-id : goal.invariant-loop-id
+invariant-loop-id g l =
+    let value = g.F.Field.value in
+    let p = g.F.Field.ORDER in
+    let polys = node_polys l.table in
+    record {
+      fields : AreOwed l.table p l.waiting.items;
+      owed : SamePolynomial p (owed value polys l.waiting.items ++ weighted (value l.weight) (value l.ratio) polys (drop l.id-index l.ids))
+          (owed value polys l.initial.waiting.items ++ weighted (value l.fn.first) (value l.ratio) polys l.ids);
+    }
