@@ -10,3 +10,4 @@ pub mod MeasureLemmas
 pub mod LawLemmas
 pub mod MarkLemmas
 pub mod GrowthLemmas
+pub mod RootLemmas

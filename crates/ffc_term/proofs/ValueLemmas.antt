@@ -226,13 +226,18 @@ closed_children_within ns nodes i len n closed inside long at k d within =
     let has : Contains nodes c = closed.closed (get_or nodes i 0) c n (Contains-get_or nodes i 0 inside) at (Contains-get_or (children n) k d within) in
     subst (λ m. c < m) (sym long) (All-contains (λ id. id < length ns) nodes c closed.within has)
 
+-- the next node of a closed list gets its value from those of the nodes before it
+pub next_value : (ns : List Node) (A : List Value) (nodes : List ℕ) (i : ℕ) (old out : List Value) (v : Value) → IsClosed ns nodes → IsTable ns → i < length nodes → HoldsValues ns A (take i nodes) old out → ((n : Node) → IsNodeAt ns (get_or nodes i 0) n → v ≡ value_of_node (order_at ns (get_or nodes i 0)) A out n) → v ≡ value_at ns A (get_or nodes i 0)
+next_value ns A nodes i old out v closed table inside told is =
+    let x : ℕ = get_or nodes i 0 in
+    let n : Node = get_or ns x True in
+    let at : IsNodeAt ns x n = IsNodeAt-get_or ns x True (closed.within i 0 inside) in
+    let known = λ (c : ℕ) (has : Contains (children n) c).
+    told.written c (Contains-take nodes i c closed.increasing inside (closed.closed x c n (Contains-get_or nodes i 0 inside) at has) (child_below ns x c n table.well_formed at has)) in
+    is n at ∙ value_at-from_children ns A out x n table.well_formed at known
+
 -- one more node of a closed list is evaluated
 pub eval_step : (ns : List Node) (A : List Value) (nodes : List ℕ) (i : ℕ) (old out : List Value) (v : Value) → IsClosed ns nodes → IsTable ns → length old ≡ length ns → i < length nodes → HoldsValues ns A (take i nodes) old out → ((n : Node) → IsNodeAt ns (get_or nodes i 0) n → v ≡ value_of_node (order_at ns (get_or nodes i 0)) A out n) → HoldsValues ns A (take (i + 1) nodes) old (set out (get_or nodes i 0) v)
 eval_step ns A nodes i old out v closed table long inside told is =
     let x : ℕ = get_or nodes i 0 in
-    let n : Node = get_or ns x True in
-    let within : x < length ns = closed.within i 0 inside in
-    let at : IsNodeAt ns x n = IsNodeAt-get_or ns x True within in
-    let known = λ (c : ℕ) (has : Contains (children n) c).
-    told.written c (Contains-take nodes i c closed.increasing inside (closed.closed x c n (Contains-get_or nodes i 0 inside) at has) (child_below ns x c n table.well_formed at has)) in
-    HoldsValues-more ns A nodes i old out v inside (subst (λ m. x < m) (sym (told.long ∙ long)) within) told (is n at ∙ value_at-from_children ns A out x n table.well_formed at known)
+    HoldsValues-more ns A nodes i old out v inside (subst (λ m. x < m) (sym (told.long ∙ long)) (closed.within i 0 inside)) told (next_value ns A nodes i old out v closed table inside told is)

@@ -8,3 +8,4 @@ pub mod Marking
 pub mod Laws
 pub mod Modular
 pub mod Growth
+pub mod Lists

@@ -1,12 +1,13 @@
 //! Evaluation of nodes.
-ghost use Rattle.std.specs.Prelude.{◌≡◌, ◌+◌, ◌*◌, ◌%◌, ◌<◌, length, All, sum_by};
+ghost use Rattle.std.specs.Prelude.{◌≡◌, ◌+◌, ◌*◌, ◌%◌, ◌<◌, length, All, Contains, sum_by};
 ghost use Rattle.std.specs.List.{list_any, list_all};
+ghost use Rattle.std.specs.List.Sorted.{IsStrictlyIncreasing};
 ghost use Rattle.ffc_field.specs.Orders.{IsOrder};
 ghost use Rattle.ffc_term.specs.Nodes.{children, IsComputed, IsNodeAt, order_at};
 ghost use Rattle.ffc_term.specs.declared.node.Node.{Node};
 ghost use Rattle.ffc_term.specs.Tables.{IsTable};
 ghost use Rattle.ffc_term.specs.Checks.{IsClosed};
-ghost use Rattle.ffc_term.specs.Values.{HoldsValues, truth_in, residue_in, product_by, bit_sum_from, is_same_truth, value_of_node};
+ghost use Rattle.ffc_term.specs.Values.{HoldsValues, truth, value_at, truth_in, residue_in, product_by, bit_sum_from, is_same_truth, value_of_node};
 
 use crate::modular::{Operation, compute};
 use crate::node::{Node, NodeId};
@@ -108,5 +109,36 @@ impl NodeTable {
         for id in nodes {
             out[*id as usize] = value_at(self, *id, values, out);
         }
+    }
+
+    /// Whether all roots are true under an assignment. It takes no memory.
+    ///
+    /// The nodes are listed as for `eval_into`, and are evaluated in order, up to the first root that is false: `out` holds
+    /// the values of these nodes alone.
+    pub fn are_true(
+        &self,
+        nodes: &[NodeId],
+        roots: &[NodeId],
+        values: &Assignment,
+        out: &mut [Value],
+    ) -> bool
+        requires closed { IsClosed self.now nodes.now }
+        requires increasing { IsStrictlyIncreasing roots.now }
+        requires among { All (Contains nodes.now) roots.now }
+        requires long { length out.old ≡ length self.now }
+        ensures { result ≡ list_all (λ id. truth (value_at self.now values.now id)) roots.now }
+    {
+        let mut next = 0;
+        for id in nodes {
+            let value = value_at(self, *id, values, out);
+            out[*id as usize] = value;
+            if next < roots.len() && roots[next] == *id {
+                if !value.truth() {
+                    return false;
+                }
+                next += 1;
+            }
+        }
+        true
     }
 }

@@ -19,7 +19,7 @@ mod value;
 mod walk;
 
 pub use check::Check;
-pub use list::NodeList;
+pub use list::{NodeList, distinct};
 pub use measure::Measures;
 pub use node::{Node, NodeId, Sort};
 pub use table::{NodeTable, TermStop};

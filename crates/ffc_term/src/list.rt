@@ -1,11 +1,14 @@
 //! Lists of nodes by number, as the children of a node.
-ghost use Rattle.std.specs.Prelude.{◌≡◌, ℕ, List, nat_eq};
+ghost use Rattle.std.specs.Prelude.{◌≡◌, ℕ, List, IfOk, nat_eq};
 ghost use Rattle.std.specs.Hash as fed;
 ghost use Rattle.std.specs.Cmp.Lexicographic.{pointwise};
 ghost use Rattle.std.specs.Cmp.Rules.{comparing, hashing};
+ghost use Rattle.std.specs.List.Sorted.{IsStrictlyIncreasing};
 ghost use Rattle.std.proofs.Common.{rules};
+ghost use Rattle.ffc_term.specs.Lists.{HaveSameNumbers};
 
 use crate::node::NodeId;
+use std::alloc::{AllocError, Global};
 use std::hash::{Hash, Hasher};
 use std::marker::Model;
 
@@ -66,4 +69,15 @@ impl Hash for NodeList {
     fn hash<H: Hasher>(&self, state: &mut H) {
         self.ids.hash(state);
     }
+}
+
+/// The nodes of a list in increasing order, each once.
+pub fn distinct(alloc: Global, ids: &[NodeId]) -> Result<Vec<NodeId>, AllocError>
+    ensures increasing { IfOk result (λ v. IsStrictlyIncreasing v.items) }
+    ensures same { IfOk result (λ v. HaveSameNumbers v.items ids.now) }
+{
+    let mut sorted = ids.to_vec(alloc)?;
+    sorted.sort_unstable();
+    sorted.dedup();
+    Ok(sorted)
 }

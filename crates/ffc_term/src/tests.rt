@@ -5,7 +5,9 @@ ghost use Rattle.ffc_term.specs.declared.node.Node.{Node};
 ghost use Rattle.ffc_term.specs.Nodes.{is_constant, sort_at};
 ghost use Rattle.ffc_term.specs.Tables.{Fits, CanCut, IsBooleanAt, IsFieldAt, IsFieldIte, IsNumbered, AreBoolean, AreOfOneField, constant_count};
 
-use crate::{Assignment, Measures, Node, NodeId, NodeList, NodeTable, Sort, TermStop, Value};
+use crate::{
+    Assignment, Measures, Node, NodeId, NodeList, NodeTable, Sort, TermStop, Value, distinct,
+};
 use ffc_field::FieldId;
 use std::alloc::{AllocError, Global};
 use std::process::Abort;
@@ -174,6 +176,42 @@ fn evaluate(
     let mut out = vec![in rt.alloc(); Value::Bool(false); table.len() as usize]?;
     table.eval_into(&nodes, values, &mut out);
     Ok(out[root as usize])
+}
+
+// Whether these nodes are all true under an assignment.
+fn are_true(
+    rt: &(impl Abort + AllocGlobal),
+    table: &NodeTable,
+    ids: &[NodeId],
+    values: &Assignment,
+) -> Result<bool, AllocError> {
+    assert!(rt; are_boolean(table, ids));
+    let nodes = table.nodes_of(ids)?;
+    let roots = distinct(rt.alloc(), ids)?;
+    let mut out = vec![in rt.alloc(); Value::Bool(false); table.len() as usize]?;
+    Ok(table.are_true(&nodes, &roots, values, &mut out))
+}
+
+// Lists of the constant 0, its negation 1 and the negation 2 of that, and whether all are true where the constant is.
+const ROOTS: [(&[NodeId], bool); 6] = [
+    (&[], true),
+    (&[0], true),
+    (&[1], false),
+    (&[2, 0, 2, 0], true),
+    (&[2, 1], false),
+    (&[0, 1, 2], false),
+];
+
+#[test]
+fn roots_in_any_order(rt: HostRuntime) -> Result<(), Fail> {
+    let mut table = NodeTable::new(rt.alloc())?;
+    negations(&rt, &mut table, 2)?;
+    let values = Assignment::new(vec![in rt.alloc(); Value::Bool(true)]?);
+    for (ids, expected) in ROOTS {
+        let all = are_true(&rt, &table, ids, &values)?;
+        assert_eq!(rt; all, expected);
+    }
+    Ok(())
 }
 
 fn numbers(rt: &impl Abort, table: &mut NodeTable) -> Result<[NodeId; 4], TermStop> {

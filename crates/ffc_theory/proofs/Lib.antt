@@ -1,0 +1,4 @@
+pub mod CountingLemmas
+pub mod ModelLemmas
+pub mod ListedLemmas
+pub mod LimitLemmas

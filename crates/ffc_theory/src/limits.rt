@@ -1,0 +1,88 @@
+//! The limits of polynomials, and whether a check passes one.
+ghost use Rattle.std.specs.Prelude.{◌≡◌, ◌<◌, nat_lt, length, filter, All, OnOk, IfErr, IfOk, IfSome, IfNone, true, false};
+ghost use Rattle.std.specs.List.{list_any};
+ghost use Rattle.ffc_term.specs.Nodes.{node_at};
+ghost use Rattle.ffc_term.specs.Measuring.{degree_at, length_at};
+ghost use Rattle.ffc_rules.specs.Causes.{is_small};
+ghost use Rattle.ffc_rules.specs.Cones.{is_equality, span};
+ghost use Rattle.ffc_rules.specs.Entries.{limits};
+ghost use Rattle.ffc_rules.specs.Laws.{IsValid};
+ghost use Rattle.ffc_check.specs.Judged.{node_check};
+ghost use Rattle.ffc_theory.specs.Stops.{IsWithinLimits, IsPassed, IsSmallSpan};
+
+use crate::stop::DecideStop;
+use ffc_term::{Check, Node, NodeId, NodeTable};
+use std::alloc::AllocError;
+
+/// The highest degree that an equality may have.
+const MOST_DEGREE: u64 = 255;
+
+/// The most terms that an equality may have.
+const MOST_TERMS: u64 = 65_536;
+
+/// The most work of a check that is small: the number of its assignments times that of its nodes.
+const MOST_WORK: u128 = 16_777_216;
+
+fn is_equality(node: &Node) -> bool
+    ensures { result ≡ is_equality node.now }
+{
+    matches!(node, Node::Eq(..))
+}
+
+/// Whether the degree of an equality among these nodes is too high.
+fn passes_degree(table: &NodeTable, nodes: &[NodeId]) -> bool
+    requires { All (λ id. id < length table.now) nodes.now }
+    ensures { result ≡ list_any (λ id. nat_lt 255 (degree_at table.now id)) (filter (λ id. is_equality (node_at table.now id)) nodes.now) }
+{
+    for id in nodes {
+        if is_equality(table.node(*id)) && table.degree(*id) > MOST_DEGREE {
+            return true;
+        }
+    }
+    false
+}
+
+/// Whether an equality among these nodes has too many terms.
+fn passes_length(table: &NodeTable, nodes: &[NodeId]) -> bool
+    requires { All (λ id. id < length table.now) nodes.now }
+    ensures { result ≡ list_any (λ id. nat_lt 65536 (length_at table.now id)) (filter (λ id. is_equality (node_at table.now id)) nodes.now) }
+{
+    for id in nodes {
+        if is_equality(table.node(*id)) && table.length(*id) > MOST_TERMS {
+            return true;
+        }
+    }
+    false
+}
+
+/// Whether the equalities of a check are within the limits of polynomials, or which limit is passed.
+pub fn check_limits(check: &Check) -> Result<(), DecideStop>
+    requires valid { IsValid (node_check check.now) }
+    ensures within { OnOk result (IsWithinLimits (node_check check.now)) }
+    ensures passed { IfErr result (IsPassed (node_check check.now)) }
+{
+    let nodes = check.table.nodes_of(check.in_force)?;
+    if passes_degree(check.table, &nodes) {
+        return Err(DecideStop::TooHigh);
+    }
+    if passes_length(check.table, &nodes) {
+        return Err(DecideStop::TooLong);
+    }
+    Ok(())
+}
+
+/// How many assignments the constants of a check have, where it is small within the budget.
+pub fn small_span(check: &Check, steps: u64) -> Result<Option<u64>, AllocError>
+    requires valid { IsValid (node_check check.now) }
+    ensures small { IfOk result (λ found. IfSome found (IsSmallSpan (node_check check.now) steps)) }
+    ensures large { IfOk result (λ found. IfNone found (is_small limits (node_check check.now) steps ≡ false)) }
+{
+    let measures = check.table.measures(check.in_force)?;
+    if measures.work > MOST_WORK {
+        return Ok(None);
+    }
+    if measures.span > u128::from(steps) {
+        return Ok(None);
+    }
+    Ok(Some(measures.span as u64))
+}

@@ -1,0 +1,11 @@
+pub mod CertLemmas
+pub mod FewLemmas
+pub mod PieceLemmas
+pub mod WalkLemmas
+pub mod BrokenLemmas
+pub mod JudgeLemmas
+pub mod VerdictLemmas
+pub mod DueLemmas
+pub mod LineLemmas
+pub mod StopLemmas
+pub mod ArgumentLemmas

@@ -1,0 +1,7 @@
+use Rattle.std.proofs.Common.{◌≡◌, ◌≤◌}
+use Rattle.ffc_verify.specs.Reading.{Grows, MovesOn}
+use Rattle.ffc_verify.proofs.PieceLemmas.{HasReadOn}
+use Rattle.ffc_verify.proofs.entries.next_entry.Given as goal
+
+abbrev pub invariant-loop : goal.invariant-loop
+invariant-loop g l = HasReadOn l.fn.entries (g.C.Source.left l.fn.cert) l.entries (g.C.Source.left l.cert) × (g.C.Source.faults l.fn.cert ≤ g.C.Source.faults l.cert)

@@ -1,0 +1,61 @@
+use Rattle.std.proofs.Common.{◌≡◌, List, ℕ, take, sym, subst}
+use Rattle.std.specs.Option.{IfSome}
+use Rattle.ffc_smt.specs.Scripts.{reads, AtFault}
+use Rattle.ffc_script.specs.declared.stop.ScriptStop.{ScriptStop}
+use Rattle.ffc_verify.specs.declared.verify.CheckStatus.TheVariants as status
+use Rattle.ffc_verify.specs.Due.{due}
+use Rattle.ffc_verify.specs.Texts.{fault_line}
+use Rattle.ffc_verify.specs.Ending.{due_of, IsEndedAs}
+use Rattle.ffc_verify.specs.Walking.{IsFaultOf}
+use Rattle.ffc_verify.proofs.DueLemmas.{read_due, read_ended, read_done, fault_due, ended_at_fault, ok_by}
+use Rattle.ffc_verify.proofs.verify.find_answer.Goals as goal
+
+pub returns-in-Ok-count_checks-clause-ok : goal.returns-in-Ok-count_checks-clause-ok
+returns-in-Ok-count_checks-clause-ok g c =
+    let contents = g.C.NamedSource.contents c.args.cert.now c.args.plan.now.cert.now in
+    let left = g.S.Source.left c.args.script.now in
+    let text = c.as_slice-in-Ok-count_checks.result.now in
+    let cores = c.args.plan.now.cores in
+    let is = subst (λ t. IfSome left (λ bytes. t ≡ take 67108865 bytes)) (sym c.as_slice-in-Ok-count_checks.ensures.value) c.in-Ok.ensures.ok in
+    ok_by c.certificate_answer.result (λ a. IfSome contents (λ certificate. due_of a ≡ due cores text certificate))
+    (λ a. IfSome left (λ bytes. IfSome contents (λ certificate. due_of a ≡ due cores bytes certificate))) c.certificate_answer.ensures.ok
+    (λ a h. read_due cores text left contents a is h)
+
+pub returns-in-Ok-count_checks-clause-ending : goal.returns-in-Ok-count_checks-clause-ending
+returns-in-Ok-count_checks-clause-ending g c =
+    let left = g.S.Source.left c.args.script.now in
+    let text = c.as_slice-in-Ok-count_checks.result.now in
+    let is = subst (λ t. IfSome left (λ bytes. t ≡ take 67108865 bytes)) (sym c.as_slice-in-Ok-count_checks.ensures.value) c.in-Ok.ensures.ok in
+    ok_by c.certificate_answer.result (λ a. IsEndedAs a (reads text).end) (λ a. IfSome left (λ bytes. IsEndedAs a (reads bytes).end)) c.certificate_answer.ensures.ending
+    (λ a h. read_ended text left a is h)
+
+pub returns-in-Ok-count_checks-clause-opened : goal.returns-in-Ok-count_checks-clause-opened
+returns-in-Ok-count_checks-clause-opened g c = λ e.
+    let left = g.S.Source.left c.args.script.now in
+    let text = c.as_slice.result.now in
+    let is = subst (λ t. IfSome left (λ bytes. t ≡ take 67108865 bytes)) (sym c.as_slice.ensures.value) c.in-Ok.ensures.ok in
+    read_done text left is c.in-Ok-count_checks.ensures.ok.done
+
+pub returns-in-Err-Fault-clause-ok : goal.returns-in-Err-Fault-clause-ok
+returns-in-Err-Fault-clause-ok g c =
+    let contents = g.C.NamedSource.contents c.args.cert.now c.args.plan.now.cert.now in
+    let left = g.S.Source.left c.args.script.now in
+    let text = c.as_slice.result.now in
+    let cores = c.args.plan.now.cores in
+    let f = c.in-Err-Fault.fault in
+    let is = subst (λ t. IfSome left (λ bytes. t ≡ take 67108865 bytes)) (sym c.as_slice.ensures.value) c.in-Ok.ensures.ok in
+    let end : (reads text).end ≡ AtFault f.line f.column f.code = subst (IsFaultOf text) c.in-Err-Fault.field-0-is c.in-Err-Fault.ensures.stop in
+    ok_by c.fault_answer.result (λ a. due_of a ≡ record { status = status.ScriptRefused; text = fault_line f.line f.column f.code })
+    (λ a. IfSome left (λ bytes. IfSome contents (λ certificate. due_of a ≡ due cores bytes certificate))) c.fault_answer.ensures.ok
+    (λ a e. read_due cores text left contents a is (fault_due cores text contents a f.line f.column f.code e end))
+
+pub returns-in-Err-Fault-clause-ending : goal.returns-in-Err-Fault-clause-ending
+returns-in-Err-Fault-clause-ending g c =
+    let left = g.S.Source.left c.args.script.now in
+    let text = c.as_slice.result.now in
+    let f = c.in-Err-Fault.fault in
+    let is = subst (λ t. IfSome left (λ bytes. t ≡ take 67108865 bytes)) (sym c.as_slice.ensures.value) c.in-Ok.ensures.ok in
+    let end : (reads text).end ≡ AtFault f.line f.column f.code = subst (IsFaultOf text) c.in-Err-Fault.field-0-is c.in-Err-Fault.ensures.stop in
+    ok_by c.fault_answer.result (λ a. due_of a ≡ record { status = status.ScriptRefused; text = fault_line f.line f.column f.code })
+    (λ a. IfSome left (λ bytes. IsEndedAs a (reads bytes).end)) c.fault_answer.ensures.ok
+    (λ a e. read_ended text left a is (ended_at_fault a (reads text).end f.line f.column f.code e end))

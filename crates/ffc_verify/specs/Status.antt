@@ -1,0 +1,57 @@
+-- How a run of the checker ends: its statuses, and what each of them leaves.
+use Rattle.std.specs.Prelude.{◌≡◌, ℕ, Bool, List, Option}
+use Rattle.ffc_base.specs.Outside.{Appends, AppendsPrefix}
+use Rattle.ffc_smt.specs.Scripts.{Done, AtFault, reads}
+use Rattle.ffc_smt.specs.TableChecks.{TableCheck, table_checks}
+use Rattle.std.specs.Prelude.{Some, slice_get}
+use Rattle.ffc_rules.specs.Laws.{HasEntry}
+use Rattle.ffc_verify.specs.declared.verify.CheckStatus.{CheckStatus}
+use Rattle.ffc_verify.specs.declared.verify.CheckStatus.TheVariants.{Accepted, Refused, Usage, ScriptRefused, ReadFault, CertFault, WriteFault, Memory}
+use Rattle.ffc_verify.specs.Texts.{fault_line}
+use Rattle.ffc_verify.specs.Due.{Due, due}
+
+-- the number that the program ends with
+abbrev pub code_of : CheckStatus → ℕ
+code_of Accepted = 0
+code_of Refused = 1
+code_of Usage = 2
+code_of ScriptRefused = 3
+code_of ReadFault = 4
+code_of CertFault = 5
+code_of WriteFault = 6
+code_of Memory = 7
+
+-- the status is the one that is due, and all of its text was written
+abbrev pub IsAnswered : CheckStatus → Due → Option (List ℕ) → Option (List ℕ) → Type 0
+IsAnswered status d out_old out_new = (d.status ≡ status) × Appends d.text out_old out_new
+
+-- What a status says of the output, before and after the run, where this is due.
+abbrev pub IsLeft : CheckStatus → Due → Option (List ℕ) → Option (List ℕ) → Type 0
+IsLeft Accepted d out_old out_new = IsAnswered Accepted d out_old out_new
+IsLeft Refused d out_old out_new = IsAnswered Refused d out_old out_new
+IsLeft ScriptRefused d out_old out_new = IsAnswered ScriptRefused d out_old out_new
+IsLeft WriteFault d out_old out_new = AppendsPrefix d.text out_old out_new
+IsLeft Memory d out_old out_new = AppendsPrefix d.text out_old out_new
+IsLeft Usage d out_old out_new = out_new ≡ out_old
+IsLeft ReadFault d out_old out_new = out_new ≡ out_old
+IsLeft CertFault d out_old out_new = out_new ≡ out_old
+
+-- the script is at this fault, and its line was written
+pub record IsAtFault (script : List ℕ) (out_old out_new : Option (List ℕ)) : Type 0 where
+  pub at_line : ℕ
+  pub column : ℕ
+  pub code : ℕ
+  pub end : (reads script).end ≡ AtFault at_line column code
+  pub written : Appends (fault_line at_line column code) out_old out_new
+
+-- What a status says of the script alone: the certificate is opened only where the script has no fault.
+abbrev pub SaysOfScript : CheckStatus → List ℕ → Option (List ℕ) → Option (List ℕ) → Type 0
+SaysOfScript Accepted script out_old out_new = (reads script).end ≡ Done
+SaysOfScript Refused script out_old out_new = (reads script).end ≡ Done
+SaysOfScript CertFault script out_old out_new = (reads script).end ≡ Done
+SaysOfScript ScriptRefused script out_old out_new = IsAtFault script out_old out_new
+SaysOfScript _ script out_old out_new = Unit {0}
+
+-- each check of the script has an entry in the certificate, and the entry is true of it
+abbrev pub AllHaveEntries : List ℕ → List ℕ → Type 0
+AllHaveEntries script certificate = (k : ℕ) (c : TableCheck) → slice_get (table_checks (reads script).steps) k ≡ Some c → HasEntry script certificate k c
