@@ -1,13 +1,8 @@
 -- Constants that get values, one after another.
-use Rattle.std.proofs.Common.{◌≡◌, ◌≢◌, inl, inr, ℕ, ◌+◌, ◌/◌, ◌%◌, ◌<◌, ◌≤◌, ◌&&◌, eqb, Bool, true, false, List, [], ◌∷◌, length, get_or, drop, Contains, IsPermutation, refl, sym, ap, ap₂, ◌∙◌, subst, arith, get_or-set_same, get_or-set_other}
-use Rattle.std.specs.List.{list_all, AllByRecursion}
+use Rattle.std.proofs.Common.{◌≡◌, ◌≢◌, inl, inr, ℕ, ◌+◌, ◌/◌, ◌%◌, ◌<◌, ◌≤◌, false, List, [], ◌∷◌, length, get_or, drop, refl, sym, ap, ◌∙◌, subst, arith, get_or-set_same, get_or-set_other}
+use Rattle.std.specs.List.{AllByRecursion}
 use Rattle.std.proofs.Math.ListN.{length-set}
 use Rattle.std.proofs.lemmas.List.{drop_more, set_past}
-use Rattle.std.proofs.lemmas.List.Elements.{All-contains, All-from_recursion}
-use Rattle.std.specs.List.{dedup}
-use Rattle.std.proofs.lemmas.List.Kept.{Contains-dedup_nat, Contains-from_dedup}
-use Rattle.std.proofs.lemmas.List.Sorted.{Contains-permutation, IsPermutation-sym}
-use Rattle.std.proofs.lemmas.List.Sums.{AllPass-from_list_all, list_all-from_AllPass}
 use Rattle.ffc_term.specs.declared.node.Node.{Node}
 use Rattle.ffc_term.specs.declared.node.Node.TheVariants.{FieldConst}
 use Rattle.ffc_term.specs.declared.value.Value.{Value}
@@ -18,8 +13,7 @@ use Rattle.ffc_term.specs.Measuring.{value_count}
 use Rattle.ffc_term.proofs.ValueLemmas.{IsOrder-positive}
 use Rattle.ffc_rules.specs.Assignments.{number_of_constant, value_of_number, value_of_constant, digits}
 use Rattle.ffc_rules.proofs.AssignmentLemmas.{node_at-is, same_number, number_below, AreConstants, AreDifferent, Among}
-use Rattle.ffc_rules.proofs.CaseLemmas.{each_contained}
-use Rattle.ffc_check.specs.Assigning.{with_value, with_values, HaveSameNumbers}
+use Rattle.ffc_check.specs.Assigning.{with_value, with_values}
 
 -- a place past the end keeps all values
 pub with_value-past : (ns : List Node) (values : List Value) (id number : ℕ) (n : Node) → IsNodeAt ns id n → length values ≤ number_of_constant n → values ≡ with_value ns values (id, number)
@@ -46,11 +40,6 @@ pub length-with_values : (ns : List Node) (values : List Value) (pairs : List (�
 length-with_values ns values [] = refl
 length-with_values ns values (p ∷ pairs) =
     length-with_values ns (with_value ns values p) pairs ∙ length-set values (number_of_constant (node_at ns p.0)) (value_of_number (node_at ns p.0) p.1)
-
--- tests that agree at each element of a list
-pub same_all : (p q : ℕ → Bool) (ids : List ℕ) → AllByRecursion (λ id. p id ≡ q id) ids → list_all p ids ≡ list_all q ids
-same_all p q [] each = refl
-same_all p q (id ∷ ids) each = ap₂ (λ (a b : Bool). a && b) each.0 (same_all p q ids each.1)
 
 module _ (ns : List Node) (formed : IsWellFormed ns) where
   apart : (i j : ℕ) → IsConstantAt ns i → IsConstantAt ns j → i ≢ j → number_of_constant (node_at ns j) ≢ number_of_constant (node_at ns i)
@@ -79,31 +68,3 @@ module _ (ns : List Node) (formed : IsWellFormed ns) where
       ∙ get_or-set_same values (number_of_constant (node_at ns q.0)) (value_of_number (node_at ns q.0) q.1) (value.Bool false) (subst (λ n. number_of_constant (node_at ns q.0) < n) (sym long) (below q.0 are.0)))
   value_given (q ∷ pairs) p values long are differ (inr later) =
       value_given pairs p (with_value ns values q) (length-set values (number_of_constant (node_at ns q.0)) (value_of_number (node_at ns q.0) q.1) ∙ long) are.1 differ.1 later
-
--- ---- a test of all of a list's numbers
-
-both_ways : (a b : Bool) → (a ≡ true → b ≡ true) → (b ≡ true → a ≡ true) → a ≡ b
-both_ways true b f g = sym (f refl)
-both_ways false true f g = g refl
-both_ways false false f g = refl
-
-passed_on : (q : ℕ → Bool) (xs ys : List ℕ) → ((id : ℕ) → Contains ys id → Contains xs id) → list_all q xs ≡ true → list_all q ys ≡ true
-passed_on q xs ys within all =
-    list_all-from_AllPass q ys (All-from_recursion (λ id. q id ≡ true) ys (each_contained (λ id. q id ≡ true) ys (λ id has. All-contains (λ k. q k ≡ true) xs id (AllPass-from_list_all q xs all) (within id has))))
-
-pub same_tests : (q : ℕ → Bool) (xs ys : List ℕ) → HaveSameNumbers xs ys → list_all q xs ≡ list_all q ys
-same_tests q xs ys same =
-    both_ways (list_all q xs) (list_all q ys) (passed_on q xs ys (λ id. (same.each id).1)) (passed_on q ys xs (λ id. (same.each id).0))
-
-pub same_numbers_itself : (xs : List ℕ) → HaveSameNumbers xs xs
-same_numbers_itself xs = record { each = λ id. (λ has. has, λ has. has) }
-
--- ---- nodes in order, each once
-
-pub sorted_once : (ids copied sorted once : List ℕ) → copied ≡ ids → IsPermutation copied sorted → once ≡ dedup eqb sorted → HaveSameNumbers once ids
-sorted_once ids copied sorted once copy order left = record {
-  each = λ id. (
-    λ has. subst (λ xs. Contains xs id) copy (Contains-permutation sorted copied id (IsPermutation-sym copied sorted order) (Contains-from_dedup eqb sorted id (subst (λ xs. Contains xs id) left has))),
-    λ has. subst (λ xs. Contains xs id) (sym left) (Contains-dedup_nat sorted id (Contains-permutation copied sorted id order (subst (λ xs. Contains xs id) (sym copy) has))),
-  );
-}

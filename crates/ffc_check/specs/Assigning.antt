@@ -1,5 +1,5 @@
 -- Constants get values one after another.
-use Rattle.std.specs.Prelude.{ℕ, ◌↔◌, List, [], ◌∷◌, Contains, slice_set}
+use Rattle.std.specs.Prelude.{ℕ, List, [], ◌∷◌, slice_set}
 use Rattle.ffc_term.specs.declared.node.Node.{Node}
 use Rattle.ffc_term.specs.declared.value.Value.{Value}
 use Rattle.ffc_term.specs.Nodes.{node_at}
@@ -13,7 +13,3 @@ with_value nodes values p = slice_set values (number_of_constant (node_at nodes 
 abbrev pub with_values : List Node → List Value → List (ℕ × ℕ) → List Value
 with_values nodes values [] = values
 with_values nodes values (p ∷ pairs) = with_values nodes (with_value nodes values p) pairs
-
--- two lists have the same numbers, in any order and however often
-pub record HaveSameNumbers (xs ys : List ℕ) : Type 0 where
-  pub each : (id : ℕ) → Contains xs id ↔ Contains ys id

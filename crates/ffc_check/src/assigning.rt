@@ -1,15 +1,12 @@
 //! Assignments, and what they make true.
 ghost use Rattle.std.specs.Prelude.{◌≡◌, ◌<◌, length, All, IfOk};
-ghost use Rattle.std.specs.List.{list_all};
 ghost use Rattle.std.specs.List.Sorted.{IsStrictlyIncreasing};
 ghost use Rattle.ffc_term.specs.Nodes.{IsConstantAt};
 ghost use Rattle.ffc_term.specs.Tables.{constant_count};
-ghost use Rattle.ffc_term.specs.Values.{truth_in};
 ghost use Rattle.ffc_term.specs.Checks.{IsClosed, AreNodesOf};
+ghost use Rattle.ffc_term.specs.Lists.{HaveSameNumbers};
 ghost use Rattle.ffc_rules.specs.Assignments.{are_true, digits};
-ghost use Rattle.ffc_rules.specs.Laws.{IsValid};
-ghost use Rattle.ffc_check.specs.Assigning.{with_value, with_values, HaveSameNumbers};
-ghost use Rattle.ffc_check.specs.Judged.{node_check};
+ghost use Rattle.ffc_check.specs.Assigning.{with_value, with_values};
 
 use ffc_term::{Assignment, Check, Node, NodeId, NodeTable, Value};
 use std::alloc::{AllocError, Global};
@@ -73,33 +70,8 @@ pub fn give_digits(table: &NodeTable, constants: &[NodeId], number: u64, values:
     }
 }
 
-/// Whether the values at these numbers are all true. It stops at the first that is not.
-fn all_true(ids: &[NodeId], values: &[Value]) -> bool
-    requires { All (λ id. id < length values.now) ids.now }
-    ensures { result ≡ list_all (truth_in values.now) ids.now }
-{
-    for id in ids {
-        if !values[*id as usize].truth() {
-            return false;
-        }
-    }
-    true
-}
-
-/// Nodes in increasing order, each once.
-pub fn distinct(alloc: Global, ids: &[NodeId]) -> Result<Vec<NodeId>, AllocError>
-    ensures increasing { IfOk result (λ v. IsStrictlyIncreasing v.items) }
-    ensures same { IfOk result (λ v. HaveSameNumbers v.items ids.now) }
-{
-    let mut sorted = Vec::new(alloc);
-    sorted.extend_from_slice(ids)?;
-    sorted.sort_unstable();
-    sorted.dedup();
-    Ok(sorted)
-}
-
-/// Whether all is true under an assignment that is in force, of which `asserted` lists the nodes, in any order. The values of
-/// the check's nodes go into `out`; then it costs the listed nodes up to the first that is false.
+/// Whether all is true under an assignment that is in force, of which `asserted` lists the nodes. The nodes are evaluated up to
+/// the first of these that is false; their values go into `out`.
 pub fn is_model(
     check: &Check,
     nodes: &[NodeId],
@@ -107,13 +79,12 @@ pub fn is_model(
     assignment: &Assignment,
     out: &mut [Value],
 ) -> bool
-    requires valid { IsValid (node_check check.now) }
     requires nodes { AreNodesOf check.now.table.now check.now.in_force.now nodes.now }
     requires closed { IsClosed check.now.table.now nodes.now }
+    requires increasing { IsStrictlyIncreasing asserted.now }
     requires asserted { HaveSameNumbers asserted.now check.now.in_force.now }
     requires long { length out.old ≡ length check.now.table.now }
     ensures { result ≡ are_true check.now.table.now check.now.in_force.now assignment.now }
 {
-    check.table.eval_into(nodes, assignment, out);
-    all_true(asserted, out)
+    check.table.are_true(nodes, asserted, assignment, out)
 }

@@ -1,26 +1,27 @@
 //! Entries by cases: every assignment of a check's constants makes something false that is in force.
 ghost use Rattle.std.specs.Prelude.{◌≡◌, ◌<◌, length, IfOk};
+ghost use Rattle.std.specs.List.Sorted.{IsStrictlyIncreasing};
 ghost use Rattle.ffc_term.specs.Checks.{IsClosed, AreNodesOf, AreConstantsOf};
+ghost use Rattle.ffc_term.specs.Lists.{HaveSameNumbers};
 ghost use Rattle.ffc_term.specs.Tables.{constant_count};
 ghost use Rattle.ffc_rules.specs.Assignments.{has_model_below};
 ghost use Rattle.ffc_rules.specs.Entries.{limits, cases_fault};
 ghost use Rattle.ffc_rules.specs.Cones.{span};
 ghost use Rattle.ffc_rules.specs.Laws.{IsValid};
 ghost use Rattle.ffc_check.specs.Answers.{Answers};
-ghost use Rattle.ffc_check.specs.Assigning.{HaveSameNumbers};
 ghost use Rattle.ffc_check.specs.Judged.{node_check};
 
-use crate::assigning::{blank, distinct, give_digits, is_model};
+use crate::assigning::{blank, give_digits, is_model};
 use crate::stop::{CheckStop, breaks};
 use ffc_cktree::rules;
-use ffc_term::{Assignment, Check, NodeId, Value};
+use ffc_term::{Assignment, Check, NodeId, Value, distinct};
 use std::alloc::{AllocError, Global};
 
 /// The most work of a check that is gone through: the number of its assignments times that of its nodes.
 const MOST_WORK: u128 = 16_777_216;
 
 /// Whether one of the first assignments, so many, makes all true that is in force. It takes no memory, and costs for each
-/// assignment one evaluation of the nodes, and the listed assertions up to the first that is false.
+/// assignment the evaluation of the nodes up to the first assertion that is false.
 fn search(
     check: &Check,
     nodes: &[NodeId],
@@ -33,6 +34,7 @@ fn search(
     requires valid { IsValid (node_check check.now) }
     requires nodes { AreNodesOf check.now.table.now check.now.in_force.now nodes.now }
     requires closed { IsClosed check.now.table.now nodes.now }
+    requires increasing { IsStrictlyIncreasing asserted.now }
     requires asserted { HaveSameNumbers asserted.now check.now.in_force.now }
     requires constants { AreConstantsOf check.now.table.now check.now.in_force.now constants.now }
     requires values { length values.items ≡ constant_count check.now.table.now }
@@ -72,8 +74,8 @@ fn has_model(alloc: Global, check: &Check, count: u64) -> Result<bool, AllocErro
     ))
 }
 
-/// Judges an entry by cases. It costs one evaluation of the check's nodes for each assignment of its constants; a node that
-/// is in force more than once is looked at once.
+/// Judges an entry by cases. It costs for each assignment of the check's constants the evaluation of its nodes up to the first
+/// assertion that is false.
 pub fn check_cases(alloc: Global, check: &Check, line: u64) -> Result<(), CheckStop>
     requires valid { IsValid (node_check check.now) }
     ensures { Answers result (cases_fault limits (node_check check.now) line) }

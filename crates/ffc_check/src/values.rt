@@ -10,7 +10,7 @@ ghost use Rattle.ffc_check.specs.Judged.{node_check};
 use crate::assigning::{blank, give_listed, is_model};
 use crate::stop::{CheckStop, breaks};
 use ffc_cktree::rules;
-use ffc_term::{Assignment, Check, NodeId, NodeTable, Value};
+use ffc_term::{Assignment, Check, NodeId, NodeTable, Value, distinct};
 use std::alloc::{AllocError, Global};
 
 /// The first pair, by its place, that does not name the constant there and one of its values.
@@ -39,15 +39,15 @@ fn makes_true(alloc: Global, check: &Check, pairs: &[(u32, u64)]) -> Result<bool
     ensures { IfOk result (λ good. good ≡ are_true check.now.table.now check.now.in_force.now (listed_assignment check.now.table.now pairs.now)) }
 {
     let nodes = check.table.nodes_of(check.in_force)?;
+    let asserted = distinct(alloc, check.in_force)?;
     let mut values = blank(alloc, check.table)?;
     give_listed(check.table, pairs, values.as_mut_slice());
     let mut out = vec![in alloc; Value::Bool(false); check.table.len() as usize]?;
     let assignment = Assignment::new(values);
-    let asserted = check.in_force;
     Ok(is_model(
         check,
         nodes.as_slice(),
-        asserted,
+        asserted.as_slice(),
         &assignment,
         out.as_mut_slice(),
     ))
