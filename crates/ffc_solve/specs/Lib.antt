@@ -1,11 +1,6 @@
-pub mod Text
-pub mod Reading
-pub mod States
-pub mod Enumeration
-pub mod Context
-pub mod Judge
-pub mod Answers
+pub mod Remembering
 pub mod Solving
 pub mod Underway
-pub mod Words
+pub mod Arguments
+pub mod Generated
 pub mod Status

@@ -1,48 +1,100 @@
 -- What a run of the solver writes: the certificate and the answers, whole or up to where it stopped.
-use Rattle.std.specs.Prelude.{◌≡◌, ℕ, ◌<◌, ◌⊎◌, List, [], ◌∷◌, ◌++◌, length, take, Option}
+use Rattle.std.specs.Prelude.{◌≡◌, ℕ, ◌<◌, ◌≤◌, ◌⊎◌, Bool, List, [], ◌∷◌, ◌++◌, length, take, Option, Some, None, slice_get}
 use Rattle.ffc_base.specs.Outside.{Becomes, Appends, AppendsPrefix}
 use Rattle.ffc_cert.specs.declared.entries.Entry.{Entry}
+use Rattle.ffc_cert.specs.declared.entries.Entry.TheVariants.{Sat, UnsatCases, UnsatSteps, Unknown}
 use Rattle.ffc_cert.specs.Spelling.{header, entry_text, text_of}
-use Rattle.ffc_smt.specs.Terms.{Command}
-use Rattle.ffc_smt.specs.Scopes.{State, first_state}
-use Rattle.ffc_solve.specs.Reading.{reads}
-use Rattle.ffc_solve.specs.States.{states_checked}
-use Rattle.ffc_solve.specs.Judge.{IsEntry, IsTrueOf}
-use Rattle.ffc_solve.specs.Answers.{answers}
+use Rattle.ffc_cert.specs.WellFormed.{IsReadable}
+use Rattle.ffc_lex.specs.Reading.{fault_of}
+use Rattle.ffc_smt.specs.CommandReading.{limits as reading_limits}
+use Rattle.ffc_smt.specs.Scopes.{State}
+use Rattle.ffc_smt.specs.Scripts.{Step, reads}
+use Rattle.ffc_smt.specs.GoingOn.{Going, run_of}
+use Rattle.ffc_smt.specs.TableChecks.{TableCheck, table_checks}
+use Rattle.ffc_rules.specs.Causes.{Caused}
+use Rattle.ffc_rules.specs.Entries.{EntryOk}
+use Rattle.ffc_rules.specs.Judging.{node_check, Accepts}
+use Rattle.ffc_theory.specs.Stops.{MayBeDecided}
+use Rattle.ffc_answer.specs.Answers.{answers, run_answers}
 
--- entries of the first checks: each obeys the rules for its check, and is true of it
-abbrev pub AreEntries : List State → List Entry → Type 0
-AreEntries checks [] = Unit {0}
-AreEntries [] (entry ∷ entries) = ⊥
-AreEntries (check ∷ checks) (entry ∷ entries) = IsEntry check entry × IsTrueOf check entry × AreEntries checks entries
+-- a verdict is given only on a check that may be decided within the budget
+abbrev pub IsAllowed : ℕ → TableCheck → Entry → Type 0
+IsAllowed budget check (Sat pairs) = MayBeDecided budget (node_check check)
+IsAllowed budget check UnsatCases = MayBeDecided budget (node_check check)
+IsAllowed budget check (UnsatSteps lines) = MayBeDecided budget (node_check check)
+IsAllowed budget check (Unknown cause) = Unit {0}
 
--- The certificate has an entry for each check of the script, and all of it is answered.
-pub record IsWhole (bytes : List ℕ) (cert_old cert_new out_old out_new : Option (List ℕ)) : Type 0 where
+-- The entry is readable and obeys the rules for its check; where it leaves the check undecided, its cause is so.
+pub record IsRight (budget : ℕ) (check : TableCheck) (entry : Entry) : Type 0 where
+  pub readable : IsReadable 2 entry
+  pub right : EntryOk (node_check check) entry
+  pub caused : Caused budget (node_check check) entry
+  pub allowed : IsAllowed budget check entry
+
+-- entries of the first checks
+abbrev pub AreEntries : ℕ → List TableCheck → List Entry → Type 0
+AreEntries budget checks [] = Unit {0}
+AreEntries budget [] (entry ∷ entries) = ⊥
+AreEntries budget (check ∷ checks) (entry ∷ entries) = IsRight budget check entry × AreEntries budget checks entries
+
+-- The certificate has an entry for each check of the script, and all of it is answered; of a generated script the size is given.
+pub record IsWhole (budget : ℕ) (make : Option ℕ) (script : List ℕ) (cert_old cert_new out_old out_new : Option (List ℕ)) : Type 0 where
   pub entries : List Entry
-  pub each : AreEntries (states_checked first_state (reads bytes).commands) entries
-  pub all : length entries ≡ length (states_checked first_state (reads bytes).commands)
+  pub each : AreEntries budget (table_checks (reads script).steps) entries
+  pub all : length entries ≡ length (table_checks (reads script).steps)
   pub certificate : Becomes (text_of 2 entries) cert_old cert_new
-  pub answered : Appends (answers (reads bytes) entries) out_old out_new
+  pub answered : Appends (run_answers make (reads script) entries) out_old out_new
 
--- a front of the first line, or the text of a certificate with these entries and behind it at most a front of one more
-abbrev pub IsCertificatePart : List Entry → List ℕ → Type 0
-IsCertificatePart entries text =
-    ((n : ℕ) × (text ≡ take n (header 2)))
-    ⊎ ((entry : Entry) × (n : ℕ) × (n < length (entry_text entry)) × (text ≡ text_of 2 entries ++ take n (entry_text entry)))
+-- a front of the next entry, which is not whole and obeys the rules for its check
+pub record IsCutEntry (budget : ℕ) (checks : List TableCheck) (entries : List Entry) (part : List ℕ) : Type 0 where
+  pub check : TableCheck
+  pub at : slice_get checks (length entries) ≡ Some check
+  pub entry : Entry
+  pub right : IsRight budget check entry
+  pub size : ℕ
+  pub short : size < length (entry_text entry)
+  pub is : part ≡ take size (entry_text entry)
+
+-- what stands after the whole entries: nothing, or a front of one more
+abbrev pub IsRest : ℕ → List TableCheck → List Entry → List ℕ → Type 0
+IsRest budget checks entries part = (part ≡ []) ⊎ IsCutEntry budget checks entries part
+
+-- a front of the first line, and no entries; or the entries, and what stands after them
+abbrev pub IsCertificatePart : ℕ → List TableCheck → List Entry → List ℕ → Type 0
+IsCertificatePart budget checks entries text =
+    ((entries ≡ []) × ((n : ℕ) × (text ≡ take n (header 2))))
+    ⊎ ((part : List ℕ) × (text ≡ text_of 2 entries ++ part) × IsRest budget checks entries part)
 
 -- The certificate has the entries of the first checks, and no more is answered than these entries say: each verdict that
 -- was written has its whole entry in the certificate.
-pub record IsBegun (bytes : List ℕ) (cert_old cert_new out_old out_new : Option (List ℕ)) : Type 0 where
-  pub done : List Command
-  pub later : List Command
-  pub split : (reads bytes).commands ≡ done ++ later
+pub record IsBegun (budget : ℕ) (make : Option ℕ) (script : List ℕ) (cert_old cert_new out_old out_new : Option (List ℕ)) : Type 0 where
   pub entries : List Entry
-  pub each : AreEntries (states_checked first_state done) entries
+  pub each : AreEntries budget (table_checks (reads script).steps) entries
   pub text : List ℕ
-  pub part : IsCertificatePart entries text
+  pub part : IsCertificatePart budget (table_checks (reads script).steps) entries text
   pub certificate : Becomes text cert_old cert_new
-  pub answered : AppendsPrefix (answers (reads bytes) entries) out_old out_new
+  pub answered : AppendsPrefix (run_answers make (reads script) entries) out_old out_new
 
 -- What a run that stopped leaves: all as it was, or a certificate that is begun.
-abbrev pub IsStopped : List ℕ → Option (List ℕ) → Option (List ℕ) → Option (List ℕ) → Option (List ℕ) → Type 0
-IsStopped bytes cert_old cert_new out_old out_new = ((cert_new ≡ cert_old) × (out_new ≡ out_old)) ⊎ IsBegun bytes cert_old cert_new out_old out_new
+abbrev pub IsStopped : ℕ → Option ℕ → List ℕ → Option (List ℕ) → Option (List ℕ) → Option (List ℕ) → Option (List ℕ) → Type 0
+IsStopped budget make script cert_old cert_new out_old out_new =
+    ((cert_new ≡ cert_old) × (out_new ≡ out_old)) ⊎ IsBegun budget make script cert_old cert_new out_old out_new
+
+-- What a run leaves where reading failed after this text: just the commands that are whole in it are answered.
+pub record IsPaused (budget : ℕ) (text : List ℕ) (cert_old cert_new out_old out_new : Option (List ℕ)) : Type 0 where
+  pub steps : List Step
+  pub state : State
+  pub run : run_of reading_limits text ≡ Going steps state
+  pub sound : fault_of text ≡ None
+  pub entries : List Entry
+  pub each : AreEntries budget (table_checks steps) entries
+  pub all : length entries ≡ length (table_checks steps)
+  pub certificate : Becomes (text_of 2 entries) cert_old cert_new
+  pub answered : Appends (answers steps entries) out_old out_new
+
+-- how much of a script was taken
+pub record IsTaken (text script : List ℕ) (new : Option (List ℕ)) : Type 0 where
+  pub rest : List ℕ
+  pub split : script ≡ text ++ rest
+  pub left : new ≡ Some rest
+  pub few : length text ≤ 67108865

@@ -1,49 +1,25 @@
--- What was written while the commands of a script are answered one by one, behind the certificate's first line.
-use Rattle.std.specs.Prelude.{◌≡◌, ℕ, ◌<◌, ◌⊎◌, List, [], ◌++◌, length, take, Option}
+-- What was written while the commands of a script are answered one by one, after the certificate's first line.
+use Rattle.std.specs.Prelude.{◌≡◌, ℕ, ◌+◌, ◌≤◌, ◌<◌, ◌⊎◌, Bool, true, false, List, [], ◌++◌, length, take, Option, Some, None}
 use Rattle.std.specs.List.{flat_map}
 use Rattle.ffc_base.specs.Outside.{Appends, AppendsPrefix}
-use Rattle.ffc_cert.specs.Spelling.{entry_text}
 use Rattle.ffc_cert.specs.declared.entries.Entry.{Entry}
-use Rattle.ffc_smt.specs.Terms.{Command}
-use Rattle.ffc_smt.specs.Scopes.{State, first_state}
-use Rattle.ffc_smt.specs.Scripts.{End}
-use Rattle.ffc_solve.specs.States.{states_checked}
-use Rattle.ffc_solve.specs.Answers.{verdict, answers_to}
-use Rattle.ffc_solve.specs.Solving.{AreEntries}
-
--- The first commands are answered, and the others are still to come.
-pub record IsUnderway (all : List Command) (end : End) (now : State) (rest : List Command) (cert_old cert_new out_old out_new : Option (List ℕ)) : Type 0 where
-  pub done : List Command
-  pub split : all ≡ done ++ rest
-  pub checked : (more : List Command) → states_checked first_state (done ++ more) ≡ states_checked first_state done ++ states_checked now more
-  pub entries : List Entry
-  pub each : AreEntries (states_checked first_state done) entries
-  pub count : length entries ≡ length (states_checked first_state done)
-  pub certificate : Appends (flat_map entry_text entries) cert_old cert_new
-  pub text : List ℕ
-  pub answered : Appends text out_old out_new
-  pub answers : (later : List Entry) → answers_to all end (entries ++ later) ≡ text ++ answers_to rest end later
-
--- All commands and the end are answered.
-pub record IsAnswered (all : List Command) (end : End) (cert_old cert_new out_old out_new : Option (List ℕ)) : Type 0 where
-  pub entries : List Entry
-  pub each : AreEntries (states_checked first_state all) entries
-  pub count : length entries ≡ length (states_checked first_state all)
-  pub certificate : Appends (flat_map entry_text entries) cert_old cert_new
-  pub answered : Appends (answers_to all end entries) out_old out_new
-
--- The run stopped: behind the entries stands at most a front of one more, and no more is answered than the entries say.
-pub record IsCut (all : List Command) (end : End) (cert_old cert_new out_old out_new : Option (List ℕ)) : Type 0 where
-  pub done : List Command
-  pub later : List Command
-  pub split : all ≡ done ++ later
-  pub entries : List Entry
-  pub each : AreEntries (states_checked first_state done) entries
-  pub entry : Entry
-  pub size : ℕ
-  pub short : size < length (entry_text entry)
-  pub certificate : Appends (flat_map entry_text entries ++ take size (entry_text entry)) cert_old cert_new
-  pub answered : AppendsPrefix (answers_to all end entries) out_old out_new
+use Rattle.ffc_cert.specs.Spelling.{entry_text}
+use Rattle.ffc_lex.specs.Reading.{fault_of}
+use Rattle.ffc_smt.specs.CommandReading.{limits as reading_limits}
+use Rattle.ffc_smt.specs.Scopes.{State}
+use Rattle.ffc_smt.specs.Scripts.{Step, End, Done, AtFault, reads}
+use Rattle.ffc_smt.specs.GoingOn.{Going, run_of}
+use Rattle.ffc_smt.specs.TableChecks.{table_checks}
+use Rattle.ffc_words.specs.declared.faults.ScriptFault.{ScriptFault}
+use Rattle.ffc_answer.specs.Answers.{Last, answers, end_answer, script_answers, verdict}
+use Rattle.ffc_script.specs.Answers.{HasRun, SaysOnly, StopsAt}
+use Rattle.ffc_script.specs.declared.stop.ScriptStop.TheVariants.{Fault}
+use Rattle.ffc_script.specs.Progress.{Progress, steps_of}
+use Rattle.ffc_solve.specs.declared.session.Session.{Session}
+use Rattle.ffc_solve.specs.declared.session.Advance.{Advance}
+use Rattle.ffc_solve.specs.declared.session.Advance.TheVariants as advance
+use Rattle.ffc_solve.specs.Solving.{AreEntries, IsRest}
+use Rattle.ffc_solve.specs.Remembering.{Holds, Counts}
 
 -- An entry was written in part, or as a whole, and then its verdict in part.
 abbrev pub IsHalfTold : Entry → Option (List ℕ) → Option (List ℕ) → Option (List ℕ) → Option (List ℕ) → Type 0
@@ -51,6 +27,124 @@ IsHalfTold entry cert_old cert_new out_old out_new =
     (AppendsPrefix (entry_text entry) cert_old cert_new × (out_new ≡ out_old))
     ⊎ (Appends (entry_text entry) cert_old cert_new × AppendsPrefix (verdict entry) out_old out_new)
 
--- The commands that a text begins with are answered, whatever its end is.
-abbrev pub AreAnswered : List Command → Option (List ℕ) → Option (List ℕ) → Option (List ℕ) → Option (List ℕ) → Type 0
-AreAnswered commands cert_old cert_new out_old out_new = (end : End) → (now : State) × IsUnderway commands end now [] cert_old cert_new out_old out_new
+-- One more command is answered.
+pub record IsTold (old new : Session) (entries : List Entry) (cert_old cert_new out_old out_new : Option (List ℕ)) : Type 0 where
+  pub more : List Entry
+  pub last : Option Last
+  pub holds : Holds new.reader new (entries ++ more) last
+  pub certificate : Appends (flat_map entry_text more) cert_old cert_new
+  pub text : List ℕ
+  pub answered : Appends text out_old out_new
+  pub answers_are : answers (steps_of new.reader) (entries ++ more) ≡ answers (steps_of old.reader) entries ++ text
+  pub same_text : new.reader.text ≡ old.reader.text
+  pub longer : length (steps_of new.reader) ≡ length (steps_of old.reader) + 1
+  pub budget : new.steps ≡ old.steps
+  pub taken : new.taken ≡ old.taken
+
+-- nothing was written
+abbrev pub IsSilent : Option (List ℕ) → Option (List ℕ) → Option (List ℕ) → Option (List ℕ) → Type 0
+IsSilent cert_old cert_new out_old out_new = (cert_new ≡ cert_old) × (out_new ≡ out_old)
+
+-- how a session went on that has these entries
+abbrev pub GoesOn : Session → Session → List Entry → Option (List ℕ) → Option (List ℕ) → Option (List ℕ) → Option (List ℕ) → Advance → Type 0
+GoesOn old new entries cert_old cert_new out_old out_new advance.Answered =
+    IsTold old new entries cert_old cert_new out_old out_new × (new.reader.over ≡ false)
+GoesOn old new entries cert_old cert_new out_old out_new advance.Waiting = IsSilent cert_old cert_new out_old out_new × (new ≡ old) × HasRun old.reader
+GoesOn old new entries cert_old cert_new out_old out_new advance.Ended =
+    IsTold old new entries cert_old cert_new out_old out_new × SaysOnly new.reader.text (steps_of new.reader) Done
+GoesOn old new entries cert_old cert_new out_old out_new (advance.Fault f) =
+    IsSilent cert_old cert_new out_old out_new × StopsAt old.reader (Fault f) × (new.tally ≡ old.tally)
+
+-- The run stopped, however the script goes on: after the entries stands at most a front of one more, and no more is answered than
+-- the entries say.
+pub record IsCutAt (old : Session) (entries : List Entry) (more : List ℕ) (cert_old cert_new out_old out_new : Option (List ℕ)) : Type 0 where
+  pub later : List Entry
+  pub each : AreEntries old.steps (table_checks (reads (old.reader.text ++ more)).steps) (entries ++ later)
+  pub part : List ℕ
+  pub rest : IsRest old.steps (table_checks (reads (old.reader.text ++ more)).steps) (entries ++ later) part
+  pub certificate : Appends (flat_map entry_text later ++ part) cert_old cert_new
+  pub text : List ℕ
+  pub answered : Appends text out_old out_new
+  pub behind : List ℕ
+  pub answers_are : answers (reads (old.reader.text ++ more)).steps (entries ++ later) ≡ answers (steps_of old.reader) entries ++ (text ++ behind)
+
+-- the text is what was read of the bytes that were left first, and the others are left now
+abbrev pub HasRead : Option (List ℕ) → Option (List ℕ) → List ℕ → Type 0
+HasRead None now text = Unit {0}
+HasRead (Some bytes) now text = (rest : List ℕ) × (bytes ≡ text ++ rest) × (now ≡ Some rest)
+
+-- there was nothing left
+abbrev pub IsAtEnd : Option (List ℕ) → Option (List ℕ) → Type 0
+IsAtEnd None now = Unit {0}
+IsAtEnd (Some bytes) now = (bytes ≡ []) × (now ≡ Some [])
+
+-- no more is read: nothing is left, or as much was taken as may be
+abbrev pub IsEnd : Session → Option (List ℕ) → Option (List ℕ) → Type 0
+IsEnd s left_old left_new = IsAtEnd left_old left_new ⊎ ((left_new ≡ left_old) × (length s.reader.text ≡ 67108865))
+
+-- a piece was read, and is in the reader
+pub record HasFed (old new : Session) (left_old left_new : Option (List ℕ)) : Type 0 where
+  pub piece : List ℕ
+  pub read : HasRead left_old left_new piece
+  pub reader : new.reader ≡ record old.reader { text = old.reader.text ++ piece }
+  pub some : 0 < length piece
+  pub few : length old.reader.text + length piece ≤ 67108865
+  pub taken : new.taken ≡ old.taken + length piece
+  pub same : (new.steps ≡ old.steps) × (new.last ≡ old.last) × (new.tally ≡ old.tally)
+
+-- Whole scripts
+
+-- the script has a fault
+abbrev pub is_fault : End → Bool
+is_fault Done = false
+is_fault (AtFault at_line column code) = true
+
+-- All commands and the end of a script are answered.
+pub record IsAnswered (budget : ℕ) (script : List ℕ) (refused : Bool) (new : Session) (cert_old cert_new out_old out_new : Option (List ℕ)) : Type 0 where
+  pub entries : List Entry
+  pub each : AreEntries budget (table_checks (reads script).steps) entries
+  pub all : length entries ≡ length (table_checks (reads script).steps)
+  pub certificate : Appends (flat_map entry_text entries) cert_old cert_new
+  pub answered : Appends (script_answers (reads script) entries) out_old out_new
+  pub tally : Counts new.tally entries
+  pub ended : refused ≡ is_fault (reads script).end
+
+-- The run stopped before that.
+pub record IsCut (budget : ℕ) (script : List ℕ) (cert_old cert_new out_old out_new : Option (List ℕ)) : Type 0 where
+  pub entries : List Entry
+  pub each : AreEntries budget (table_checks (reads script).steps) entries
+  pub part : List ℕ
+  pub rest : IsRest budget (table_checks (reads script).steps) entries part
+  pub certificate : Appends (flat_map entry_text entries ++ part) cert_old cert_new
+  pub answered : AppendsPrefix (script_answers (reads script) entries) out_old out_new
+
+-- Reading failed after this text: just its commands are answered.
+pub record IsPausedAt (budget : ℕ) (text : List ℕ) (cert_old cert_new out_old out_new : Option (List ℕ)) : Type 0 where
+  pub steps : List Step
+  pub state : State
+  pub run : run_of reading_limits text ≡ Going steps state
+  pub sound : fault_of text ≡ None
+  pub entries : List Entry
+  pub each : AreEntries budget (table_checks steps) entries
+  pub all : length entries ≡ length (table_checks steps)
+  pub certificate : Appends (flat_map entry_text entries) cert_old cert_new
+  pub answered : Appends (answers steps entries) out_old out_new
+
+-- the end of a text was answered
+pub record IsFinished (p : Progress) (refused : Bool) (out_old out_new : Option (List ℕ)) : Type 0 where
+  pub end : End
+  pub says : reads p.text ≡ record { steps = steps_of p; end = end }
+  pub answered : Appends (end_answer end) out_old out_new
+  pub ended : refused ≡ is_fault end
+
+-- or in part
+abbrev pub IsUnfinished : Progress → Option (List ℕ) → Option (List ℕ) → Type 0
+IsUnfinished p out_old out_new =
+    (out_new ≡ out_old) ⊎ ((end : End) × (reads p.text ≡ record { steps = steps_of p; end = end }) × AppendsPrefix (end_answer end) out_old out_new)
+
+-- nothing of the script has come
+pub record IsFirst (s : Session) : Type 0 where
+  pub reader : s.reader ≡ record { text = []; forms = []; over = false }
+  pub taken : s.taken ≡ 0
+  pub last : s.last ≡ None
+  pub tally : s.tally ≡ record { sat = 0; unsat = 0; unknown = 0 }

@@ -1,15 +1,14 @@
 //! Answers scripts about finite fields, with a certificate for each answer.
 #![tactic(auto)]
 
-mod answer;
-mod context;
-mod enumerate;
-mod script;
+mod arguments;
+mod generated;
+mod remembered;
+mod running;
+mod session;
 mod solve;
 mod stop;
-#[cfg(test)]
-mod tests;
-mod text;
-mod words;
 
+pub use arguments::{Name, Plan, PlanStop};
+pub use generated::make_script;
 pub use solve::{SolveStatus, solve_main};

@@ -1,25 +1,35 @@
 //! The solver's top call.
-ghost use Rattle.std.specs.Prelude.{◌≡◌, ℕ, ◌≤◌, ◌↔◌, map, None, OnOk, OnErr, IfOk, IfErr, IfSome, IsErrOf};
-ghost use Rattle.ffc_base.specs.Outside.{Rose};
-ghost use Rattle.ffc_solve.specs.Reading.{reads};
-ghost use Rattle.ffc_solve.specs.Solving.{IsWhole, IsStopped};
-ghost use Rattle.ffc_solve.specs.Status.{code_of, is_fault, IsLeft};
-ghost use Rattle.ffc_solve.specs.Words.{certificate_name};
+ghost use Rattle.std.specs.Prelude.{◌≡◌, ℕ, ◌<◌, ◌≤◌, ◌⊎◌, List, Some, None, map, OnOk, OnErr, IfOk, IfSome, IsErrOf, string_bytes};
+ghost use Rattle.ffc_cert.specs.declared.entries.Entry.{Entry as CertEntry};
+ghost use Rattle.ffc_answer.specs.Answers.{made_answer};
+ghost use Rattle.ffc_base.specs.Outside.{Rose, Becomes};
+ghost use Rattle.ffc_smt.specs.Scripts.{reads};
+ghost use Rattle.ffc_solve.specs.Arguments.{AreRefused, AreTaken, HasPlan};
+ghost use Rattle.ffc_solve.specs.declared.arguments.Plan.{Plan as SolvePlan};
+ghost use Rattle.ffc_solve.specs.Generated.{made_text};
+ghost use Rattle.ffc_solve.specs.Remembering.{Counts, IsBudget};
+ghost use Rattle.ffc_solve.specs.Solving.{IsPaused, IsStopped, IsTaken, IsWhole};
+ghost use Rattle.ffc_solve.specs.Status.{Leaves, code_of, status_of};
+ghost use Rattle.ffc_solve.specs.Underway.{IsFirst, is_fault};
 
-use crate::script::answer_text;
-use crate::stop::{Stop, create_certificate, read_script};
-use crate::words::certificate_file;
-use ffc_base::{NamedSink, Sink, Source};
-use std::alloc::Global;
+use crate::arguments::{Plan, PlanStop};
+use crate::generated::make_script;
+use crate::remembered::Tally;
+use crate::running::run;
+use crate::session::Session;
+use crate::stop::{Stop, create_certificate, write_out};
+use ffc_base::{NamedSink, Sink, Source, SureSource};
+use ffc_script::ScriptReader;
+use std::alloc::{AllocError, Global};
 
 /// How a run ended.
 #[derive(Clone, Copy, Debug, PartialEq, Eq)]
 pub enum SolveStatus {
     /// The whole script is answered.
     Done,
-    /// The script has a fault; what stands before it is answered, and the fault is told.
+    /// The script has a fault; what comes before it is answered, and the fault is told.
     Refused,
-    /// The words of the command line are not accepted.
+    /// The arguments are refused.
     Usage,
     /// Reading the script failed.
     ReadFault,
@@ -27,7 +37,7 @@ pub enum SolveStatus {
     WriteFault,
     /// Creating or writing the certificate failed.
     CertFault,
-    /// Memory was wanting.
+    /// Out of memory.
     Memory,
 }
 
@@ -48,30 +58,107 @@ impl SolveStatus {
     }
 }
 
-/// Reads and answers a script, and says whether it has a fault.
+/// A session of a script of which nothing has come.
+fn first_session(alloc: Global, steps: u64) -> Result<Session, AllocError>
+    ensures first { IfOk result IsFirst }
+    ensures steps { IfOk result (λ s. s.steps ≡ steps) }
+{
+    Ok(Session {
+        alloc,
+        steps,
+        reader: ScriptReader::new(alloc)?,
+        taken: 0,
+        last: None,
+        tally: Tally {
+            sat: 0,
+            unsat: 0,
+            unknown: 0,
+        },
+    })
+}
+
+/// Creates the certificate and answers a script, and says whether the script has a fault.
 fn answer_script<S: Source, O: Sink, C: NamedSink>(
     alloc: Global,
-    name: &str,
+    plan: &Plan,
     script: &mut S,
     out: &mut O,
     cert: &mut C,
 ) -> Result<bool, Stop>
-    ensures ok { OnOk result (IfSome (S.left script.old) (λ bytes. IsWhole bytes (C.holds cert.old) (C.holds cert.new) (O.holds out.old) (O.holds out.new))) }
+    requires budget { IsBudget plan.now.steps }
+    ensures ok { OnOk result (IfSome (S.left script.old) (λ bytes. IsWhole plan.now.steps None bytes (C.holds cert.old) (C.holds cert.new) (O.holds out.old) (O.holds out.new))) }
     ensures refused { IfOk result (λ refused. IfSome (S.left script.old) (λ bytes. refused ≡ is_fault (reads bytes).end)) }
-    ensures err { OnErr result (IfSome (S.left script.old) (λ bytes. IsStopped bytes (C.holds cert.old) (C.holds cert.new) (O.holds out.old) (O.holds out.new))) }
+    ensures err { OnErr result (IfSome (S.left script.old) (λ bytes. IsStopped plan.now.steps None bytes (C.holds cert.old) (C.holds cert.new) (O.holds out.old) (O.holds out.new))) }
+    ensures paused { IsErrOf result Stop.ReadFault → IfSome (S.left script.old) (λ bytes. (text : List ℕ) × IsTaken text bytes (S.left script.new)
+        × IsPaused plan.now.steps text (C.holds cert.old) (C.holds cert.new) (O.holds out.old) (O.holds out.new)) }
+    ensures taken { IfSome (S.left script.old) (λ bytes. (text : List ℕ) × IsTaken text bytes (S.left script.new)) }
+    ensures named { OnOk result (Becomes plan.now.cert_name (C.name cert.old) (C.name cert.new)) }
     ensures cause_script { IsErrOf result Stop.ReadFault → Rose (S.faults script.old) (S.faults script.new) }
     ensures cause_out { IsErrOf result Stop.WriteFault → Rose (O.faults out.old) (O.faults out.new) }
     ensures cause_cert { IsErrOf result Stop.CertFault → Rose (C.faults cert.old) (C.faults cert.new) }
 {
-    create_certificate(cert, name)?;
-    let bytes = read_script(alloc, script)?;
-    answer_text(alloc, bytes.as_slice(), out, cert)
+    create_certificate(cert, plan.cert_name.as_str())?;
+    let mut session = first_session(alloc, plan.steps)?;
+    run(&mut session, script, out, cert)
+}
+
+/// The line that says how large a generated script is, and how its checks were answered.
+fn made_line(alloc: Global, size: u64, tally: Tally) -> Result<String, AllocError>
+    ensures { IfOk result (λ text. (entries : List CertEntry) → Counts tally entries → string_bytes text ≡ made_answer (Some size) entries) }
+{
+    let mut text = String::new(alloc);
+    write!(text, "made {size} sat {} unsat {} unknown {}\n", tally.sat, tally.unsat, tally.unknown)?;
+    Ok(text)
+}
+
+/// Answers a generated script of this size, and then says how its checks were answered.
+fn answer_generated<O: Sink, C: NamedSink>(
+    alloc: Global,
+    plan: &Plan,
+    size: u64,
+    out: &mut O,
+    cert: &mut C,
+) -> Result<bool, Stop>
+    requires budget { IsBudget plan.now.steps }
+    requires some { 0 < size }
+    requires few { size ≤ 10000 }
+    ensures ok { OnOk result (IsWhole plan.now.steps (Some size) (made_text size) (C.holds cert.old) (C.holds cert.new) (O.holds out.old) (O.holds out.new)) }
+    ensures refused { IfOk result (λ refused. refused ≡ is_fault (reads (made_text size)).end) }
+    ensures err { OnErr result (IsStopped plan.now.steps (Some size) (made_text size) (C.holds cert.old) (C.holds cert.new) (O.holds out.old) (O.holds out.new)) }
+    ensures named { OnOk result (Becomes plan.now.cert_name (C.name cert.old) (C.name cert.new)) }
+    ensures only { ¬ (IsErrOf result Stop.ReadFault) }
+    ensures cause_out { IsErrOf result Stop.WriteFault → Rose (O.faults out.old) (O.faults out.new) }
+    ensures cause_cert { IsErrOf result Stop.CertFault → Rose (C.faults cert.old) (C.faults cert.new) }
+{
+    let text = make_script(alloc, size)?;
+    let mut script = SureSource::new(text.into_bytes());
+    let mut session = first_session(alloc, plan.steps)?;
+    create_certificate(cert, plan.cert_name.as_str())?;
+    let refused = run(&mut session, &mut script, out, cert)?;
+    let line = made_line(alloc, size, session.tally)?;
+    write_out(out, line.as_bytes())?;
+    Ok(refused)
+}
+
+/// The status of a run that ended so.
+fn status_of(ended: Result<bool, Stop>) -> SolveStatus
+    ensures { result ≡ status_of ended }
+{
+    match ended {
+        Ok(false) => SolveStatus::Done,
+        Ok(true) => SolveStatus::Refused,
+        Err(Stop::ReadFault) => SolveStatus::ReadFault,
+        Err(Stop::WriteFault) => SolveStatus::WriteFault,
+        Err(Stop::CertFault) => SolveStatus::CertFault,
+        Err(Stop::Memory) => SolveStatus::Memory,
+    }
 }
 
 /// Reads a script, writes its answers, and leaves an entry for each of its checks in the certificate's file.
 ///
-/// The words are those of the command line: the program's name, `--cert` and the file's name. Each entry is one write,
-/// made before the verdict is written, and each answer is one write. At most 65,537 bytes of the script are read.
+/// The arguments are `--cert FILE [--steps N] [--make N]`, after the program's name. The script is read in pieces, and each command
+/// is answered as soon as it is whole; after `exit` and after a fault no more is read. Each entry is one write, made before the
+/// verdict is written, and each answer is one write. With `--make N` nothing is read, and a generated script is answered.
 ///
 /// # Errors
 ///
@@ -83,22 +170,28 @@ pub fn solve_main<'a, S: Source, O: Sink, C: NamedSink>(
     out: &mut O,
     cert: &mut C,
 ) -> SolveStatus
-    ensures usage { (result ≡ SolveStatus.Usage) ↔ (certificate_name (map (λ w. w.now) words.now) ≡ None) }
+    ensures usage { result ≡ SolveStatus.Usage → AreRefused (map (λ w. w.now) words.now) }
+    ensures refused { ¬ (AreTaken (map (λ w. w.now) words.now)) → (result ≡ SolveStatus.Usage) ⊎ (result ≡ SolveStatus.Memory) }
     ensures unused { result ≡ SolveStatus.Usage → (script.new ≡ script.old) × (out.new ≡ out.old) × (cert.new ≡ cert.old) }
-    ensures left { IfSome (S.left script.old) (λ bytes. IsLeft result bytes (C.holds cert.old) (C.holds cert.new) (O.holds out.old) (O.holds out.new)) }
+
+    // What the certificate and the output have, by the status and by what the arguments ask for.
+    ensures left { Leaves (map (λ w. w.now) words.now) result (S.left script.old) (C.holds cert.old) (C.holds cert.new) (O.holds out.old) (O.holds out.new) (C.name cert.old) (C.name cert.new) }
+
+    // How much of the script was taken, and what is answered where reading failed.
+    ensures paused { result ≡ SolveStatus.ReadFault → IfSome (S.left script.old) (λ bytes. (plan : SolvePlan) × HasPlan (map (λ w. w.now) words.now) plan × (text : List ℕ) × IsTaken text bytes (S.left script.new)
+        × IsPaused plan.steps text (C.holds cert.old) (C.holds cert.new) (O.holds out.old) (O.holds out.new)) }
+    ensures taken { IfSome (S.left script.old) (λ bytes. (text : List ℕ) × IsTaken text bytes (S.left script.new)) }
     ensures read_fault { result ≡ SolveStatus.ReadFault → Rose (S.faults script.old) (S.faults script.new) }
     ensures write_fault { result ≡ SolveStatus.WriteFault → Rose (O.faults out.old) (O.faults out.new) }
     ensures cert_fault { result ≡ SolveStatus.CertFault → Rose (C.faults cert.old) (C.faults cert.new) }
 {
-    let Some(name) = certificate_file(words) else {
-        return SolveStatus::Usage;
+    let plan = match Plan::read(alloc, words) {
+        Ok(plan) => plan,
+        Err(PlanStop::Usage) => return SolveStatus::Usage,
+        Err(PlanStop::Memory) => return SolveStatus::Memory,
     };
-    match answer_script(alloc, name, script, out, cert) {
-        Ok(false) => SolveStatus::Done,
-        Ok(true) => SolveStatus::Refused,
-        Err(Stop::ReadFault) => SolveStatus::ReadFault,
-        Err(Stop::WriteFault) => SolveStatus::WriteFault,
-        Err(Stop::CertFault) => SolveStatus::CertFault,
-        Err(Stop::Memory) => SolveStatus::Memory,
+    match plan.make {
+        None => status_of(answer_script(alloc, &plan, script, out, cert)),
+        Some(size) => status_of(answer_generated(alloc, &plan, size, out, cert)),
     }
 }

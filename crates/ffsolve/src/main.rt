@@ -1,9 +1,9 @@
 //! Answers the SMT-LIB script on standard input, and writes a certificate of the answers to a file.
 #![tactic(auto)]
 
-ghost use Rattle.std.specs.Prelude.{◌≡◌, ◌↔◌, map, None};
+ghost use Rattle.std.specs.Prelude.{◌≡◌, ◌⊎◌, map};
 ghost use Rattle.std.specs.Process.{exit_status};
-ghost use Rattle.ffc_solve.specs.Words.{certificate_name};
+ghost use Rattle.ffc_solve.specs.Arguments.{AreRefused, AreTaken};
 ghost use Rattle.ffc_solve.specs.Status.{code_of};
 
 use ffc_base::{FileSink, StdSink, StdSource};
@@ -15,7 +15,8 @@ use std::rt::{Env, Files};
 
 /// Answers the script on standard input. The words are those of the command line, the program's name first.
 fn answer<R: Files + Input + Print + AllocGlobal>(rt: &R, words: &[&str]) -> SolveStatus
-    ensures usage { (result ≡ SolveStatus.Usage) ↔ (certificate_name (map (λ w. w.now) words.now) ≡ None) }
+    ensures usage { result ≡ SolveStatus.Usage → AreRefused (map (λ w. w.now) words.now) }
+    ensures refused { ¬ (AreTaken (map (λ w. w.now) words.now)) → (result ≡ SolveStatus.Usage) ⊎ (result ≡ SolveStatus.Memory) }
 {
     let mut script = StdSource::new(rt.reader());
     let mut out = StdSink::new(io::writer(rt));
@@ -38,7 +39,7 @@ fn end<R: Eprint>(rt: &R, status: SolveStatus) -> ExitCode
 {
     if status == SolveStatus::Usage {
         // There is nobody to tell where standard error takes no text.
-        let _ = eprintln!(rt; "usage: ffsolve --cert FILE");
+        let _ = eprintln!(rt; "usage: ffsolve --cert FILE [--steps N] [--make N]");
     }
     ExitCode::from(status.code())
 }

@@ -1,31 +1,55 @@
-use Rattle.std.proofs.Common.{◌≡◌, take}
+use Rattle.std.proofs.Common.{◌≡◌, ℕ, List, Option, None, inl, inr, subst, arith}
 use Rattle.std.specs.Option.{IfSome}
-use Rattle.ffc_solve.proofs.Pieces.{on_err}
-use Rattle.ffc_solve.proofs.Ending.{whole_read, stopped_read, refused_read, stopped_behind_header, stopped_creating, if_any}
+use Rattle.ffc_base.specs.Outside.{Becomes}
+use Rattle.ffc_solve.specs.Solving.{IsPaused, IsStopped, IsTaken, IsWhole}
+use Rattle.ffc_solve.specs.Underway.{IsAnswered, IsCut, IsPausedAt}
+use Rattle.ffc_solve.proofs.ListLemmas.{on_err}
+use Rattle.ffc_solve.proofs.AdvanceLemmas.{err_weaker, ok_weaker}
+use Rattle.ffc_solve.proofs.EndingLemmas.{if_any, on_ok, paused_from, rose_later, stopped_creating, stopped_from, stopped_headed, told_if, whole_from}
 use Rattle.ffc_solve.proofs.solve.answer_script.Goals as goal
 
 pub returns-in_err-create_certificate-clause-err : goal.returns-in_err-create_certificate-clause-err
 returns-in_err-create_certificate-clause-err g c =
-    on_err c.from_residual.result _ (if_any (g.S.Source.left c.args.script.now) _ (λ bytes. stopped_creating bytes (g.C.Sink.holds c.args.cert.now) (g.C.Sink.holds c.create_certificate.new.cert) (g.O.Sink.holds c.args.out.now) c.in_err-create_certificate.ensures.err))
+    on_err c.from_residual.result _ (if_any (g.S.Source.left c.args.script.now) _ (λ b. stopped_creating c.args.plan.now.steps None b _ _ _ _ _ c.in_err-create_certificate.ensures.err))
 
-pub returns-in_err-bytes-clause-err : goal.returns-in_err-bytes-clause-err
-returns-in_err-bytes-clause-err g c =
-    on_err c.from_residual-in_err-bytes.result _ (if_any (g.S.Source.left c.args.script.now) _ (λ bytes. stopped_behind_header bytes (g.C.Sink.holds c.args.cert.now) (g.C.Sink.holds c.create_certificate.new.cert) (g.O.Sink.holds c.args.out.now) c.in_ok-create_certificate.ensures.ok))
+pub returns-in_err-session-clause-err : goal.returns-in_err-session-clause-err
+returns-in_err-session-clause-err g c =
+    on_err c.from_residual-in_err-session.result _ (if_any (g.S.Source.left c.args.script.now) _ (λ b. stopped_headed c.args.plan.now.steps None b _ _ _ c.in_ok-create_certificate.ensures.ok))
 
 pub returns-clause-ok : goal.returns-clause-ok
 returns-clause-ok g c =
-    let told : IfSome (g.S.Source.left c.args.script.now) (λ bytes. c.as_slice.result.now ≡ take 65537 bytes) = rw c.as_slice.ensures.value c.in_ok-bytes.ensures.ok in
-    whole_read c.answer_text.result (g.S.Source.left c.args.script.now) c.as_slice.result.now told (g.C.Sink.holds c.args.cert.now) (g.C.Sink.holds c.create_certificate.new.cert) (g.C.Sink.holds c.answer_text.new.cert) (g.O.Sink.holds c.args.out.now) (g.O.Sink.holds c.answer_text.new.out)
-    c.in_ok-create_certificate.ensures.ok c.answer_text.ensures.ok
+    let co = g.C.Sink.holds c.args.cert.now in
+    let c1 = g.C.Sink.holds c.create_certificate.new.cert in
+    let cn = g.C.Sink.holds c.run.new.cert in
+    let oo = g.O.Sink.holds c.args.out.now in
+    let on = g.O.Sink.holds c.run.new.out in
+    on_ok c.run.result _ _ (λ refused h. told_if (g.S.Source.left c.args.script.now) _ _ (λ b answered.
+    whole_from c.args.plan.now.steps b refused c.run.new.session co c1 cn oo on c.in_ok-create_certificate.ensures.ok
+    (subst (λ n. IsAnswered n b refused c.run.new.session c1 cn oo on) c.in_ok-session.ensures.steps answered)) h) c.run.ensures.ok
 
 pub returns-clause-refused : goal.returns-clause-refused
 returns-clause-refused g c =
-    let told : IfSome (g.S.Source.left c.args.script.now) (λ bytes. c.as_slice.result.now ≡ take 65537 bytes) = rw c.as_slice.ensures.value c.in_ok-bytes.ensures.ok in
-    refused_read c.answer_text.result (g.S.Source.left c.args.script.now) c.as_slice.result.now told (g.C.Sink.holds c.args.cert.now) (g.C.Sink.holds c.create_certificate.new.cert) (g.C.Sink.holds c.answer_text.new.cert) (g.O.Sink.holds c.args.out.now) (g.O.Sink.holds c.answer_text.new.out)
-    c.in_ok-create_certificate.ensures.ok c.answer_text.ensures.refused
+    ok_weaker c.run.result _ _ (λ refused h. told_if (g.S.Source.left c.args.script.now) _ _ (λ b answered. IsAnswered.ended answered) h) c.run.ensures.ok
 
 pub returns-clause-err : goal.returns-clause-err
 returns-clause-err g c =
-    let told : IfSome (g.S.Source.left c.args.script.now) (λ bytes. c.as_slice.result.now ≡ take 65537 bytes) = rw c.as_slice.ensures.value c.in_ok-bytes.ensures.ok in
-    stopped_read c.answer_text.result (g.S.Source.left c.args.script.now) c.as_slice.result.now told (g.C.Sink.holds c.args.cert.now) (g.C.Sink.holds c.create_certificate.new.cert) (g.C.Sink.holds c.answer_text.new.cert) (g.O.Sink.holds c.args.out.now) (g.O.Sink.holds c.answer_text.new.out)
-    c.in_ok-create_certificate.ensures.ok c.answer_text.ensures.err
+    let co = g.C.Sink.holds c.args.cert.now in
+    let c1 = g.C.Sink.holds c.create_certificate.new.cert in
+    let cn = g.C.Sink.holds c.run.new.cert in
+    let oo = g.O.Sink.holds c.args.out.now in
+    let on = g.O.Sink.holds c.run.new.out in
+    err_weaker c.run.result _ _ (λ h. told_if (g.S.Source.left c.args.script.now) _ _ (λ b cut.
+    stopped_from c.args.plan.now.steps None b co c1 cn oo on c.in_ok-create_certificate.ensures.ok (subst (λ n. IsCut n b c1 cn oo on) c.in_ok-session.ensures.steps cut)) h) c.run.ensures.err
+
+pub returns-clause-paused : goal.returns-clause-paused
+returns-clause-paused g c = λ is.
+    let co = g.C.Sink.holds c.args.cert.now in
+    let c1 = g.C.Sink.holds c.create_certificate.new.cert in
+    let cn = g.C.Sink.holds c.run.new.cert in
+    let oo = g.O.Sink.holds c.args.out.now in
+    let on = g.O.Sink.holds c.run.new.out in
+    told_if (g.S.Source.left c.args.script.now) _ _ (λ b h.
+    (h.0, h.1, paused_from c.args.plan.now.steps h.0 co c1 cn oo on c.in_ok-create_certificate.ensures.ok (subst (λ n. IsPausedAt n h.0 c1 cn oo on) c.in_ok-session.ensures.steps h.2))) (c.run.ensures.paused is)
+
+pub returns-clause-cause_cert : goal.returns-clause-cause_cert
+returns-clause-cause_cert g c = λ is. rose_later _ _ _ c.in_ok-create_certificate.ensures.later (c.run.ensures.cause_cert is)

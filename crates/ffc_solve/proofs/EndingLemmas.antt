@@ -1,0 +1,213 @@
+-- From what was written after the first line to what a run leaves.
+use Rattle.std.proofs.Common.{◌≡◌, ℕ, ◌+◌, ◌<◌, ◌≤◌, ◌⊎◌, inl, inr, Bool, true, false, cond, List, [], ◌∷◌, ◌++◌, length, take, drop, Option, Some, None, refl, sym, ap, ◌∙◌, subst, arith, append_assoc, append-nil, length-append, Result, Ok, Err, OnOk, OnErr}
+use Rattle.std.specs.List.{flat_map}
+use Rattle.std.specs.Option.{IfSome}
+use Rattle.std.specs.Result.{IfOk}
+use Rattle.ffc_base.specs.Outside.{Appends, AppendsPrefix, Becomes, Rose}
+use Rattle.ffc_cert.specs.declared.entries.Entry.{Entry}
+use Rattle.ffc_cert.specs.Spelling.{entry_text, header, text_of}
+use Rattle.ffc_smt.specs.Scripts.{Script, reads}
+use Rattle.ffc_smt.specs.TableChecks.{table_checks}
+use Rattle.ffc_answer.specs.Answers.{has_all_entries, made_answer, run_answers, script_answers}
+use Rattle.ffc_solve.specs.declared.session.Session.{Session}
+use Rattle.ffc_solve.specs.Solving.{IsBegun, IsPaused, IsStopped, IsTaken, IsWhole}
+use Rattle.ffc_solve.specs.Underway.{IsAnswered, IsCut, IsPausedAt, is_fault}
+use Rattle.ffc_solve.proofs.ListLemmas.{Appends-nil, AppendsPrefix-none, Becomes-more, front_is_prefix, WroteFront, front_of}
+use Rattle.std.proofs.lemmas.Bool.{false≢true}
+use Rattle.std.proofs.lemmas.List.{take-append-drop, take_all, length-map}
+use Rattle.std.specs.List.{AllByRecursion}
+use Rattle.std.proofs.Common.{map}
+use Rattle.ffc_cert.specs.Laws.{line_count, numbered_from}
+use Rattle.ffc_cert.proofs.BackLemmas.{reads_back}
+use Rattle.ffc_cert.specs.Reading.{reading_of}
+use Rattle.ffc_cert.specs.WellFormed.{IsReadable}
+use Rattle.ffc_smt.specs.Scripts as scripts
+use Rattle.ffc_smt.specs.Scripts.{End}
+use Rattle.ffc_smt.specs.TableChecks.{TableCheck}
+use Rattle.ffc_rules.specs.Entries.{Broken, limits}
+use Rattle.ffc_rules.specs.Judging.{Accepted, Accepts, Judgement, Refused, Rule, counts_of, first_broken, judgement_of, node_check}
+use Rattle.ffc_solve.specs.Solving.{AreEntries}
+use Rattle.ffc_solve.specs.Status.{IsAccepted, IsFull, IsLeft, Leaves, script_given, status_of}
+use Rattle.ffc_solve.specs.declared.solve.SolveStatus.{SolveStatus}
+use Rattle.clap.specs.Words.{Text}
+use Rattle.ffc_solve.specs.declared.arguments.Plan.{Plan}
+use Rattle.ffc_solve.specs.Arguments.{HasPlan}
+use Rattle.ffc_solve.specs.declared.solve.SolveStatus.TheVariants as status
+use Rattle.ffc_solve.specs.declared.stop.Stop.{Stop}
+use Rattle.ffc_solve.specs.declared.stop.Stop.TheVariants as stops
+
+no_made : (b : Bool) → (let none : List ℕ = [] in cond b none none ≡ none)
+no_made true = refl
+no_made false = refl
+
+-- a script that is not generated has no more answers
+run_plain : (script : Script) (entries : List Entry) → run_answers None script entries ≡ script_answers script entries
+run_plain script entries = ap (λ a. script_answers script entries ++ a) (no_made (has_all_entries script.steps entries)) ∙ append-nil (script_answers script entries)
+
+pub text_is : (entries : List Entry) → header 2 ++ flat_map entry_text entries ≡ text_of 2 entries
+unfolding text_of
+text_is entries = refl
+
+pub whole_from : (budget : ℕ) (b : List ℕ) (refused : Bool) (s : Session) (co c1 cn oo on : Option (List ℕ)) → Becomes (header 2) co c1 → IsAnswered budget b refused s c1 cn oo on → IsWhole budget None b co cn oo on
+whole_from budget b refused s co c1 cn oo on first h = record {
+  entries = h.entries;
+  each = h.each;
+  all = h.all;
+  certificate = subst (λ a. Becomes a co cn) (text_is h.entries) (Becomes-more (header 2) (flat_map entry_text h.entries) co c1 cn first h.certificate);
+  answered = subst (λ a. Appends a oo on) (sym (run_plain (reads b) h.entries)) h.answered;
+}
+
+longer_prefix : (a tail : List ℕ) (x y : Option (List ℕ)) → AppendsPrefix a x y → AppendsPrefix (a ++ tail) x y
+longer_prefix a tail x y h =
+    let front = front_of a x y h in
+    front_is_prefix (a ++ tail) x y (take front.size a) (drop front.size a ++ tail)
+    (ap (λ b. b ++ tail) (sym (take-append-drop front.size a)) ∙ append_assoc (take front.size a) (drop front.size a) tail) front.appended
+
+pub stopped_from : (budget : ℕ) (make : Option ℕ) (b : List ℕ) (co c1 cn oo on : Option (List ℕ)) → Becomes (header 2) co c1 → IsCut budget b c1 cn oo on → IsStopped budget make b co cn oo on
+stopped_from budget make b co c1 cn oo on first h = inr (record {
+  entries = h.entries;
+  each = h.each;
+  text = text_of 2 h.entries ++ h.part;
+  part = inr (h.part, refl, h.rest);
+  certificate = subst (λ a. Becomes a co cn) (sym (append_assoc (header 2) (flat_map entry_text h.entries) h.part) ∙ ap (λ a. a ++ h.part) (text_is h.entries))
+      (Becomes-more (header 2) (flat_map entry_text h.entries ++ h.part) co c1 cn first h.certificate);
+  answered = longer_prefix (script_answers (reads b) h.entries) (cond (has_all_entries (reads b).steps h.entries) (made_answer make h.entries) []) oo on h.answered;
+})
+
+-- a certificate with its first line alone, or a front of it
+pub stopped_early : (budget : ℕ) (make : Option ℕ) (b : List ℕ) (n : ℕ) (co cn oo : Option (List ℕ)) → Becomes (take n (header 2)) co cn → IsStopped budget make b co cn oo oo
+stopped_early budget make b n co cn oo h = inr (record {
+  entries = [];
+  each = tt;
+  text = take n (header 2);
+  part = inl (refl, (n, refl));
+  certificate = h;
+  answered = AppendsPrefix-none (run_answers make (reads b) []) oo;
+})
+
+pub paused_from : (budget : ℕ) (text : List ℕ) (co c1 cn oo on : Option (List ℕ)) → Becomes (header 2) co c1 → IsPausedAt budget text c1 cn oo on → IsPaused budget text co cn oo on
+paused_from budget text co c1 cn oo on first h = record {
+  steps = h.steps;
+  state = h.state;
+  run = h.run;
+  sound = h.sound;
+  entries = h.entries;
+  each = h.each;
+  all = h.all;
+  certificate = subst (λ a. Becomes a co cn) (text_is h.entries) (Becomes-more (header 2) (flat_map entry_text h.entries) co c1 cn first h.certificate);
+  answered = h.answered;
+}
+
+-- where a script is told
+
+pub if_any : (o : Option (List ℕ)) (P : List ℕ → Type 0) → ((b : List ℕ) → P b) → IfSome o P
+if_any None P f = tt
+if_any (Some b) P f = f b
+
+pub told_if : (o : Option (List ℕ)) (P Q : List ℕ → Type 0) → ((b : List ℕ) → P b → Q b) → IfSome o P → IfSome o Q
+told_if None P Q f h = tt
+told_if (Some b) P Q f h = f b h
+
+-- the first line alone
+pub stopped_headed : (budget : ℕ) (make : Option ℕ) (b : List ℕ) (co cn oo : Option (List ℕ)) → Becomes (header 2) co cn → IsStopped budget make b co cn oo oo
+stopped_headed budget make b co cn oo h = stopped_early budget make b (length (header 2)) co cn oo (subst (λ a. Becomes a co cn) (sym (take_all (length (header 2)) (header 2) (omega arith))) h)
+
+pub stopped_creating : (budget : ℕ) (make : Option ℕ) (b : List ℕ) (co cn oo : Option (List ℕ)) (P Q : Type 0) → (((cn ≡ co) × P) ⊎ (((n : ℕ) × Becomes (take n (header 2)) co cn) × Q)) → IsStopped budget make b co cn oo oo
+stopped_creating budget make b co cn oo P Q (inl same) = inl (same.0, refl)
+stopped_creating budget make b co cn oo P Q (inr begun) = stopped_early budget make b begun.0.0 co cn oo begun.0.1
+
+pub on_ok : {T E : Type 0} (r : Result T E) (P : T → Type 0) (Q : Type 0) → ((x : T) → P x → Q) → IfOk r P → OnOk r Q
+on_ok (Ok x) P Q f h = f x h
+on_ok (Err e) P Q f h = tt
+
+pub on_any : {T E : Type 0} (r : Result T E) (Q : Type 0) → Q → OnOk r Q
+on_any (Ok x) Q h = h
+on_any (Err e) Q h = tt
+
+-- What is written is accepted
+
+none_broken : (budget : ℕ) (checks : List TableCheck) (entries : List Entry) (number line : ℕ) → AreEntries budget checks entries → first_broken limits (map node_check checks) (numbered_from number line entries) ≡ None
+unfolding first_broken
+none_broken budget checks [] number line each = refl
+none_broken budget [] (e ∷ es) number line each = absurd each
+none_broken budget (c ∷ cs) (e ∷ es) number line each =
+    ap (λ (o : Option Broken). elim o as (λ _. Option Judgement) [ Some broken ↦ Some (Refused number broken.line (Rule broken.rule)) | None ↦ first_broken limits (map node_check cs) (numbered_from (number + 1) (line + line_count e) es) ]) (each.0.right line)
+    ∙ none_broken budget cs es (number + 1) (line + line_count e) each.1
+
+all_readable : (budget : ℕ) (checks : List TableCheck) (entries : List Entry) → AreEntries budget checks entries → AllByRecursion (IsReadable 2) entries
+all_readable budget checks [] each = tt
+all_readable budget [] (e ∷ es) each = absurd each
+all_readable budget (c ∷ cs) (e ∷ es) each = (each.0.readable, all_readable budget cs es each.1)
+
+pub whole_accepted : (budget : ℕ) (b : List ℕ) (entries : List Entry) → AreEntries budget (table_checks (reads b).steps) entries → length entries ≡ length (table_checks (reads b).steps) → (reads b).end ≡ scripts.Done → Accepts b (text_of 2 entries)
+unfolding judgement_of
+whole_accepted budget b entries each all done =
+    let checks = table_checks (reads b).steps in
+    let count : length (map node_check checks) ≡ length entries = length-map checks node_check ∙ sym all in
+    let back = reads_back 2 entries (inr refl) (all_readable budget checks entries each) in
+    let reading = ap (λ n. reading_of n (text_of 2 entries)) count ∙ back in
+    record {
+      done = done;
+      counts = counts_of (numbered_from 1 2 entries);
+      accepted = ap (judgement_of limits (map node_check checks)) reading
+          ∙ ap (λ (o : Option Judgement). elim o as (λ _. Judgement) [ Some refused ↦ refused | None ↦ Accepted (counts_of (numbered_from 1 2 entries)) ]) (none_broken budget checks entries 1 2 each);
+    }
+
+pub accepted_from : (budget : ℕ) (make : Option ℕ) (b : List ℕ) (co cn oo on : Option (List ℕ)) → IsWhole budget make b co cn oo on → is_fault (reads b).end ≡ false → (held : List ℕ) → co ≡ Some held → IsAccepted b cn
+accepted_from budget make b co cn oo on h sound held told =
+    let now : cn ≡ Some (text_of 2 h.entries) = (let P : Option (List ℕ) → Type 0 = λ o. Becomes (text_of 2 h.entries) o cn in subst P told h.certificate) in
+    subst (IsAccepted b) (sym now) (whole_accepted budget b h.entries h.each h.all (no_fault (reads b).end sound))
+  where
+    no_fault : (e : End) → is_fault e ≡ false → e ≡ scripts.Done
+    no_fault scripts.Done s = refl
+    no_fault (scripts.AtFault l c k) s = absurd (false≢true (sym s))
+
+-- a count that rose later has risen
+pub rose_later : (a b c : ℕ) → a ≤ b → Rose b c → Rose a c
+rose_later a b c le (inl rose) = inl (omega arith)
+rose_later a b c le (inr last) = inr last
+
+-- Statuses
+
+pub left_by : (r : Result Bool Stop) (budget : ℕ) (make : Option ℕ) (lo co cn oo on : Option (List ℕ)) → OnOk r (IfSome lo (λ b. IsWhole budget make b co cn oo on)) → IfOk r (λ refused. IfSome lo (λ b. refused ≡ is_fault (reads b).end))
+    → OnErr r (IfSome lo (λ b. IsStopped budget make b co cn oo on)) → IfSome lo (λ b. IsLeft (status_of r) budget make b co cn oo on)
+left_by (Ok true) budget make None co cn oo on whole ended stopped = tt
+left_by (Ok true) budget make (Some b) co cn oo on whole ended stopped = (whole, sym ended)
+left_by (Ok false) budget make None co cn oo on whole ended stopped = tt
+left_by (Ok false) budget make (Some b) co cn oo on whole ended stopped = (whole, sym ended)
+left_by (Err stops.ReadFault) budget make lo co cn oo on whole ended stopped = stopped
+left_by (Err stops.WriteFault) budget make lo co cn oo on whole ended stopped = stopped
+left_by (Err stops.CertFault) budget make lo co cn oo on whole ended stopped = stopped
+left_by (Err stops.Memory) budget make lo co cn oo on whole ended stopped = stopped
+
+pub named_by : (r : Result Bool Stop) (name : List ℕ) (n0 n1 : Option (List ℕ)) → OnOk r (Becomes name n0 n1) → IsFull (status_of r) → Becomes name n0 n1
+named_by (Ok true) name n0 n1 named full = named
+named_by (Ok false) name n0 n1 named full = named
+named_by (Err stops.ReadFault) name n0 n1 named full = absurd full
+named_by (Err stops.WriteFault) name n0 n1 named full = absurd full
+named_by (Err stops.CertFault) name n0 n1 named full = absurd full
+named_by (Err stops.Memory) name n0 n1 named full = absurd full
+
+pub accepted_by : (r : Result Bool Stop) (budget : ℕ) (make : Option ℕ) (lo co cn oo on : Option (List ℕ)) → OnOk r (IfSome lo (λ b. IsWhole budget make b co cn oo on)) → IfOk r (λ refused. IfSome lo (λ b. refused ≡ is_fault (reads b).end))
+    → status_of r ≡ status.Done → IfSome lo (λ b. (held : List ℕ) → co ≡ Some held → IsAccepted b cn)
+accepted_by (Ok false) budget make None co cn oo on whole ended done = tt
+accepted_by (Ok false) budget make (Some b) co cn oo on whole ended done = accepted_from budget make b co cn oo on whole (sym ended)
+accepted_by (Ok true) budget make lo co cn oo on whole ended done = cc
+accepted_by (Err stops.ReadFault) budget make lo co cn oo on whole ended done = cc
+accepted_by (Err stops.WriteFault) budget make lo co cn oo on whole ended done = cc
+accepted_by (Err stops.CertFault) budget make lo co cn oo on whole ended done = cc
+accepted_by (Err stops.Memory) budget make lo co cn oo on whole ended done = cc
+
+pub planned : (words : List Text) (plan : Plan) (make : Option ℕ) (r : Result Bool Stop) (left co cn oo on n0 n1 : Option (List ℕ)) (s : SolveStatus) → HasPlan words plan → plan.make ≡ make → s ≡ status_of r
+    → OnOk r (IfSome (script_given make left) (λ b. IsWhole plan.steps make b co cn oo on)) → IfOk r (λ refused. IfSome (script_given make left) (λ b. refused ≡ is_fault (reads b).end))
+    → OnErr r (IfSome (script_given make left) (λ b. IsStopped plan.steps make b co cn oo on)) → OnOk r (Becomes plan.cert_name n0 n1)
+    → Leaves words s left co cn oo on n0 n1
+planned words plan make r left co cn oo on n0 n1 s has made is whole ended stopped named = inr (record {
+  plan = plan;
+  has = has;
+  leaves = subst (λ t. IfSome (script_given plan.make left) (λ b. IsLeft t plan.steps plan.make b co cn oo on)) (sym is)
+      (subst (λ m. IfSome (script_given m left) (λ b. IsLeft (status_of r) plan.steps m b co cn oo on)) (sym made) (left_by r plan.steps make (script_given make left) co cn oo on whole ended stopped));
+  named = λ full. named_by r plan.cert_name n0 n1 named (subst IsFull is full);
+  accepted = λ done. subst (λ m. IfSome (script_given m left) (λ b. (held : List ℕ) → co ≡ Some held → IsAccepted b cn)) (sym made)
+      (accepted_by r plan.steps make (script_given make left) co cn oo on whole ended (sym is ∙ done));
+})

@@ -1,0 +1,159 @@
+//! The arguments of the command line.
+ghost use Rattle.std.specs.Prelude.{◌≡◌, ◌≢◌, [], map, unwrap_or, IfOk, IfSome, IsErrOf, OnErr};
+ghost use Rattle.clap.specs.Words.{app_of, first_value, found_of, kind_of};
+ghost use Rattle.ffc_solve.specs.Arguments.{AreRefused, HasPlan, IsInRange, IsNumber, IsOutside, solve_app};
+
+use clap::error::ErrorKind;
+use clap::{Arg, ArgAction, ArgMatches, Command, Error};
+use std::alloc::{AllocError, Global};
+use std::marker::Model;
+
+/// The units of work that a check may take, where the arguments do not say it.
+const DEFAULT_STEPS: u64 = 1_000_000;
+
+/// The most units of work that may be asked for.
+const MOST_STEPS: u64 = 1_000_000_000_000;
+
+/// The largest generated script.
+const MOST_MADE: u64 = 10_000;
+
+/// The name of a file. Clauses see its text.
+#[derive(Debug, Drop)]
+pub struct Name {
+    text: String,
+}
+
+impl Model for Name {
+    ghost use Rattle.std.specs.Prelude.{List, ℕ, string_bytes};
+
+    ghost Value = { List ℕ };
+
+    ghost view = { λ n. string_bytes n.text };
+}
+
+impl Name {
+    ghost use Rattle.std.specs.Prelude.{◌≡◌};
+
+    pub fn as_str(&self) -> &str
+        ensures { result.now ≡ self.now }
+    {
+        self.text.as_str()
+    }
+}
+
+/// What the arguments `--cert FILE [--steps N] [--make N]` ask for.
+#[derive(Debug, Drop)]
+pub struct Plan {
+    /// The name of the certificate's file.
+    pub cert_name: Name,
+    /// The units of work that a check may take.
+    pub steps: u64,
+    /// The size of a generated script, where one is asked for.
+    pub make: Option<u64>,
+}
+
+/// Why there is no plan.
+#[derive(Clone, Copy, Debug, PartialEq, Eq)]
+pub enum PlanStop {
+    /// The arguments are refused.
+    Usage,
+    /// Out of memory.
+    Memory,
+}
+
+impl From<AllocError> for PlanStop {
+    ghost use Rattle.ffc_solve.specs.declared.arguments.PlanStop.TheVariants.{Memory};
+
+    ghost from_gives = { λ _ stop. stop ≡ Memory };
+
+    fn from(_error: AllocError) -> PlanStop {
+        PlanStop::Memory
+    }
+}
+
+/// The command.
+fn solve_command<'a>(alloc: Global) -> Result<Command<'a>, AllocError>
+    ensures { IfOk result (λ c. app_of c ≡ solve_app) }
+{
+    let cert = Arg::new(alloc, "cert")
+        .long("cert")
+        .required(true)
+        .action(ArgAction::Set);
+    let steps = Arg::new(alloc, "steps")
+        .long("steps")
+        .action(ArgAction::Set);
+    let make = Arg::new(alloc, "make")
+        .long("make")
+        .action(ArgAction::Set);
+    Command::new(alloc, "ffsolve")
+        .disable_help_flag(true)
+        .arg(cert)?
+        .arg(steps)?
+        .arg(make)
+}
+
+/// Why the arguments were not taken.
+fn stop_of(error: &Error) -> PlanStop
+    ensures { result ≡ PlanStop.Usage → kind_of error.now ≢ ErrorKind.OutOfMemory }
+{
+    if error.kind() == ErrorKind::OutOfMemory {
+        PlanStop::Memory
+    } else {
+        PlanStop::Usage
+    }
+}
+
+/// The text that is given, and the empty one where none is.
+fn text_in<'a>(matches: &ArgMatches<'a>, id: &str) -> &'a str
+    ensures { result.now ≡ unwrap_or (first_value (found_of matches.now) id.now) [] }
+{
+    match matches.get_str(id) {
+        Some(text) => text,
+        None => "",
+    }
+}
+
+/// A number in its range, where one is given.
+fn number_in(matches: &ArgMatches, id: &str, most: u64) -> Result<Option<u64>, PlanStop>
+    ensures number { IfOk result (IsNumber (first_value (found_of matches.now) id.now)) }
+    ensures range { IfOk result (λ given. IfSome given (IsInRange most)) }
+    ensures usage { OnErr result (IsOutside most (first_value (found_of matches.now) id.now)) }
+{
+    let Some(text) = matches.get_str(id) else {
+        return Ok(None);
+    };
+    match text.parse::<u64>() {
+        Ok(n) => {
+            if n > 0 && n <= most {
+                Ok(Some(n))
+            } else {
+                Err(PlanStop::Usage)
+            }
+        }
+        Err(_) => Err(PlanStop::Usage),
+    }
+}
+
+impl Plan {
+    /// Reads the arguments, the program's name first.
+    pub fn read<'a>(alloc: Global, words: &'a [&'a str]) -> Result<Plan, PlanStop>
+        ensures plan { IfOk result (HasPlan (map (λ w. w.now) words.entry.now)) }
+        ensures usage { IsErrOf result PlanStop.Usage → AreRefused (map (λ w. w.now) words.entry.now) }
+    {
+        let command = solve_command(alloc)?;
+        let matches = match command.try_get_matches_from(words) {
+            Ok(matches) => matches,
+            Err(error) => return Err(stop_of(&error)),
+        };
+        let steps = number_in(&matches, "steps", MOST_STEPS)?;
+        let make = number_in(&matches, "make", MOST_MADE)?;
+        let name = text_in(&matches, "cert");
+        Ok(Plan {
+            cert_name: Name {
+                text: String::from_str(alloc, name)?,
+            },
+            steps: steps.unwrap_or(DEFAULT_STEPS),
+            make,
+        })
+    }
+}

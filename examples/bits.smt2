@@ -1,0 +1,10 @@
+; Two bits that sum to three.
+(set-logic QF_FF)
+(define-sort F () (_ FiniteField 65537))
+(declare-const b0 F)
+(declare-const b1 F)
+(assert (= (ff.mul b0 b0) b0))
+(assert (= (ff.mul b1 b1) b1))
+(assert (= (ff.bitsum b0 b1) (as ff3 F)))
+(check-sat)
+(get-model)

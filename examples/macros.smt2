@@ -1,0 +1,11 @@
+; A macro's free name means the constant that was declared before it.
+(set-logic QF_FF)
+(define-sort F () (_ FiniteField 17))
+(declare-const x F)
+(declare-const y F)
+(define-fun f ((x F)) F (ff.add x y))
+(define-fun h ((y F)) F (f y))
+(assert (= x (as ff3 F)))
+(assert (= y (as ff5 F)))
+(check-sat)
+(get-value ((f (f x)) (h x)))
