@@ -1,7 +1,7 @@
 -- Reading a text piece by piece.
-use Rattle.std.proofs.Common.{◌≡◌, ℕ, ◌+◌, ◌≤◌, ◌⊎◌, inl, inr, List, [], ◌++◌, length, take, drop, Option, Some, None, MatchOption, Result, Ok, Err, OnErr, refl, sym, ap, subst, ◌∙◌, append_assoc, append-nil, arith}
+use Rattle.std.proofs.Common.{◌≡◌, ℕ, ◌+◌, ◌≤◌, ◌⊎◌, inl, inr, List, [], ◌++◌, length, take, drop, Option, Some, None, MatchOption, Result, Ok, Err, OnErr, refl, sym, ap, subst, ◌∙◌, append_assoc, append-nil, arith, length-append}
 use Rattle.std.specs.Option.{IfSome}
-use Rattle.std.proofs.lemmas.List.{take-append-drop, take-append-le, take_all}
+use Rattle.std.proofs.lemmas.List.{take-append-drop, take-append-le, take_all, length-take}
 use Rattle.ffc_base.specs.Outside.{MovesFront}
 use Rattle.ffc_cert.specs.declared.entries.CertFault.{CertFault}
 use Rattle.ffc_cert.specs.declared.entries.Entry.{Entry}
@@ -12,6 +12,7 @@ use Rattle.ffc_cert.specs.WellFormed.{IsReadableIn}
 use Rattle.ffc_check.specs.Judged.{IsReadableEntry}
 use Rattle.ffc_verify.specs.declared.entries.NextEntry.{NextEntry}
 use Rattle.ffc_verify.specs.declared.entries.NextEntry.TheVariants as next
+use Rattle.ffc_verify.specs.Status.{TakesFront}
 use Rattle.ffc_verify.specs.Reading.{MovesOn, IsAtEnd, IsWhole, IsOpen, Grows, IsNext, EndsAs}
 
 -- the text is what was read of the bytes that were left first, and the others are left now
@@ -46,6 +47,27 @@ HasRead-all (Some bytes) now new text buffer n (rest, is, left) m e few =
     let step = moved n buffer rest now new left m in
     let whole : bytes ≡ text = is ∙ rw (step.3 e) (append-nil text) in
     rw whole (sym (take_all 67108865 text few))
+
+-- what was read was taken
+read_takes : (first now : Option (List ℕ)) (text : List ℕ) → HasRead first now text → length text ≤ 67108865 → IfSome first (λ bytes. TakesFront bytes now)
+read_takes None now text h few = tt
+read_takes (Some bytes) now text (rest, is, left) few = record { text = text; rest = rest; split = is; left = left; few = few }
+
+-- so it was where nothing more is taken
+pub same_takes : (first now last : Option (List ℕ)) (text : List ℕ) → HasRead first now text → last ≡ now → length text ≤ 67108865 → IfSome first (λ bytes. TakesFront bytes last)
+same_takes first now last text h e few = read_takes first last text (let P : Option (List ℕ) → Type 0 = λ o. HasRead first o text in subst P (sym e) h) few
+
+-- and with one more piece
+pub piece_takes : (first now new last : Option (List ℕ)) (text buffer : List ℕ) (n : ℕ) → HasRead first now text → MovesFront n buffer now new → last ≡ new → length text + n ≤ 67108865
+    → IfSome first (λ bytes. TakesFront bytes last)
+piece_takes first now new last text buffer n h m e few =
+    let short : length (take n buffer) ≤ n = let e = length-take n buffer in omega arith in
+    same_takes first new last (text ++ take n buffer) (HasRead-more first now new text buffer n h m) e (omega (arith, length-append text (take n buffer)))
+
+-- a call that read nothing took nothing
+pub nothing_takes : (left : Option (List ℕ)) → IfSome left (λ bytes. TakesFront bytes left)
+nothing_takes None = tt
+nothing_takes (Some bytes) = record { text = []; rest = bytes; split = refl; left = refl; few = omega arith }
 
 -- what holds anyway holds at an error
 pub on_err : {T E : Type 0} (r : Result T E) (P : Type 0) → P → OnErr r P

@@ -52,10 +52,11 @@ says_without stop s left out e h = subst (λ x. IfSome left (λ bytes. SaysOfScr
     by_stop stops.CertFault h = h refl
     by_stop stops.Memory h = if_any left (λ bytes. SaysOfScript status.Memory bytes out out) (λ bytes. tt)
 
-pub which_stop : (stop : AnswerStop) (s : CheckStatus) → s ≡ status_at stop → (s ≡ status.ReadFault → stop ≡ stops.ReadFault) × (s ≡ status.CertFault → stop ≡ stops.CertFault) × (s ≡ status.WriteFault → ⊥) × (s ≡ status.Usage → ⊥)
-which_stop stops.ReadFault s e = ((λ h. refl), (λ h. cc), (λ h. cc), (λ h. cc))
-which_stop stops.CertFault s e = ((λ h. cc), (λ h. refl), (λ h. cc), (λ h. cc))
-which_stop stops.Memory s e = ((λ h. cc), (λ h. cc), (λ h. cc), (λ h. cc))
+pub which_stop : (stop : AnswerStop) (s : CheckStatus) → s ≡ status_at stop
+    → (s ≡ status.ReadFault → stop ≡ stops.ReadFault) × (s ≡ status.CertFault → stop ≡ stops.CertFault) × (s ≡ status.WriteFault → ⊥) × (s ≡ status.Usage → ⊥) × (s ≡ status.ScriptRefused → ⊥)
+which_stop stops.ReadFault s e = ((λ h. refl), (λ h. cc), (λ h. cc), (λ h. cc), (λ h. cc))
+which_stop stops.CertFault s e = ((λ h. cc), (λ h. refl), (λ h. cc), (λ h. cc), (λ h. cc))
+which_stop stops.Memory s e = ((λ h. cc), (λ h. cc), (λ h. cc), (λ h. cc), (λ h. cc))
 
 -- an answer is never one of these statuses
 pub which_answer : (a : Answer) (s : CheckStatus) → EndsWith a s → (s ≡ status.ReadFault → ⊥) × (s ≡ status.CertFault → ⊥) × (s ≡ status.Usage → ⊥)
@@ -67,6 +68,24 @@ which_answer a s (inl e) = by_ending a.ending e
     by_ending ending.ScriptRefused e = ((λ h. cc), (λ h. cc), (λ h. cc))
 which_answer a s (inr (inl e)) = ((λ h. cc), (λ h. cc), (λ h. cc))
 which_answer a s (inr (inr e)) = ((λ h. cc), (λ h. cc), (λ h. cc))
+
+-- a script is refused by its own answer alone
+pub refused_ending : (a : Answer) (s : CheckStatus) → EndsWith a s → s ≡ status.ScriptRefused → a.ending ≡ ending.ScriptRefused
+refused_ending a s (inl e) h = by_ending a.ending e
+  where
+    by_ending : (x : Ending) → s ≡ status_of x → x ≡ ending.ScriptRefused
+    by_ending ending.Accepted e = cc
+    by_ending ending.Refused e = cc
+    by_ending ending.ScriptRefused e = refl
+refused_ending a s (inr (inl e)) h = cc
+refused_ending a s (inr (inr e)) h = cc
+
+-- no script that has no fault is refused
+pub never_refused : (a : Answer) (end : End) → IsEndedAs a end → end ≡ Done → a.ending ≡ ending.ScriptRefused → ⊥
+never_refused a end h done e = by_fault (subst (λ x. EndedAs x a end) e h)
+  where
+    by_fault : EndedAs ending.ScriptRefused a end → ⊥
+    by_fault (at_line, column, code, is, text) = cc
 
 -- the arguments' name and flag
 pub left_named : (contents : List ℕ → Option (List ℕ)) (name given : List ℕ) (cores flag : Bool) (left : Option (List ℕ)) (s : CheckStatus) (out_old out_new : Option (List ℕ)) → given ≡ name → flag ≡ cores

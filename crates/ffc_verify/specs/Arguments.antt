@@ -17,17 +17,17 @@ without_help a = record a { top = record a.top { disable_help_flag = true } }
 abbrev pub check_app : App
 check_app = with_rule (with_rule (without_help (new_app (codes "ffcheck"))) cert_rule) cores_rule
 
--- `clap` takes the words, the program's name first
+-- `clap` takes the arguments, the program's name first
 abbrev pub AreTaken : List Text → Type 0
 AreTaken words = fault_of check_app words ≡ []
 
--- the name of the certificate that the words give
+-- the name of the certificate that the arguments give
 abbrev pub cert_name : List Text → Text
 cert_name words = unwrap_or (first_of (codes "cert") (matches_of check_app words)) []
 
 abbrev pub is_set : Text → Bool
 is_set text = bytes_eq text (codes "true")
 
--- the words ask for cores
+-- the arguments ask for cores
 abbrev pub wants_cores : List Text → Bool
 wants_cores words = unwrap_or (option_map is_set (first_of (codes "cores") (matches_of check_app words))) (false)

@@ -6,7 +6,7 @@ use Rattle.ffc_check.specs.Judged.{IsReadableEntry}
 use Rattle.ffc_verify.specs.declared.entries.NextEntry.{NextEntry}
 use Rattle.ffc_verify.specs.declared.entries.NextEntry.TheVariants as next
 
--- what was read of a source stands behind the text, and the rest is left
+-- what was read of a source is after the text, and the rest is left
 abbrev pub MovesOn : List ℕ → Option (List ℕ) → List ℕ → Option (List ℕ) → Type 0
 MovesOn text left later now = (rest : List ℕ) → left ≡ Some rest → (more : List ℕ) × (now ≡ Some more) × (text ++ rest ≡ later ++ more)
 

@@ -1,5 +1,5 @@
 -- How a run of the checker ends: its statuses, and what each of them leaves.
-use Rattle.std.specs.Prelude.{◌≡◌, ℕ, Bool, List, Option}
+use Rattle.std.specs.Prelude.{◌≡◌, ℕ, ◌≤◌, Bool, List, ◌++◌, length, Option}
 use Rattle.ffc_base.specs.Outside.{Appends, AppendsPrefix}
 use Rattle.ffc_smt.specs.Scripts.{Done, AtFault, reads}
 use Rattle.ffc_smt.specs.TableChecks.{TableCheck, table_checks}
@@ -51,6 +51,14 @@ SaysOfScript Refused script out_old out_new = (reads script).end ≡ Done
 SaysOfScript CertFault script out_old out_new = (reads script).end ≡ Done
 SaysOfScript ScriptRefused script out_old out_new = IsAtFault script out_old out_new
 SaysOfScript _ script out_old out_new = Unit {0}
+
+-- how much of a script was taken: a front of it, and the rest is left
+pub record TakesFront (script : List ℕ) (new : Option (List ℕ)) : Type 0 where
+  pub text : List ℕ
+  pub rest : List ℕ
+  pub split : script ≡ text ++ rest
+  pub left : new ≡ Some rest
+  pub few : length text ≤ 67108865
 
 -- each check of the script has an entry in the certificate, and the entry is true of it
 abbrev pub AllHaveEntries : List ℕ → List ℕ → Type 0

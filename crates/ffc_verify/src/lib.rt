@@ -7,6 +7,8 @@ mod judge;
 mod lines;
 mod script;
 mod stop;
+#[cfg(test)]
+mod tests;
 mod verdicts;
 mod verify;
 

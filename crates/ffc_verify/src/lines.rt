@@ -5,10 +5,10 @@ ghost use Rattle.std.specs.Prelude.{slice_get};
 ghost use Rattle.ffc_lex.specs.Names.{written_symbol};
 ghost use Rattle.ffc_rules.specs.Cores.{names_at};
 ghost use Rattle.ffc_verify.specs.Due.{core_text};
-ghost use Rattle.ffc_verify.specs.Judged.{cause_of, counts_in};
+ghost use Rattle.ffc_verify.specs.Judged.{cause_of};
 ghost use Rattle.ffc_verify.specs.Texts.{accepted_line, cause_text, core_line, fault_line, refused_line, spaced, spaced_after};
 
-use crate::verdicts::{Cause, Refusal, Tally};
+use crate::verdicts::{Cause, Refusal};
 use ffc_cert::{Entry, Numbered};
 use ffc_core::core_of;
 use ffc_lex::{Text, symbol_text};
@@ -38,15 +38,20 @@ pub(crate) fn append_fault(fault: ScriptFault, out: &mut Vec<u8>) -> Result<(), 
 }
 
 /// Appends the line that says how many entries were accepted.
-pub(crate) fn append_accepted(tally: &Tally, out: &mut Vec<u8>) -> Result<(), AllocError>
-    ensures { OnOk result (out.new.items ≡ out.old.items ++ accepted_line (counts_in tally.now)) }
+pub(crate) fn append_accepted(
+    sat: u64,
+    unsat: u64,
+    unknown: u64,
+    out: &mut Vec<u8>,
+) -> Result<(), AllocError>
+    ensures { OnOk result (out.new.items ≡ out.old.items ++ accepted_line (record { sat = sat; unsat = unsat; unknown = unknown })) }
 {
     out.extend_from_slice(b"accepted ")?;
-    append_number(tally.sat, out)?;
+    append_number(sat, out)?;
     out.push(b' ')?;
-    append_number(tally.unsat, out)?;
+    append_number(unsat, out)?;
     out.push(b' ')?;
-    append_number(tally.unknown, out)?;
+    append_number(unknown, out)?;
     out.push(b'\n')?;
     Ok(())
 }

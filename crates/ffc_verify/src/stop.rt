@@ -1,6 +1,7 @@
 //! Reading a script, and why a reading stops.
 ghost use Rattle.std.specs.Prelude.{◌≡◌, ◌≤◌, take, length, IfOk, IfSome, IsErrOf, vec_len};
 ghost use Rattle.ffc_base.specs.Outside.{Rose};
+ghost use Rattle.ffc_verify.specs.Status.{TakesFront};
 
 use ffc_base::Source;
 use std::alloc::{AllocError, AllocFailed, Global};
@@ -44,6 +45,7 @@ pub(crate) const PIECE: usize = 4096;
 pub(crate) fn read_script<S: Source>(alloc: Global, script: &mut S) -> Result<Vec<u8>, Stop>
     ensures ok { IfOk result (λ text. IfSome (S.left script.old) (λ bytes. text.items ≡ take 67108865 bytes)) }
     ensures short { IfOk result (λ text. vec_len text ≤ 67108865) }
+    ensures taken { IfSome (S.left script.old) (λ bytes. TakesFront bytes (S.left script.new)) }
     ensures later { S.faults script.old ≤ S.faults script.new }
     ensures cause { IsErrOf result Stop.Failed → Rose (S.faults script.old) (S.faults script.new) }
 {

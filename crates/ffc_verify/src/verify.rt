@@ -4,7 +4,7 @@ ghost use Rattle.ffc_base.specs.Outside.{Rose};
 ghost use Rattle.ffc_smt.specs.Scripts.{Done, reads};
 ghost use Rattle.ffc_verify.specs.Arguments.{AreTaken, cert_name, wants_cores};
 ghost use Rattle.ffc_verify.specs.Due.{due};
-ghost use Rattle.ffc_verify.specs.Status.{AllHaveEntries, IsLeft, SaysOfScript, code_of};
+ghost use Rattle.ffc_verify.specs.Status.{AllHaveEntries, IsLeft, SaysOfScript, TakesFront, code_of};
 ghost use Rattle.ffc_verify.specs.Ending.{EndsWith, IsEndedAs, due_of, status_at, status_of, verdict_due};
 ghost use Rattle.ffc_verify.specs.Texts.{fault_line};
 ghost use Rattle.ffc_verify.specs.Walking.{IsCounted};
@@ -14,7 +14,7 @@ use crate::judge::judge;
 use crate::lines::{append_accepted, append_fault, append_refusal};
 use crate::script::count_checks;
 use crate::stop::{Stop, read_script};
-use crate::verdicts::Verdict;
+use crate::verdicts::{Tally, Verdict};
 use ffc_base::{NamedSource, Sink, Source, WriteStop};
 use ffc_script::ScriptStop;
 use ffc_words::ScriptFault;
@@ -123,9 +123,16 @@ fn verdict_answer(alloc: Global, verdict: Verdict) -> Result<Answer, AnswerStop>
     ensures memory { IfErr result (λ stop. stop ≡ AnswerStop.Memory) }
 {
     match verdict {
-        Verdict::Accepted(tally) => {
-            let mut text = Vec::from_slice(alloc, tally.cores.as_slice())?;
-            append_accepted(&tally, &mut text)?;
+        Verdict::Accepted(
+            Tally {
+                sat,
+                unsat,
+                unknown,
+                cores,
+            },
+        ) => {
+            let mut text = cores;
+            append_accepted(sat, unsat, unknown, &mut text)?;
             Ok(Answer {
                 ending: Ending::Accepted,
                 text,
@@ -179,6 +186,9 @@ fn find_answer<S: Source, C: NamedSource>(
     ensures ok { IfOk result (λ answer. IfSome (S.left script.old) (λ bytes. IfSome (C.contents cert.old plan.now.cert.now) (λ certificate. due_of answer ≡ due plan.now.cores bytes certificate))) }
     ensures ending { IfOk result (λ answer. IfSome (S.left script.old) (λ bytes. IsEndedAs answer (reads bytes).end)) }
     ensures opened { IsErrOf result AnswerStop.CertFault → IfSome (S.left script.old) (λ bytes. (reads bytes).end ≡ Done) }
+    ensures taken { IfSome (S.left script.old) (λ bytes. TakesFront bytes (S.left script.new)) }
+    ensures unread { IsErrOf result AnswerStop.ReadFault → cert.new ≡ cert.old }
+    ensures unopened { IfOk result (λ answer. answer.ending ≡ Ending.ScriptRefused → cert.new ≡ cert.old) }
     ensures read_fault { IsErrOf result AnswerStop.ReadFault → Rose (S.faults script.old) (S.faults script.new) }
     ensures cert_fault { IsErrOf result AnswerStop.CertFault → Rose (C.faults cert.old) (C.faults cert.new) }
 {
@@ -230,6 +240,10 @@ fn run_plan<S: Source, C: NamedSource, O: Sink>(
     ensures left { IfSome (S.left script.old) (λ bytes. IfSome (C.contents cert.old plan.now.cert.now) (λ certificate.
         IsLeft result (due plan.now.cores bytes certificate) (O.holds out.old) (O.holds out.new))) }
     ensures script { IfSome (S.left script.old) (λ bytes. SaysOfScript result bytes (O.holds out.old) (O.holds out.new)) }
+    ensures taken { IfSome (S.left script.old) (λ bytes. TakesFront bytes (S.left script.new)) }
+    ensures unread { result ≡ CheckStatus.ReadFault → (out.new ≡ out.old) × (cert.new ≡ cert.old) }
+    ensures unanswered { result ≡ CheckStatus.CertFault → out.new ≡ out.old }
+    ensures unopened { result ≡ CheckStatus.ScriptRefused → cert.new ≡ cert.old }
     ensures read_fault { result ≡ CheckStatus.ReadFault → Rose (S.faults script.old) (S.faults script.new) }
     ensures cert_fault { result ≡ CheckStatus.CertFault → Rose (C.faults cert.old) (C.faults cert.new) }
     ensures write_fault { result ≡ CheckStatus.WriteFault → Rose (O.faults out.old) (O.faults out.new) }
@@ -265,6 +279,14 @@ pub fn check_main<'a, S: Source, C: NamedSource, O: Sink>(
     ensures left { IfSome (S.left script.old) (λ bytes. IfSome (C.contents cert.old (cert_name (map (λ w. w.now) words.now))) (λ certificate.
         IsLeft result (due (wants_cores (map (λ w. w.now) words.now)) bytes certificate) (O.holds out.old) (O.holds out.new))) }
     ensures script { IfSome (S.left script.old) (λ bytes. SaysOfScript result bytes (O.holds out.old) (O.holds out.new)) }
+
+    // Whatever the status is, a front of the script was taken, of 67,108,865 bytes at most.
+    ensures taken { IfSome (S.left script.old) (λ bytes. TakesFront bytes (S.left script.new)) }
+
+    // What a run did not come to is as it was.
+    ensures unread { result ≡ CheckStatus.ReadFault → (out.new ≡ out.old) × (cert.new ≡ cert.old) }
+    ensures unanswered { result ≡ CheckStatus.CertFault → out.new ≡ out.old }
+    ensures unopened { result ≡ CheckStatus.ScriptRefused → cert.new ≡ cert.old }
 
     // At `Accepted` every check of the script has an entry that is true of it.
     ensures accepted_means { result ≡ CheckStatus.Accepted → IfSome (S.left script.old) (λ bytes. IfSome (C.contents cert.old (cert_name (map (λ w. w.now) words.now))) (λ certificate. AllHaveEntries bytes certificate)) }

@@ -6,6 +6,7 @@ use Rattle.ffc_verify.specs.Arguments.{cert_name, wants_cores}
 use Rattle.ffc_verify.specs.Status.{AllHaveEntries}
 use Rattle.ffc_verify.proofs.DueLemmas.{left_same, left_nothing, left_accepted}
 use Rattle.ffc_verify.proofs.StopLemmas.{if_any}
+use Rattle.ffc_verify.proofs.PieceLemmas.{nothing_takes}
 use Rattle.ffc_verify.proofs.verify.check_main.Goals as goal
 
 pub returns-in-Err-Usage-clause-left : goal.returns-in-Err-Usage-clause-left
@@ -33,3 +34,9 @@ returns-clause-accepted_means g c = λ e.
     let plan = c.in-Ok.plan in
     subst (λ n. IfSome left (λ bytes. IfSome (contents n) (λ certificate. AllHaveEntries bytes certificate))) c.in-Ok.ensures.cert
     (left_accepted plan.cores left (contents plan.cert.now) c.run_plan.result (g.O.Sink.holds c.args.out.now) (g.O.Sink.holds c.run_plan.new.out) e c.run_plan.ensures.left)
+
+pub returns-in-Err-Usage-clause-taken : goal.returns-in-Err-Usage-clause-taken
+returns-in-Err-Usage-clause-taken g c = nothing_takes (g.S.Source.left c.args.script.now)
+
+pub returns-in-Err-Memory-clause-taken : goal.returns-in-Err-Memory-clause-taken
+returns-in-Err-Memory-clause-taken g c = nothing_takes (g.S.Source.left c.args.script.now)

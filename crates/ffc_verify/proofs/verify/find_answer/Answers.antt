@@ -1,13 +1,15 @@
-use Rattle.std.proofs.Common.{◌≡◌, List, ℕ, take, sym, subst}
+use Rattle.std.proofs.Common.{◌≡◌, List, ℕ, take, sym, subst, ◌∙◌}
 use Rattle.std.specs.Option.{IfSome}
-use Rattle.ffc_smt.specs.Scripts.{reads, AtFault}
+use Rattle.ffc_smt.specs.Scripts.{reads, AtFault, Done}
 use Rattle.ffc_script.specs.declared.stop.ScriptStop.{ScriptStop}
 use Rattle.ffc_verify.specs.declared.verify.CheckStatus.TheVariants as status
+use Rattle.ffc_verify.specs.declared.verify.Ending.TheVariants as ending
 use Rattle.ffc_verify.specs.Due.{due}
 use Rattle.ffc_verify.specs.Texts.{fault_line}
 use Rattle.ffc_verify.specs.Ending.{due_of, IsEndedAs}
 use Rattle.ffc_verify.specs.Walking.{IsFaultOf}
 use Rattle.ffc_verify.proofs.DueLemmas.{read_due, read_ended, read_done, fault_due, ended_at_fault, ok_by}
+use Rattle.ffc_verify.proofs.StopLemmas.{never_refused}
 use Rattle.ffc_verify.proofs.verify.find_answer.Goals as goal
 
 pub returns-in-Ok-count_checks-clause-ok : goal.returns-in-Ok-count_checks-clause-ok
@@ -59,3 +61,10 @@ returns-in-Err-Fault-clause-ending g c =
     ok_by c.fault_answer.result (λ a. due_of a ≡ record { status = status.ScriptRefused; text = fault_line f.line f.column f.code })
     (λ a. IfSome left (λ bytes. IsEndedAs a (reads bytes).end)) c.fault_answer.ensures.ok
     (λ a e. read_ended text left a is (ended_at_fault a (reads text).end f.line f.column f.code e end))
+
+pub returns-in-Ok-count_checks-clause-unopened : goal.returns-in-Ok-count_checks-clause-unopened
+returns-in-Ok-count_checks-clause-unopened g c =
+    let end = (reads c.as_slice-in-Ok-count_checks.result.now).end in
+    let done : end ≡ Done = subst (λ t. (reads t).end ≡ Done) (c.as_slice.ensures.value ∙ sym c.as_slice-in-Ok-count_checks.ensures.value) c.in-Ok-count_checks.ensures.ok.done in
+    ok_by c.certificate_answer.result (λ a. IsEndedAs a end) (λ a. a.ending ≡ ending.ScriptRefused → c.certificate_answer.new.cert ≡ c.args.cert.now) c.certificate_answer.ensures.ending
+    (λ a h e. absurd (never_refused a end h done e))

@@ -1,6 +1,6 @@
-use Rattle.std.proofs.Common.{◌≡◌, Err, ap}
+use Rattle.std.proofs.Common.{◌≡◌, Err, ap, refl}
 use Rattle.ffc_verify.proofs.DueLemmas.{left_due, says_answer}
-use Rattle.ffc_verify.proofs.StopLemmas.{left_without, says_without, which_stop, which_answer}
+use Rattle.ffc_verify.proofs.StopLemmas.{left_without, says_without, which_stop, which_answer, refused_ending}
 use Rattle.ffc_verify.proofs.verify.run_plan.Goals as goal
 
 pub returns-in-Err-clause-usage : goal.returns-in-Err-clause-usage
@@ -42,3 +42,18 @@ returns-clause-read_fault g c = λ e. absurd ((which_answer c.in-Ok.answer c.wri
 
 pub returns-clause-cert_fault : goal.returns-clause-cert_fault
 returns-clause-cert_fault g c = λ e. absurd ((which_answer c.in-Ok.answer c.write_answer.result c.write_answer.ensures.ended).1 e)
+
+pub returns-in-Err-clause-unread : goal.returns-in-Err-clause-unread
+returns-in-Err-clause-unread g c = λ e. (refl, c.in-Err.ensures.unread (ap Err ((which_stop c.in-Err.stop c.status_without.result c.status_without.ensures).0 e)))
+
+pub returns-in-Err-clause-unopened : goal.returns-in-Err-clause-unopened
+returns-in-Err-clause-unopened g c = λ e. absurd ((which_stop c.in-Err.stop c.status_without.result c.status_without.ensures).4 e)
+
+pub returns-clause-unread : goal.returns-clause-unread
+returns-clause-unread g c = λ e. absurd ((which_answer c.in-Ok.answer c.write_answer.result c.write_answer.ensures.ended).0 e)
+
+pub returns-clause-unanswered : goal.returns-clause-unanswered
+returns-clause-unanswered g c = λ e. absurd ((which_answer c.in-Ok.answer c.write_answer.result c.write_answer.ensures.ended).1 e)
+
+pub returns-clause-unopened : goal.returns-clause-unopened
+returns-clause-unopened g c = λ e. c.in-Ok.ensures.unopened (refused_ending c.in-Ok.answer c.write_answer.result c.write_answer.ensures.ended e)
