@@ -1,0 +1,5 @@
+pub mod LineLemmas
+pub mod Lists
+pub mod OrderedTerms
+pub mod PartLemmas
+pub mod ReductionLemmas

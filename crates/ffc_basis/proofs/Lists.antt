@@ -1,0 +1,36 @@
+-- Lists of lines and of terms, by their places.
+use Rattle.std.proofs.Common.{◌≡◌, ◌≢◌, ◌⊎◌, ℕ, zero, suc, ◌<◌, List, [], ◌∷◌, length, get_or, refl, ap, inl, inr, arith, Result, Ok, Err, OnOk, IfOk}
+use Rattle.ffc_poly.specs.declared.stop.PolyStop.{PolyStop}
+use Rattle.ffc_poly.specs.declared.stop.PolyStop.TheVariants.{DegreeOver, TermsOver, Memory}
+use Rattle.ffc_basis.specs.declared.line.Line.{Line}
+use Rattle.ffc_basis.specs.Lines.{polys_of}
+
+-- within the list the default does not matter
+pub any_default : {A : Type 0} (xs : List A) (i : ℕ) (d e : A) → i < length xs → get_or xs i d ≡ get_or xs i e
+any_default [] i d e h = absurd (omega arith)
+any_default (x ∷ xs) zero d e h = refl
+any_default (x ∷ xs) (suc i) d e h = any_default xs i d e (omega arith)
+
+pub length-polys : {F O : Type 0} (ls : List (Line F O)) → length (polys_of ls) ≡ length ls
+length-polys [] = refl
+length-polys (l ∷ ls) = ap suc (length-polys ls)
+
+-- the polynomial of a line
+pub poly_at : {F O : Type 0} (ls : List (Line F O)) (i : ℕ) (l : Line F O) → i < length ls → get_or (polys_of ls) i [] ≡ (get_or ls i l).poly
+poly_at [] i l h = absurd (omega arith)
+poly_at (k ∷ ls) zero l h = refl
+poly_at (k ∷ ls) (suc i) l h = poly_at ls i l (omega arith)
+
+-- which limit was passed
+pub limits : {A B : Type 0} (stop : PolyStop) → (stop ≡ DegreeOver → A) → (stop ≡ TermsOver → B) → stop ≢ Memory → A ⊎ B
+limits DegreeOver a b h = inl (a refl)
+limits TermsOver a b h = inr (b refl)
+limits Memory a b h = absurd (h refl)
+
+pub on_ok : {T E P Q : Type 0} (r : Result T E) → (P → Q) → OnOk r P → OnOk r Q
+on_ok (Ok x) f h = f h
+on_ok (Err e) f h = tt
+
+pub if_ok : {T E : Type 0} (r : Result T E) (P Q : T → Type 0) → ((x : T) → P x → Q x) → IfOk r P → IfOk r Q
+if_ok (Ok x) P Q f h = f x h
+if_ok (Err e) P Q f h = tt

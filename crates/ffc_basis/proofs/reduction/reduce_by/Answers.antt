@@ -1,0 +1,91 @@
+use Rattle.std.proofs.Common.{[], get_or, sym, subst, inl, inr, arith, IfNone, IfSome}
+use Rattle.std.proofs.lemmas.Bool.{cases_eq}
+use Rattle.ffc_ring.specs.Monomial.{Monomial}
+use Rattle.ffc_ring.specs.Polynomial.{Terms}
+use Rattle.ffc_mono.specs.declared.mono.TheConstants.{DEGREE_LIMIT}
+use Rattle.ffc_basis.specs.Lines.{polys_of}
+use Rattle.ffc_basis.specs.Reduction.{IsIrreducible, IsStep, IsStopped}
+use Rattle.ffc_basis.proofs.ReductionLemmas.{reduction_begins, reduced_from_terms, stopped}
+use Rattle.ffc_basis.proofs.reduction.reduce_by.Goals as goal
+
+pub loop-place-init : goal.loop-place-init
+loop-place-init g c = record {
+  reduction = reduction_begins g.F.Field.ORDER g.met.F.Field.prime g.O.MonoOrder.cmp g.met.O.MonoOrder.laws DEGREE_LIMIT (polys_of c.args.lines.now)
+      c.args.poly.now c.in_ok-rest.rest c.new-parts.result.items c.len-length.ensures.ordered c.in_ok-rest.ensures.cases c.new-parts.ensures.items;
+  irreducible = λ j h i w d n lead divides. absurd (omega arith);
+}
+
+pub loop-place-smaller-in_default : goal.loop-place-smaller-in_default
+loop-place-smaller-in_default g c = omega (arith, c.loop-place-test.true, c.len.ensures.fits, c.len.ensures.value)
+
+pub loop-place-preserved-in_default : goal.loop-place-preserved-in_default
+loop-place-preserved-in_default g c =
+    let p = g.F.Field.ORDER in
+    let cmp = g.O.MonoOrder.cmp in
+    let gs = polys_of c.args.lines.now in
+    let rest : Terms = c.loop-place.rest in
+    let place = c.loop-place.place in
+    record {
+      reduction = c.loop-place.invariant.reduction;
+      irreducible = λ j h.
+          elim (cases_eq j place) [
+            | inl here ↦
+                let m : Monomial = c.term-c.result.1.powers.now in
+                let none : IsIrreducible p cmp gs m = subst (λ o. IfNone o (IsIrreducible p cmp gs m)) c.in_default.is c.in_ok-step.ensures.none in
+                subst (λ x. IsIrreducible p cmp gs (get_or rest x (0, [])).1) (sym here) (subst (IsIrreducible p cmp gs) c.term-c.ensures.monomial none)
+            | inr other ↦ c.loop-place.invariant.irreducible j (omega arith)
+          ];
+    }
+
+pub loop-place-smaller-in-Ok : goal.loop-place-smaller-in-Ok
+loop-place-smaller-in-Ok g c = omega (arith, c.in_ok-take.ensures.one_unit, c.in_ok-take.ensures.same_budget, c.in_ok-take.ensures.within)
+
+pub loop-place-preserved-in-Ok : goal.loop-place-preserved-in-Ok
+loop-place-preserved-in-Ok g c =
+    let p = g.F.Field.ORDER in
+    let cmp = g.O.MonoOrder.cmp in
+    let gs = polys_of c.args.lines.now in
+    record {
+      reduction = c.in-Ok.ensures.reduction c.args.poly.now c.loop-place.invariant.reduction;
+      irreducible = λ j h. subst (λ t. IsIrreducible p cmp gs t.1) (c.in-Ok.ensures.first j h).1 (c.loop-place.invariant.irreducible j h);
+    }
+
+pub loop-place-smaller : goal.loop-place-smaller
+loop-place-smaller g c = omega (arith, c.in_ok-take.ensures.one_unit, c.in_ok-take.ensures.same_budget, c.in_ok-take.ensures.within)
+
+pub loop-place-preserved : goal.loop-place-preserved
+loop-place-preserved g c =
+    let p = g.F.Field.ORDER in
+    let cmp = g.O.MonoOrder.cmp in
+    let gs = polys_of c.args.lines.now in
+    record {
+      reduction = c.in-Ok.ensures.reduction c.args.poly.now c.loop-place.invariant.reduction;
+      irreducible = λ j h. subst (λ t. IsIrreducible p cmp gs t.1) (c.in-Ok.ensures.first j h).1 (c.loop-place.invariant.irreducible j h);
+    }
+
+pub returns-clause-reduction : goal.returns-clause-reduction
+returns-clause-reduction g c = c.loop-place.invariant.reduction
+
+pub returns-clause-reduced : goal.returns-clause-reduced
+returns-clause-reduced g c =
+    reduced_from_terms g.F.Field.ORDER g.O.MonoOrder.cmp (polys_of c.args.lines.now) c.loop-place.rest c.loop-place.place
+    (omega (arith, c.loop-place-test.false, c.len.ensures.value)) c.loop-place.invariant.irreducible
+
+pub returns-in-Err-clause-over : goal.returns-in-Err-clause-over
+returns-in-Err-clause-over g c =
+    let p = g.F.Field.ORDER in
+    let value = g.F.Field.value in
+    let cmp = g.O.MonoOrder.cmp in
+    let gs = polys_of c.args.lines.now in
+    let rest : Terms = c.loop-place.rest in
+    let place = c.loop-place.place in
+    let step = c.in-Some.step in
+    let found : IsStep p cmp gs (value c.term-c.result.0) c.term-c.result.1.powers.now step.line (value step.coefficient) step.monomial =
+    subst (λ o. IfSome o (λ s. IsStep p cmp gs (value c.term-c.result.0) c.term-c.result.1.powers.now s.line (value s.coefficient) s.monomial)) c.in-Some.is c.in_ok-step.ensures.some in
+    let here : IsStep p cmp gs (get_or rest place (0, [])).0 (get_or rest place (0, [])).1 step.line (value step.coefficient) step.monomial =
+    subst (λ x. IsStep p cmp gs x (get_or rest place (0, [])).1 step.line (value step.coefficient) step.monomial) c.term-c.ensures.coefficient
+    (subst (λ m. IsStep p cmp gs (value c.term-c.result.0) m step.line (value step.coefficient) step.monomial) c.term-c.ensures.monomial found) in
+    subst (λ r. IsStopped p cmp gs r c.subtract.new.parts.items step.line step.monomial) (sym c.in-Err.ensures.unchanged.0)
+    (subst (λ ps. IsStopped p cmp gs rest ps step.line step.monomial) (sym c.in-Err.ensures.unchanged.1)
+    (stopped p g.met.F.Field.prime cmp g.met.O.MonoOrder.laws DEGREE_LIMIT gs rest c.loop-place.parts.items place step.line (value step.coefficient) step.monomial
+    c.len.ensures.ordered (omega (arith, c.loop-place-test.true, c.len.ensures.value)) here (c.in-Err.ensures.over c.in_ok-past_limit-in-Err.ensures)))

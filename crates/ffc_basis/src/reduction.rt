@@ -1,0 +1,265 @@
+//! Reduction by the lines of a basis.
+ghost use Rattle.std.specs.Prelude.{◌≡◌, ◌≢◌, ℕ, ◌<◌, ◌⊎◌, [], ◌∷◌, ◌++◌, length, vec_len, get_or, IfOk, IfErr, IfSome, IfNone, OnOk, OnErr, IsErrOf};
+ghost use Rattle.ffc_base.specs.Metering.{total};
+ghost use Rattle.ffc_field.specs.Modular.{mul_mod};
+ghost use Rattle.ffc_ring.specs.Monomial.{Divides, mono_mul};
+ghost use Rattle.ffc_ring.specs.Polynomial.{Terms, SamePolynomial, PassesTerms};
+ghost use Rattle.ffc_basis.specs.Lines.{polys_of, HasPart};
+ghost use Rattle.ffc_basis.specs.Reduction.{IsIrreducible, IsStep, IsAddedAt, IsRecorded, IsReduction, IsReduced, SameFirst, IsStopped, PassesLimit};
+ghost use Rattle.ffc_basis.specs.declared.stop.BasisStop.TheVariants as stops;
+
+use crate::line::{Line, LineId};
+use crate::stop::BasisStop;
+use ffc_base::{Meter, Unit};
+use ffc_field::Field;
+use ffc_mono::{Mono, MonoOrder, MonoRef};
+use ffc_poly::{Poly, PolyStop};
+use std::alloc::{AllocError, Global};
+
+/// What is left of a polynomial, and the multiples of lines that were subtracted.
+#[derive(Debug)]
+pub struct Reduced<F: Field, O: MonoOrder> {
+    pub rest: Poly<F, O>,
+    /// The numbers of lines, and what each was multiplied by.
+    pub parts: Vec<(LineId, Poly<F, O>)>,
+    /// A line and the monomial by which it was to be multiplied, where that passes a limit.
+    pub over: Option<(LineId, Mono)>,
+}
+
+impl<F: Field, O: MonoOrder> Drop for Reduced<F, O> {
+    fn drop(self) {
+        let Reduced {
+            rest: _,
+            parts: _,
+            over: _,
+        } = self;
+    }
+}
+
+/// A multiple of a line by a term.
+#[derive(Debug, Drop)]
+struct Step<F: Field> {
+    line: usize,
+    coefficient: F,
+    monomial: Mono,
+}
+
+/// The coefficient c divided by d.
+fn quotient_of<F: Field>(c: F, d: F) -> F
+    requires { F.value d ≢ 0 }
+    ensures { mul_mod F.ORDER (F.value result) (F.value d) ≡ F.value c }
+{
+    match d.inv() {
+        Some(inverse) => c.mul(inverse),
+        None => unreachable!(),
+    }
+}
+
+/// The multiple of the term d*n that is c*m.
+fn multiple_of<F: Field>(
+    alloc: Global,
+    line: usize,
+    lead: (F, MonoRef<'_>),
+    c: F,
+    m: MonoRef<'_>,
+) -> Result<Step<F>, AllocError>
+    requires nonzero { F.value lead.0 ≢ 0 }
+    requires divides { Divides lead.1.powers.now m.powers.now }
+    ensures line { IfOk result (λ s. s.line ≡ line) }
+    ensures monomial { IfOk result (λ s. mono_mul lead.entry.1.powers.now s.monomial ≡ m.entry.powers.now) }
+    ensures coefficient { IfOk result (λ s. mul_mod F.ORDER (F.value s.coefficient) (F.value lead.entry.0) ≡ F.value c) }
+{
+    let monomial = m.to_mono(alloc)?.quotient(&lead.1.to_mono(alloc)?)?;
+    Ok(Step {
+        line,
+        coefficient: quotient_of(c, lead.0),
+        monomial,
+    })
+}
+
+/// The multiple of a line that has the leading term c*m, of the oldest line where there are several.
+fn step_at<F: Field, O: MonoOrder>(
+    alloc: Global,
+    lines: &[Line<F, O>],
+    c: F,
+    m: MonoRef<'_>,
+) -> Result<Option<Step<F>>, AllocError>
+    ensures none { IfOk result (λ o. IfNone o (IsIrreducible F.ORDER O.cmp (polys_of lines.now) m.entry.powers.now)) }
+    ensures some { IfOk result (λ o. IfSome o (λ s.
+        IsStep F.ORDER O.cmp (polys_of lines.now) (F.value c) m.entry.powers.now s.line (F.value s.coefficient) s.monomial)) }
+{
+    for number in 0..lines.len() {
+        if let Some(lead) = lines[number].poly.lead() {
+            if lead.1.divides(m) {
+                return Ok(Some(multiple_of(alloc, number, lead, c, m)?));
+            }
+        }
+    }
+    Ok(None)
+}
+
+/// The polynomial c*m.
+fn term<F: Field, O: MonoOrder>(alloc: Global, c: F, m: &Mono) -> Result<Poly<F, O>, AllocError>
+    ensures { IfOk result (λ r. SamePolynomial F.ORDER r ((F.value c, m.now) ∷ [])) }
+{
+    let mut terms = Vec::new(alloc);
+    terms.push((c, m.clone()?))?;
+    match Poly::from_terms(alloc, terms.as_slice()) {
+        Ok(single) => Ok(single),
+        Err(_) => Err(AllocError),
+    }
+}
+
+/// The place of a part of a line.
+fn place_of<F: Field, O: MonoOrder>(parts: &[(LineId, Poly<F, O>)], line: LineId) -> Option<usize>
+    ensures { IfSome result (λ i. (i < length parts.now) × ((get_or parts.now i (0, [])).0 ≡ line)) }
+{
+    for place in 0..parts.len() {
+        if parts[place].0 == line {
+            return Some(place);
+        }
+    }
+    None
+}
+
+/// Adds a polynomial to the part at a place.
+fn add_at<F: Field, O: MonoOrder>(
+    parts: &mut Vec<(LineId, Poly<F, O>)>,
+    place: usize,
+    more: &Poly<F, O>,
+) -> Result<(), PolyStop>
+    requires { place < vec_len parts.old }
+    ensures added { OnOk result (IsAddedAt F.ORDER parts.old.items parts.new.items place more.now) }
+    ensures over { IsErrOf result PolyStop.TermsOver → PassesTerms F.ORDER 131072 ((get_or parts.old.items place (0, [])).1 ++ more.now) }
+    ensures no_product { IsErrOf result PolyStop.DegreeOver → ⊥ }
+    ensures unchanged { OnErr result (parts.new.items ≡ parts.old.items) }
+{
+    let line = parts[place].0;
+    let sum = parts[place].1.add(more)?;
+    parts[place] = (line, sum);
+    Ok(())
+}
+
+/// Appends a part.
+fn append<F: Field, O: MonoOrder>(
+    parts: &mut Vec<(LineId, Poly<F, O>)>,
+    line: LineId,
+    part: Poly<F, O>,
+) -> Result<(), PolyStop>
+    ensures appended { OnOk result (parts.new.items ≡ parts.old.items ++ (line, part) ∷ []) }
+    ensures memory { IfErr result (λ stop. stop ≡ PolyStop.Memory) }
+    ensures unchanged { OnErr result (parts.new.items ≡ parts.old.items) }
+{
+    match parts.push((line, part)) {
+        Ok(()) => Ok(()),
+        Err(_) => Err(PolyStop::Memory),
+    }
+}
+
+/// Adds a multiple to the part of its line.
+fn record<F: Field, O: MonoOrder>(
+    parts: &mut Vec<(LineId, Poly<F, O>)>,
+    step: &Step<F>,
+) -> Result<(), PolyStop>
+    ensures recorded { OnOk result
+        (IsRecorded F.ORDER parts.old.items parts.new.items step.now.line (F.value step.now.coefficient) step.now.monomial) }
+    ensures over { IsErrOf result PolyStop.TermsOver → (t : Terms) × HasPart parts.old.items step.now.line t
+        × PassesTerms F.ORDER 131072 (t ++ (F.value step.now.coefficient, step.now.monomial) ∷ []) }
+    ensures no_product { IsErrOf result PolyStop.DegreeOver → ⊥ }
+    ensures unchanged { OnErr result (parts.new.items ≡ parts.old.items) }
+{
+    let single = term(*parts.allocator(), step.coefficient, &step.monomial)?;
+    let line = step.line as u64;
+    match place_of(parts.as_slice(), line) {
+        Some(place) => add_at(parts, place, &single),
+        None => append(parts, line, single),
+    }
+}
+
+/// Subtracts a multiple that cancels the term at a place, and records it.
+fn subtract<F: Field, O: MonoOrder>(
+    lines: &[Line<F, O>],
+    rest: &mut Poly<F, O>,
+    parts: &mut Vec<(LineId, Poly<F, O>)>,
+    place: usize,
+    step: &Step<F>,
+) -> Result<(), PolyStop>
+    requires within { place < length rest.old }
+    requires step { IsStep F.ORDER O.cmp (polys_of lines.now) (get_or rest.old place (0, [])).0 (get_or rest.old place (0, [])).1
+        step.now.line (F.value step.now.coefficient) step.now.monomial }
+    ensures reduction { OnOk result ((poly : Terms) → IsReduction F.ORDER O.cmp (polys_of lines.now) poly rest.old parts.old.items
+        → IsReduction F.ORDER O.cmp (polys_of lines.now) poly rest.new parts.new.items) }
+    ensures first { OnOk result (SameFirst rest.old rest.new place) }
+    ensures over { IfErr result (λ stop. stop ≢ PolyStop.Memory
+        → PassesLimit F.ORDER (polys_of lines.now) rest.old parts.old.items step.now.line (F.value step.now.coefficient) step.now.monomial) }
+    ensures unchanged { OnErr result ((rest.new ≡ rest.old) × (parts.new.items ≡ parts.old.items)) }
+{
+    let poly = &lines[step.line].poly;
+    let _length = (rest.len(), poly.len());
+    let next = match rest.sub_multiple(step.coefficient, step.monomial.as_ref(), poly) {
+        Ok(next) => next,
+        Err(stop) => return Err(stop),
+    };
+    let _new_length = next.len();
+    match record(parts, step) {
+        Ok(()) => {
+            *rest = next;
+            Ok(())
+        }
+        Err(stop) => Err(stop),
+    }
+}
+
+/// Goes on where a limit was passed, and not where there was no memory.
+fn past_limit(stop: PolyStop) -> Result<(), AllocError>
+    ensures { OnOk result (stop ≢ PolyStop.Memory) }
+{
+    match stop {
+        PolyStop::Memory => Err(AllocError),
+        PolyStop::DegreeOver => Ok(()),
+        PolyStop::TermsOver => Ok(()),
+    }
+}
+
+/// Reduces a polynomial, from its leading term on, until no leading monomial of a line divides a monomial that is left, or a
+/// limit is passed.
+pub fn reduce_by<F: Field, O: MonoOrder>(
+    alloc: Global,
+    lines: &[Line<F, O>],
+    poly: &Poly<F, O>,
+    meter: &mut Meter,
+) -> Result<Reduced<F, O>, BasisStop>
+    ensures reduction { IfOk result (λ r. IsReduction F.ORDER O.cmp (polys_of lines.now) poly.now r.rest r.parts.items) }
+    ensures reduced { IfOk result (λ r. IfNone r.over (IsReduced F.ORDER O.cmp (polys_of lines.now) r.rest)) }
+    ensures over { IfOk result (λ r. IfSome r.over (λ t. IsStopped F.ORDER O.cmp (polys_of lines.now) r.rest r.parts.items t.0 t.1)) }
+    ensures spent { IsErrOf result stops.Spent → total meter.new ≡ meter.new.budget }
+{
+    let _length = poly.len();
+    let mut rest = poly.clone()?;
+    let mut parts = Vec::new(alloc);
+    let mut place = 0;
+    while place < rest.len() {
+        let (c, m) = rest.term(place);
+        let Some(step) = step_at(alloc, lines, c, m)? else {
+            place += 1;
+            continue;
+        };
+        meter.take(Unit::Reduction)?;
+        match subtract(lines, &mut rest, &mut parts, place, &step) {
+            Ok(()) => {}
+            Err(stop) => {
+                past_limit(stop)?;
+                return Ok(Reduced {
+                    rest,
+                    parts,
+                    over: Some((step.line as u64, step.monomial)),
+                });
+            }
+        }
+    }
+    Ok(Reduced {
+        rest,
+        parts,
+        over: None,
+    })
+}

@@ -1,0 +1,11 @@
+use Rattle.ffc_cdcl.specs.State.{AreListed, SameClauses}
+use Rattle.ffc_cdcl.specs.Theories.{KeepsLemmas, OnlyTakes}
+use Rattle.ffc_cdcl.proofs.solver.Solver.run.Given as goal
+
+abbrev pub invariant-loop : goal.invariant-loop
+invariant-loop g l = record {
+  same : SameClauses l.initial.self l.self;
+  listed : AreListed (g.T.Theory.lemmas l.theory) l.self.lemmas;
+  kept : KeepsLemmas (g.T.Theory.lemmas l.initial.theory) (g.T.Theory.lemmas l.theory);
+  meter : OnlyTakes l.initial.meter l.meter;
+}

@@ -1,0 +1,11 @@
+pub mod Laws
+pub mod Literals
+pub mod Opening
+pub mod Outcomes
+pub mod Resting
+pub mod Settled
+pub mod State
+pub mod Steps
+pub mod Theories
+pub mod Trails
+pub mod Walking

@@ -1,0 +1,134 @@
+//! What a solver learns from a clause that is false.
+ghost use Rattle.std.specs.Prelude.{◌≡◌, ◌++◌, ◌∷◌, ◌⊎◌, [], IfOk, IfErr, IfSome, IsErrOf};
+ghost use Rattle.ffc_base.specs.Metering.{total};
+ghost use Rattle.ffc_cdcl.specs.State.{IsKept, SameClauses};
+ghost use Rattle.ffc_cdcl.specs.Steps.{IsRefutationBy};
+ghost use Rattle.ffc_cdcl.specs.Theories.{OnlyTakes};
+
+use crate::analysis::Lesson;
+use crate::answer::{Hint, HintedClause};
+use crate::literal::{Lit, Literals};
+use crate::search::Search;
+use crate::solver::Solver;
+use crate::theory::CdclStop;
+use ffc_base::Meter;
+
+impl Solver {
+    /// Learns the clause of one literal for a literal of level 0.
+    fn derive_unit(&mut self, search: &mut Search, literal: Lit) -> Result<(), CdclStop>
+        ensures same { SameClauses self.old self.new }
+        ensures lemmas { self.new.lemmas ≡ self.old.lemmas }
+        ensures stop { IfErr result (λ stop. stop ≡ CdclStop.Memory) }
+    {
+        let Some(reason) = search.reason_of(literal) else {
+            return Err(CdclStop::Memory);
+        };
+        if search.arena.literals_of(reason).len() < 2 {
+            let hint = search.arena.hint(reason);
+            search.set_unit(literal.node, hint);
+            return Ok(());
+        }
+        let hints = search.unit_hints(Some(literal), reason)?;
+        let hint = Hint::Step(self.learned.len() as u64);
+        if !self.learn(&mut search.walk, &[literal], hints, 0)? {
+            return Err(CdclStop::Memory);
+        }
+        search.set_unit(literal.node, Some(hint));
+        Ok(())
+    }
+
+    /// Learns the clauses of one literal for the literals of level 0 that have none yet.
+    fn derive_units(&mut self, search: &mut Search) -> Result<(), CdclStop>
+        ensures same { SameClauses self.old self.new }
+        ensures lemmas { self.new.lemmas ≡ self.old.lemmas }
+        ensures stop { IfErr result (λ stop. stop ≡ CdclStop.Memory) }
+    {
+        let end = search.trail.end_of(0);
+        for k in search.derived..end {
+            let Some(literal) = search.trail.literals().get(k).copied() else {
+                break;
+            };
+            self.derive_unit(search, literal)?;
+        }
+        search.derived = end;
+        Ok(())
+    }
+
+    /// Learns the empty clause from a clause that is false at level 0, and gives the steps to it.
+    pub(crate) fn refute(
+        &mut self,
+        search: &mut Search,
+        conflict: usize,
+    ) -> Result<Vec<HintedClause>, CdclStop>
+        ensures refuted { IfOk result (λ steps. IsRefutationBy (IsKept self.new.lemmas) self.new.added steps.items) }
+        ensures same { SameClauses self.old self.new }
+        ensures lemmas { self.new.lemmas ≡ self.old.lemmas }
+        ensures stop { IfErr result (λ stop. stop ≡ CdclStop.Memory) }
+    {
+        self.derive_units(search)?;
+        let hints = search.unit_hints(None, conflict)?;
+        if !self.learn(&mut search.walk, &[], hints, 0)? {
+            return Err(CdclStop::Memory);
+        }
+        match self.refutation(&mut search.walk)? {
+            Some(steps) => Ok(steps),
+            None => Err(CdclStop::Memory),
+        }
+    }
+
+    /// Learns from a clause that is false, or refutes by it.
+    pub(crate) fn learn_from(
+        &mut self,
+        search: &mut Search,
+        conflict: usize,
+        meter: &mut Meter,
+    ) -> Result<Option<Vec<HintedClause>>, CdclStop>
+        ensures refuted { IfOk result (λ found. IfSome found (λ steps. IsRefutationBy (IsKept self.new.lemmas) self.new.added steps.items)) }
+        ensures same { SameClauses self.old self.new }
+        ensures lemmas { self.new.lemmas ≡ self.old.lemmas }
+        ensures spent { IsErrOf result CdclStop.Spent → total meter.new ≡ meter.new.budget }
+        ensures meter { OnlyTakes meter.old meter.new }
+    {
+        let level = search.highest_level(conflict);
+        if level == 0 {
+            return Ok(Some(self.refute(search, conflict)?));
+        }
+        self.derive_units(search)?;
+        search.backjump(level)?;
+        let Some(lesson) = search.analyze(conflict)? else {
+            return Err(CdclStop::Memory);
+        };
+        let Lesson {
+            clause,
+            hints,
+            level,
+            spread,
+        } = lesson;
+        let hint = Hint::Step(self.learned.len() as u64);
+        if !self.learn(&mut search.walk, clause.as_slice(), hints, spread)? {
+            return Err(CdclStop::Memory);
+        }
+        search.follow(clause.as_slice(), hint, level, spread, meter)?;
+        Ok(None)
+    }
+
+    /// Keeps a lemma that is false on the trail, and learns from it.
+    pub(crate) fn learn_lemma(
+        &mut self,
+        search: &mut Search,
+        lemma: &Literals,
+        number: u64,
+        meter: &mut Meter,
+    ) -> Result<Option<Vec<HintedClause>>, CdclStop>
+        ensures refuted { IfOk result (λ found. IfSome found (λ steps. IsRefutationBy (IsKept self.new.lemmas) self.new.added steps.items)) }
+        ensures same { SameClauses self.old self.new }
+        ensures lemmas { (self.new.lemmas ≡ self.old.lemmas) ⊎ (self.new.lemmas ≡ self.old.lemmas ++ (number, lemma.now) ∷ []) }
+        ensures spent { IsErrOf result CdclStop.Spent → total meter.new ≡ meter.new.budget }
+        ensures meter { OnlyTakes meter.old meter.new }
+    {
+        let hint = Hint::Lemma(self.lemmas.len() as u64);
+        self.keep_lemma(number, lemma.as_slice())?;
+        let conflict = search.attach_false(lemma.as_slice(), hint)?;
+        self.learn_from(search, conflict, meter)
+    }
+}

@@ -1,0 +1,202 @@
+//! The trail: literals that are true together, in the order in which they were put there.
+ghost use Rattle.std.specs.Prelude.{◌≡◌, ◌<◌, ◌++◌, ◌∷◌, [], true, false, Some, None, Contains, IfOk, IfSome, IsErrOf, length, slice_set};
+ghost use Rattle.ffc_base.specs.Metering.{total};
+ghost use Rattle.ffc_clause.specs.Clauses.{negated};
+ghost use Rattle.ffc_cdcl.specs.Literals.{NamesNoNodeTwice};
+ghost use Rattle.ffc_cdcl.specs.Trails.{IsOpen, Pays};
+
+use crate::literal::Lit;
+use crate::theory::CdclStop;
+use ffc_base::{Meter, Unit};
+use ffc_term::NodeId;
+use std::alloc::{AllocError, Global};
+use std::marker::Model;
+
+/// When and why a node's literal was put on the trail.
+#[derive(Clone, Copy)]
+pub struct Entry {
+    pub level: usize,
+    pub position: usize,
+    /// The clause of a propagated literal.
+    pub reason: Option<usize>,
+}
+
+/// Clauses see the literals and the number of nodes. Levels begin at decisions; level 0 has none.
+#[derive(Drop)]
+pub struct Trail {
+    values: Vec<Option<bool>>,
+    literals: Vec<Lit>,
+    entries: Vec<Entry>,
+    starts: Vec<usize>,
+}
+
+impl Model for Trail {
+    ghost use Rattle.std.specs.Prelude.{length};
+    ghost use Rattle.ffc_cdcl.specs.Trails.{Assigned, IsTrail};
+
+    ghost Value = { Assigned };
+
+    ghost view = { λ t. record { nodes = length t.values.items; literals = t.literals.items } };
+
+    ghost invariant = { λ t. IsTrail t.values.items t.literals.items };
+}
+
+/// Gives a node its value.
+fn write_at(values: &mut Vec<Option<bool>>, node: NodeId, value: Option<bool>)
+    ensures { values.new.items ≡ slice_set values.old.items node value }
+{
+    if (node as usize) < values.len() {
+        values[node as usize] = value;
+    }
+}
+
+fn enter(entries: &mut Vec<Entry>, node: NodeId, entry: Entry) {
+    if (node as usize) < entries.len() {
+        entries[node as usize] = entry;
+    }
+}
+
+impl Trail {
+    /// An empty trail over the nodes below a number.
+    pub fn new(alloc: Global, nodes: usize) -> Result<Self, AllocError>
+        ensures { IfOk result (λ t. t ≡ record { nodes = nodes; literals = [] }) }
+    {
+        let entry = Entry {
+            level: 0,
+            position: 0,
+            reason: None,
+        };
+        Ok(Trail {
+            values: vec![in alloc; None; nodes]?,
+            literals: Vec::new(alloc),
+            entries: vec![in alloc; entry; nodes]?,
+            starts: Vec::new(alloc),
+        })
+    }
+
+    /// The value that the trail gives a node.
+    fn value_of(&self, node: NodeId) -> Option<bool>
+        ensures given { IfSome result (λ b. Contains self.now.literals (b, node)) }
+        ensures none { result ≡ None → node < self.now.nodes → IsOpen self.now node }
+    {
+        if (node as usize) < self.values.len() {
+            self.values[node as usize]
+        } else {
+            None
+        }
+    }
+
+    /// Whether the trail has a literal.
+    pub fn is_true(&self, literal: Lit) -> bool
+        ensures { result ≡ true → Contains self.now.literals literal }
+    {
+        self.value_of(literal.node) == Some(literal.positive)
+    }
+
+    /// Whether the trail has a literal's negation.
+    pub fn is_false(&self, literal: Lit) -> bool
+        ensures { result ≡ true → Contains self.now.literals (negated literal) }
+    {
+        self.value_of(literal.node) == Some(!literal.positive)
+    }
+
+    /// Whether the trail has neither a literal of this node nor its negation.
+    pub fn is_open(&self, node: NodeId) -> bool
+        ensures { result ≡ true → IsOpen self.now node }
+    {
+        (node as usize) < self.values.len() && self.value_of(node).is_none()
+    }
+
+    /// The literals in order.
+    pub fn literals(&self) -> &[Lit]
+        ensures literals { result.now ≡ self.now.literals }
+        ensures distinct { NamesNoNodeTwice result.now }
+    {
+        self.literals.as_slice()
+    }
+
+    /// No node has two literals.
+    pub fn names_no_node_twice(&self)
+        ensures { NamesNoNodeTwice self.now.literals }
+    {
+        let _ = &self.literals;
+    }
+
+    /// When and why a node's literal was put on the trail.
+    pub fn entry(&self, node: NodeId) -> Option<Entry> {
+        self.entries.as_slice().get(node as usize).copied()
+    }
+
+    pub fn level(&self) -> usize {
+        self.starts.len()
+    }
+
+    /// How many literals the levels up to this one have.
+    pub fn end_of(&self, level: usize) -> usize {
+        match self.starts.as_slice().get(level) {
+            Some(end) => *end,
+            None => self.literals.len(),
+        }
+    }
+
+    /// Begins a level.
+    pub fn begin_level(&mut self) -> Result<(), AllocError>
+        ensures { self.new ≡ self.old }
+    {
+        self.starts.push(self.literals.len())?;
+        Ok(())
+    }
+
+    /// Puts a literal on the trail, which takes a unit, unless its node has one there. Says whether it did.
+    pub fn assign(
+        &mut self,
+        literal: Lit,
+        reason: Option<usize>,
+        meter: &mut Meter,
+    ) -> Result<bool, CdclStop>
+        ensures put { IfOk result (λ put. put ≡ true → self.new.literals ≡ self.old.literals ++ literal ∷ []) }
+        ensures kept { IfOk result (λ put. put ≡ false → self.new ≡ self.old) }
+        ensures pays { Pays self.old self.new meter.old meter.new }
+        ensures spent { IsErrOf result CdclStop.Spent → total meter.new ≡ meter.new.budget }
+        ensures room { IsErrOf result CdclStop.Spent → length self.new.literals < self.new.nodes }
+    {
+        if !self.is_open(literal.node) {
+            return Ok(false);
+        }
+        let entry = Entry {
+            level: self.starts.len(),
+            position: self.literals.len(),
+            reason,
+        };
+        if let Err(_) = self.literals.push(literal) {
+            return Err(CdclStop::Memory);
+        }
+        if let Err(_) = meter.take(Unit::Assignment) {
+            self.literals.pop();
+            return Err(CdclStop::Spent);
+        }
+        write_at(&mut self.values, literal.node, Some(literal.positive));
+        enter(&mut self.entries, literal.node, entry);
+        Ok(true)
+    }
+
+    /// Takes the last literal off the trail.
+    fn pop(&mut self) -> Option<Lit>
+        ensures { self.new.nodes ≡ self.old.nodes }
+    {
+        let literal = self.literals.pop()?;
+        write_at(&mut self.values, literal.node, None);
+        Some(literal)
+    }
+
+    /// Takes the last literal off the trail where it is above a level. Where none is, the level is the last one from there on.
+    pub fn pop_above(&mut self, level: usize) -> Option<Lit>
+        ensures { self.new.nodes ≡ self.old.nodes }
+    {
+        if self.literals.len() > self.end_of(level) {
+            return self.pop();
+        }
+        self.starts.truncate(level);
+        None
+    }
+}
