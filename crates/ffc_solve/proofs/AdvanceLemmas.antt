@@ -252,9 +252,10 @@ pub plain_ok : (r : Result Advance Stop) (s t : Session) (c : Command) (co oo on
     → IfOk r (λ a. (p : Progress) (entries : List Entry) (l : Option Last) → Holds p s entries l → Gives p s.reader c → GoesOn (record s { reader = p }) t entries co co oo on a)
 plain_ok (Err e) s t c co oo on first is plain ok answered = tt
 plain_ok (Ok a) s t c co oo on first is plain ok answered = λ p entries l holds gives.
-    subst (GoesOn (record s { reader = p }) t entries co co oo on) (sym answered)
-    (told_plain p s entries l c holds gives first (gives.check ∙ plain_no_check c (known_at s.reader) plain) t co co oo on is refl (ok p entries l (record { holds = holds; gives = gives; plain = plain })),
-      ap (λ (u : Session). u.reader.over) is ∙ gives.over ∙ plain_goes_on c plain)
+    subst (GoesOn (record s { reader = p }) t entries co co oo on) (sym answered) (
+      told_plain p s entries l c holds gives first (gives.check ∙ plain_no_check c (known_at s.reader) plain) t co co oo on is refl (ok p entries l (record { holds = holds; gives = gives; plain = plain })),
+      ap (λ (u : Session). u.reader.over) is ∙ gives.over ∙ plain_goes_on c plain,
+    )
 
 pub plain_err : (r : Result Advance Stop) (s : Session) (c : Command) (co oo on : Option (List ℕ)) → AreFirst s.reader.text (steps_of s.reader) → is_plain c ≡ true
     → OnErr r ((p : Progress) (entries : List Entry) (l : Option Last) (n : IsNext p s entries l c) → AppendsPrefix (answer_of (last_after l n.gives.step.command) n.gives.step) oo on)

@@ -171,7 +171,6 @@ module _ (p : Progress) (s : Session) (entries : List Entry) (l : Option Last) (
       by_entry (UnsatSteps lines) e = let h = sums (UnsatSteps lines) in record { sat = ap (λ (u : Tally). u.sat) e ∙ add-none s.tally.sat ∙ sym h.0; unsat = ap (λ (u : Tally). u.unsat) e ∙ sym h.1; unknown = ap (λ (u : Tally). u.unknown) e ∙ add-none s.tally.unknown ∙ sym h.2 }
       by_entry (Unknown cause) e = let h = sums (Unknown cause) in record { sat = ap (λ (u : Tally). u.sat) e ∙ add-none s.tally.sat ∙ sym h.0; unsat = ap (λ (u : Tally). u.unsat) e ∙ add-none s.tally.unsat ∙ sym h.1; unknown = ap (λ (u : Tally). u.unknown) e ∙ sym h.2 }
 
-
   pub holds_then : (t : Session) (asked : Option (Vec Asked)) → s.steps < 2 ^ 64 → IsChecked s t asked entry → texts_of asked ≡ option_map (map asked_text) (assumptions_in x.command) → Holds t.reader t (entries ++ entry ∷ []) then
   holds_then t asked few h texts = record {
     each = subst (λ n. AreEntries n (table_checks (steps_of t.reader)) (entries ++ entry ∷ [])) (sym h.steps)
@@ -222,14 +221,14 @@ module _ (p : Progress) (s : Session) (entries : List Entry) (l : Option Last) (
             (AreEntries-more s.steps (table_checks (steps_of p) ++ check ∷ []) (table_checks rest) entries (AreEntries-more s.steps (table_checks (steps_of p)) (check ∷ []) entries holds.each)));
         part = take size (entry_text entry);
         rest = inr (record {
-            check = check;
-            at = subst (λ es. slice_get (table_checks (reads (p.text ++ more)).steps) (length es) ≡ Some check) (sym (append-nil entries))
-                (ap (λ cs. slice_get cs (length entries)) (all ∙ append_assoc (table_checks (steps_of p)) (check ∷ []) (table_checks rest)) ∙ check_at_end (table_checks (steps_of p)) (table_checks rest) check (length entries) holds.count);
-            entry = entry;
-            right = right;
-            size = size;
-            short = small;
-            is = refl;
+          check = check;
+          at = subst (λ es. slice_get (table_checks (reads (p.text ++ more)).steps) (length es) ≡ Some check) (sym (append-nil entries))
+              (ap (λ cs. slice_get cs (length entries)) (all ∙ append_assoc (table_checks (steps_of p)) (check ∷ []) (table_checks rest)) ∙ check_at_end (table_checks (steps_of p)) (table_checks rest) check (length entries) holds.count);
+          entry = entry;
+          right = right;
+          size = size;
+          short = small;
+          is = refl;
         });
         certificate = cert;
         text = [];
@@ -265,8 +264,8 @@ module _ (p : Progress) (s : Session) (entries : List Entry) (l : Option Last) (
         | inl small ↦ cut_entry more front.size co cn oo on small front.appended same
         | inr whole ↦
             cut_verdict more 0 co cn oo on
-                (subst (λ b. Appends b co cn) (take_all front.size (entry_text entry) whole) front.appended)
-                (Appends-same [] oo oo on same (Appends-nil oo))
+            (subst (λ b. Appends b co cn) (take_all front.size (entry_text entry) whole) front.appended)
+            (Appends-same [] oo oo on same (Appends-nil oo))
       ]
   cut_check more co cn oo on (inr (cert, out)) =
       let front = front_of (verdict entry) oo on out in cut_verdict more front.size co cn oo on cert front.appended

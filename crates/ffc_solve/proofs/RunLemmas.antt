@@ -216,13 +216,15 @@ paused_at s budget co cn oo on lo ln same h run = by_told lo h.read
 pub taken_more : (lo l1 ln : Option (List ℕ)) (text : List ℕ) → HasRead lo l1 text → IfSome l1 (λ b. (piece : List ℕ) × IsTaken piece b ln × (length text + length piece ≤ 67108865)) → IfSome lo (λ b. (t : List ℕ) × IsTaken t b ln)
 taken_more None l1 ln text h k = tt
 taken_more (Some b) l1 ln text (rest, e, left) k =
-    let (piece, is, few) = (let P : Option (List ℕ) → Type 0 = λ o. IfSome o (λ c. (piece : List ℕ) × IsTaken piece c ln × (length text + length piece ≤ 67108865)) in subst P left k) in
-    (text ++ piece, record {
+    let (piece, is, few) = (let P : Option (List ℕ) → Type 0 = λ o. IfSome o (λ c. (piece : List ℕ) × IsTaken piece c ln × (length text + length piece ≤ 67108865)) in subst P left k) in (
+      text ++ piece,
+      record {
         rest = is.rest;
         split = e ∙ ap (λ r. text ++ r) is.split ∙ sym (append_assoc text piece is.rest);
         left = is.left;
         few = omega (arith, length-append text piece);
-    })
+      },
+    )
 
 -- How a run ends
 

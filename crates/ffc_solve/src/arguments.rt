@@ -82,9 +82,7 @@ fn solve_command<'a>(alloc: Global) -> Result<Command<'a>, AllocError>
     let steps = Arg::new(alloc, "steps")
         .long("steps")
         .action(ArgAction::Set);
-    let make = Arg::new(alloc, "make")
-        .long("make")
-        .action(ArgAction::Set);
+    let make = Arg::new(alloc, "make").long("make").action(ArgAction::Set);
     Command::new(alloc, "ffsolve")
         .disable_help_flag(true)
         .arg(cert)?

@@ -5,7 +5,8 @@ ghost use Rattle.ffc_solve.specs.Generated.{made_text, step_text, tail_text};
 use std::alloc::{AllocError, Global};
 
 /// The lines before the first step.
-const HEAD: &str = "(set-logic QF_FF)\n(define-sort F () (_ FiniteField 18446744069414584321))\n(declare-const x0 F)\n(assert (= x0 (as ff3 F)))\n";
+const HEAD: &str =
+    "(set-logic QF_FF)\n(define-sort F () (_ FiniteField 18446744069414584321))\n(declare-const x0 F)\n(assert (= x0 (as ff3 F)))\n";
 
 /// Appends the lines of a step.
 fn push_step(text: &mut String, i: u64) -> Result<(), AllocError>
@@ -14,7 +15,10 @@ fn push_step(text: &mut String, i: u64) -> Result<(), AllocError>
 {
     let j = i - 1;
     write!(text, "(declare-const x{i} F)\n")?;
-    write!(text, "(assert (= x{i} (ff.add (ff.mul x{j} x{j}) (as ff{i} F))))\n")?;
+    write!(
+        text,
+        "(assert (= x{i} (ff.add (ff.mul x{j} x{j}) (as ff{i} F))))\n"
+    )?;
     Ok(())
 }
 
@@ -25,7 +29,10 @@ fn push_tail(text: &mut String, n: u64) -> Result<(), AllocError>
 {
     let m = n - 1;
     text.push_str("(check-sat)\n(push 1)\n(declare-const y F)\n")?;
-    write!(text, "(assert (= y (ff.add (ff.mul x{m} x{m}) (as ff{n} F))))\n")?;
+    write!(
+        text,
+        "(assert (= y (ff.add (ff.mul x{m} x{m}) (as ff{n} F))))\n"
+    )?;
     write!(text, "(assert (distinct y x{n}))\n")?;
     text.push_str("(check-sat)\n(pop 1)\n(check-sat)\n")?;
     Ok(())

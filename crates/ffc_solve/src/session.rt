@@ -262,11 +262,7 @@ impl Session {
     }
 
     /// Answers the next command, once it is whole.
-    pub fn advance<O: Sink, C: Sink>(
-        &mut self,
-        out: &mut O,
-        cert: &mut C,
-    ) -> Result<Advance, Stop>
+    pub fn advance<O: Sink, C: Sink>(&mut self, out: &mut O, cert: &mut C) -> Result<Advance, Stop>
         requires active { self.old.reader.over ≡ false }
         requires budget { IsBudget self.old.steps }
         requires short { length self.old.reader.text ≤ 67108865 }

@@ -107,7 +107,11 @@ fn made_line(alloc: Global, size: u64, tally: Tally) -> Result<String, AllocErro
     ensures { IfOk result (λ text. (entries : List CertEntry) → Counts tally entries → string_bytes text ≡ made_answer (Some size) entries) }
 {
     let mut text = String::new(alloc);
-    write!(text, "made {size} sat {} unsat {} unknown {}\n", tally.sat, tally.unsat, tally.unknown)?;
+    write!(
+        text,
+        "made {size} sat {} unsat {} unknown {}\n",
+        tally.sat, tally.unsat, tally.unknown
+    )?;
     Ok(text)
 }
 

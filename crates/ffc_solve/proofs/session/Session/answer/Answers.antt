@@ -58,18 +58,22 @@ returns-in_ok-check-in-Check-clause-ok g c = λ p entries l holds gives.
     let s = c.args.self.now in
     let (entry, right, is, cert, out) = c.in_ok-check-in-Check.ensures.ok in
     let first = c.steps_come_first.ensures in
-    let answered = answered_is p s entries l c.args.command holds gives first in
-    (told_then p s entries l c.args.command holds gives first (gives.check ∙ ap (λ d. check_by d (known_at s.reader)) c.in-Check.is) entry right c.check.new.self None _ _ _ _ (omega (arith, c.requires.budget.few)) is
-    (no_texts (then gives.step) gives.step.command (subst (IsAnswered (then gives.step) gives.step.command) c.in-Check.is answered)) cert out, ap (λ r. r.over) is.reader ∙ gives.over ∙ ap ends c.in-Check.is)
+    let answered = answered_is p s entries l c.args.command holds gives first in (
+      told_then p s entries l c.args.command holds gives first (gives.check ∙ ap (λ d. check_by d (known_at s.reader)) c.in-Check.is) entry right c.check.new.self None _ _ _ _ (omega (arith, c.requires.budget.few)) is
+          (no_texts (then gives.step) gives.step.command (subst (IsAnswered (then gives.step) gives.step.command) c.in-Check.is answered)) cert out,
+      ap (λ r. r.over) is.reader ∙ gives.over ∙ ap ends c.in-Check.is,
+    )
 
 pub returns-in_ok-check-in-CheckAssuming-clause-ok : goal.returns-in_ok-check-in-CheckAssuming-clause-ok
 returns-in_ok-check-in-CheckAssuming-clause-ok g c = λ p entries l holds gives.
     let s = c.args.self.now in
     let (entry, right, is, cert, out) = c.in_ok-check-in-CheckAssuming.ensures.ok in
     let first = c.steps_come_first.ensures in
-    let answered = answered_is p s entries l c.args.command holds gives first in
-    (told_then p s entries l c.args.command holds gives first (gives.check ∙ ap (λ d. check_by d (known_at s.reader)) c.in-CheckAssuming.is) entry right c.check-in-CheckAssuming.new.self (Some c.in-CheckAssuming.asked) _ _ _ _ (omega (arith, c.requires.budget.few)) is
-    (asked_texts (then gives.step) gives.step.command c.in-CheckAssuming.asked (subst (IsAnswered (then gives.step) gives.step.command) c.in-CheckAssuming.is answered)) cert out, ap (λ r. r.over) is.reader ∙ gives.over ∙ ap ends c.in-CheckAssuming.is)
+    let answered = answered_is p s entries l c.args.command holds gives first in (
+      told_then p s entries l c.args.command holds gives first (gives.check ∙ ap (λ d. check_by d (known_at s.reader)) c.in-CheckAssuming.is) entry right c.check-in-CheckAssuming.new.self (Some c.in-CheckAssuming.asked) _ _ _ _ (omega (arith, c.requires.budget.few)) is
+          (asked_texts (then gives.step) gives.step.command c.in-CheckAssuming.asked (subst (IsAnswered (then gives.step) gives.step.command) c.in-CheckAssuming.is answered)) cert out,
+      ap (λ r. r.over) is.reader ∙ gives.over ∙ ap ends c.in-CheckAssuming.is,
+    )
 
 pub returns-in-Exit-clause-ok : goal.returns-in-Exit-clause-ok
 returns-in-Exit-clause-ok g c = λ p entries l holds gives. exit_told p c.args.self.now entries l c.args.command _ _ holds gives c.steps_come_first.ensures c.in-Exit.is
