@@ -14,3 +14,4 @@ mod walk;
 
 pub use lemma::{Kept, lemma_tree};
 pub use stop::{BrokenLine, TreeStop};
+pub use walk::read_tree;
