@@ -1,5 +1,13 @@
+pub mod AddedLemmas
+pub mod CoprimeLemmas
 pub mod LineLemmas
 pub mod Lists
+pub mod Mapped
+pub mod NeedlessLemmas
 pub mod OrderedTerms
+pub mod PairLemmas
+pub mod PairTableLemmas
 pub mod PartLemmas
 pub mod ReductionLemmas
+pub mod SPolynomialLemmas
+pub mod UnitLemmas

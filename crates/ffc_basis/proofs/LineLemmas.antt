@@ -9,14 +9,14 @@ combination-alike : (gs hs : List Terms) (n : ℕ) (ts : Parts) → AreBefore n 
 combination-alike gs hs n [] v alike = refl
 combination-alike gs hs n (t ∷ ts) v alike = ap₂ (λ g r. product t.1 g ++ r) (alike t.0 v.0) (combination-alike gs hs n ts v.1 alike)
 
-AreLinesFrom-alike : {F O : Type 0} (p : ℕ) (gs hs : List Terms) (i : ℕ) (ls : List (Line F O)) → ((j : ℕ) → j < i + length ls → get_or gs j [] ≡ get_or hs j []) → AreLinesFrom p gs i ls → AreLinesFrom p hs i ls
+pub AreLinesFrom-alike : {F O : Type 0} (p : ℕ) (gs hs : List Terms) (i : ℕ) (ls : List (Line F O)) → ((j : ℕ) → j < i + length ls → get_or gs j [] ≡ get_or hs j []) → AreLinesFrom p gs i ls → AreLinesFrom p hs i ls
 AreLinesFrom-alike p gs hs i [] alike v = tt
 AreLinesFrom-alike p gs hs i (l ∷ ls) alike v = (
   (v.0.0, λ some m. v.0.1 some m ∙ ap (λ ts. coefficient p ts m) (combination-alike gs hs i l.parts.items v.0.0 (λ j h. alike j (omega arith)))),
   AreLinesFrom-alike p gs hs (suc i) ls (λ j h. alike j (omega (arith, h))) v.1,
 )
 
-AreLinesFrom-append : {F O : Type 0} (p : ℕ) (gs : List Terms) (i : ℕ) (xs ys : List (Line F O)) → AreLinesFrom p gs i xs → ((n : ℕ) → AreLinesFrom p gs n ys) → AreLinesFrom p gs i (xs ++ ys)
+pub AreLinesFrom-append : {F O : Type 0} (p : ℕ) (gs : List Terms) (i : ℕ) (xs ys : List (Line F O)) → AreLinesFrom p gs i xs → ((n : ℕ) → AreLinesFrom p gs n ys) → AreLinesFrom p gs i (xs ++ ys)
 AreLinesFrom-append p gs i [] ys v w = w i
 AreLinesFrom-append p gs i (x ∷ xs) ys v w = (v.0, AreLinesFrom-append p gs (suc i) xs ys v.1 w)
 
@@ -28,7 +28,7 @@ AreLinesFrom-generators p gs (l ∷ ls) (t ∷ ts) v i = (
   AreLinesFrom-generators p gs ls ts v.2 (suc i),
 )
 
-polys-append : {F O : Type 0} (xs ys : List (Line F O)) (j : ℕ) → j < length xs → get_or (polys_of xs) j [] ≡ get_or (polys_of (xs ++ ys)) j []
+pub polys-append : {F O : Type 0} (xs ys : List (Line F O)) (j : ℕ) → j < length xs → get_or (polys_of xs) j [] ≡ get_or (polys_of (xs ++ ys)) j []
 polys-append [] ys j h = absurd (omega arith)
 polys-append (x ∷ xs) ys zero h = refl
 polys-append (x ∷ xs) ys (suc j) h = polys-append xs ys j (omega arith)
@@ -70,7 +70,7 @@ take_front [] ys (suc n) e = absurd (omega arith)
 take_front (x ∷ xs) ys zero e = absurd (omega arith)
 take_front (x ∷ xs) ys (suc n) e = ap (λ l. x ∷ l) (take_front xs ys n (omega arith))
 
-taken_more : {A : Type 0} (xs : List A) (i : ℕ) (x : A) → i < length xs → x ≡ get_or xs i x → take (i + 1) xs ≡ take i xs ++ x ∷ []
+pub taken_more : {A : Type 0} (xs : List A) (i : ℕ) (x : A) → i < length xs → x ≡ get_or xs i x → take (i + 1) xs ≡ take i xs ++ x ∷ []
 taken_more [] i x h e = absurd (omega arith)
 taken_more (y ∷ xs) zero x h e = ap (λ z. z ∷ []) (sym e)
 taken_more (y ∷ xs) (suc i) x h e = rw add-one (ap (λ l. y ∷ l) (sym (ap (λ n. take n xs) (add-one i)) ∙ taken_more xs i x (omega arith) e))

@@ -3,11 +3,15 @@ ghost use Rattle.std.specs.Prelude.{◌≡◌, ◌≤◌, [], length, vec_len, t
 ghost use Rattle.ffc_base.specs.Metering.{total};
 ghost use Rattle.ffc_ring.specs.Polynomial.{SamePolynomial, difference};
 ghost use Rattle.ffc_basis.specs.Completion.{ReducesToZero};
+ghost use Rattle.ffc_basis.specs.Completed.{IsFront, IsCompletion, IsProgress, HasTaken};
+ghost use Rattle.ffc_basis.specs.Units.{Takes};
 ghost use Rattle.ffc_basis.specs.Lines.{polys_of, combination, AreBefore, AreLines, AreGenerators, IsAddedTo};
 ghost use Rattle.ffc_basis.specs.Reduction.{ArePartsAtMost, IsReduced, IsStopped};
 ghost use Rattle.ffc_basis.specs.declared.stop.BasisStop.TheVariants as stops;
 
+use crate::completion::{Completion, Progress};
 use crate::line::Line;
+use crate::pairing::{Pairing, advance};
 use crate::reduction::{Reduced, reduce_by};
 use crate::stop::BasisStop;
 use ffc_base::Meter;
@@ -21,34 +25,53 @@ use std::marker::Model;
 #[derive(Debug)]
 pub struct Basis<F: Field, O: MonoOrder> {
     lines: Vec<Line<F, O>>,
+    pairing: Pairing,
 }
 
 impl<F: Field, O: MonoOrder> Drop for Basis<F, O> {
     fn drop(self) {
-        let Basis { lines: _ } = self;
+        let Basis {
+            lines: _,
+            pairing: _,
+        } = self;
     }
 }
 
 impl<F: Field, O: MonoOrder> Model for Basis<F, O> {
     ghost use Rattle.std.specs.Prelude.{List};
-    ghost use Rattle.ffc_basis.specs.Lines.{AreLines};
+    ghost use Rattle.ffc_basis.specs.Lines.{AreLines, polys_of};
+    ghost use Rattle.ffc_basis.specs.PairTable.{ArePairs};
     ghost use Rattle.ffc_basis.specs.declared.line.Line.{Line};
 
     ghost Value = { List (Line F O) };
 
     ghost view = { λ b. b.lines.items };
 
-    ghost invariant = { λ b. AreLines F.ORDER b.lines.items };
+    ghost invariant = { λ b. AreLines F.ORDER b.lines.items
+        × ArePairs F.ORDER O.cmp (polys_of b.lines.items) b.pairing.records.items b.pairing.joined };
 }
 
 impl<F: Field, O: MonoOrder> Basis<F, O> {
+    /// The basis with no lines. It takes no memory.
+    pub fn new(alloc: Global) -> Self
+        ensures { result ≡ [] }
+    {
+        Basis {
+            lines: Vec::new(alloc),
+            pairing: Pairing::new(alloc),
+        }
+    }
+
     /// The basis whose lines are these generators in order.
     pub fn start(alloc: Global, gens: &[Poly<F, O>]) -> Result<Self, AllocError>
         ensures { IfOk result (λ b. AreGenerators b gens.now) }
     {
         let mut lines = Vec::new(alloc);
         append_generators(&mut lines, gens)?;
-        Ok(Basis { lines })
+        Ok(Basis {
+            lines,
+            pairing: Pairing::new(alloc),
+        })
     }
 
     /// The lines in order. It takes no memory.
@@ -80,6 +103,48 @@ impl<F: Field, O: MonoOrder> Basis<F, O> {
         ensures { self.new ≡ take len self.old }
     {
         self.lines.truncate(len);
+        self.pairing.cut(len);
+    }
+
+    /// Completes the basis by Buchberger's algorithm (Buchberger 1965; Cox, Little and O'Shea, chapter 2, section 7). Each
+    /// S-polynomial that is formed and each multiple that is subtracted is one Reduction. At Spent the lines so far stand,
+    /// and a later call goes on with them.
+    pub fn complete(&mut self, meter: &mut Meter) -> Result<Completion, BasisStop>
+        ensures stays { IsFront F.ORDER O.cmp self.old self.new }
+        ensures found { IfOk result (IsCompletion F.ORDER O.cmp (polys_of self.new)) }
+        ensures spent { IsErrOf result stops.Spent → total meter.new ≡ meter.new.budget }
+        ensures takes { Takes meter.old meter.new }
+        ensures unchanged { IsErrOf result stops.Memory → self.new ≡ self.old }
+    {
+        match self.complete_within(u64::MAX, meter) {
+            Ok(Progress::Done(completion)) => Ok(completion),
+            Ok(Progress::Left) => {
+                let _budget = meter.budget();
+                Err(BasisStop::Spent)
+            }
+            Err(stop) => Err(stop),
+        }
+    }
+
+    /// Does a part of that work: pairs are left only where at least so many units were taken. It looks at the units between
+    /// two pairs, so that each call goes on by at least one.
+    pub fn complete_within(&mut self, units: u64, meter: &mut Meter) -> Result<Progress, BasisStop>
+        ensures stays { IsFront F.ORDER O.cmp self.old self.new }
+        ensures found { IfOk result (IsProgress F.ORDER O.cmp (polys_of self.new)) }
+        ensures left { IfOk result (HasTaken meter.old meter.new units) }
+        ensures spent { IsErrOf result stops.Spent → total meter.new ≡ meter.new.budget }
+        ensures takes { Takes meter.old meter.new }
+        ensures unchanged { IsErrOf result stops.Memory → self.new ≡ self.old }
+    {
+        let count = self.lines.len();
+        match advance(&mut self.lines, &mut self.pairing, units, meter) {
+            Ok(progress) => Ok(progress),
+            Err(BasisStop::Spent) => Err(BasisStop::Spent),
+            Err(BasisStop::Memory) => {
+                self.cut(count);
+                Err(BasisStop::Memory)
+            }
+        }
     }
 
     /// Reduces a polynomial by the lines: what is left of it is the polynomial minus the sum of the parts' multiples of
@@ -99,6 +164,7 @@ impl<F: Field, O: MonoOrder> Basis<F, O> {
         ensures over { IfOk result (λ r. IfSome r.over (λ t.
             IsStopped F.ORDER O.cmp (polys_of self.old) r.rest r.parts.items t.0 t.1)) }
         ensures spent { IsErrOf result stops.Spent → total meter.new ≡ meter.new.budget }
+        ensures takes { Takes meter.old meter.new }
         ensures unchanged { self.new ≡ self.old }
     {
         reduce_by(*self.lines.allocator(), self.lines(), poly, meter)

@@ -2,13 +2,22 @@
 #![tactic(auto)]
 
 mod basis;
+mod completion;
+#[cfg(test)]
+mod completion_tests;
 mod line;
+mod pair;
+mod pairing;
+mod queue;
 mod reduction;
+mod spoly;
 mod stop;
 #[cfg(test)]
 mod tests;
 
 pub use basis::Basis;
+pub use completion::{Completion, Progress};
 pub use line::{Line, LineId};
+pub use pair::Pairs;
 pub use reduction::Reduced;
 pub use stop::BasisStop;

@@ -6,6 +6,7 @@ ghost use Rattle.ffc_ring.specs.Monomial.{Divides, mono_mul};
 ghost use Rattle.ffc_ring.specs.Polynomial.{Terms, SamePolynomial, PassesTerms};
 ghost use Rattle.ffc_basis.specs.Lines.{polys_of, HasPart};
 ghost use Rattle.ffc_basis.specs.Reduction.{IsIrreducible, IsStep, IsAddedAt, IsRecorded, IsReduction, IsReduced, SameFirst, IsStopped, PassesLimit};
+ghost use Rattle.ffc_basis.specs.Units.{TakesReductions};
 ghost use Rattle.ffc_basis.specs.declared.stop.BasisStop.TheVariants as stops;
 
 use crate::line::{Line, LineId};
@@ -38,10 +39,10 @@ impl<F: Field, O: MonoOrder> Drop for Reduced<F, O> {
 
 /// A multiple of a line by a term.
 #[derive(Debug, Drop)]
-struct Step<F: Field> {
-    line: usize,
-    coefficient: F,
-    monomial: Mono,
+pub(crate) struct Step<F: Field> {
+    pub line: usize,
+    pub coefficient: F,
+    pub monomial: Mono,
 }
 
 /// The coefficient c divided by d.
@@ -56,7 +57,7 @@ fn quotient_of<F: Field>(c: F, d: F) -> F
 }
 
 /// The multiple of the term d*n that is c*m.
-fn multiple_of<F: Field>(
+pub(crate) fn multiple_of<F: Field>(
     alloc: Global,
     line: usize,
     lead: (F, MonoRef<'_>),
@@ -99,7 +100,11 @@ fn step_at<F: Field, O: MonoOrder>(
 }
 
 /// The polynomial c*m.
-fn term<F: Field, O: MonoOrder>(alloc: Global, c: F, m: &Mono) -> Result<Poly<F, O>, AllocError>
+pub(crate) fn term<F: Field, O: MonoOrder>(
+    alloc: Global,
+    c: F,
+    m: &Mono,
+) -> Result<Poly<F, O>, AllocError>
     ensures { IfOk result (λ r. SamePolynomial F.ORDER r ((F.value c, m.now) ∷ [])) }
 {
     let mut terms = Vec::new(alloc);
@@ -141,7 +146,7 @@ fn add_at<F: Field, O: MonoOrder>(
 }
 
 /// Appends a part.
-fn append<F: Field, O: MonoOrder>(
+pub(crate) fn append<F: Field, O: MonoOrder>(
     parts: &mut Vec<(LineId, Poly<F, O>)>,
     line: LineId,
     part: Poly<F, O>,
@@ -157,7 +162,7 @@ fn append<F: Field, O: MonoOrder>(
 }
 
 /// Adds a multiple to the part of its line.
-fn record<F: Field, O: MonoOrder>(
+pub(crate) fn record<F: Field, O: MonoOrder>(
     parts: &mut Vec<(LineId, Poly<F, O>)>,
     step: &Step<F>,
 ) -> Result<(), PolyStop>
@@ -211,7 +216,7 @@ fn subtract<F: Field, O: MonoOrder>(
 }
 
 /// Goes on where a limit was passed, and not where there was no memory.
-fn past_limit(stop: PolyStop) -> Result<(), AllocError>
+pub(crate) fn past_limit(stop: PolyStop) -> Result<(), AllocError>
     ensures { OnOk result (stop ≢ PolyStop.Memory) }
 {
     match stop {
@@ -233,6 +238,7 @@ pub fn reduce_by<F: Field, O: MonoOrder>(
     ensures reduced { IfOk result (λ r. IfNone r.over (IsReduced F.ORDER O.cmp (polys_of lines.now) r.rest)) }
     ensures over { IfOk result (λ r. IfSome r.over (λ t. IsStopped F.ORDER O.cmp (polys_of lines.now) r.rest r.parts.items t.0 t.1)) }
     ensures spent { IsErrOf result stops.Spent → total meter.new ≡ meter.new.budget }
+    ensures takes { TakesReductions meter.old meter.new }
 {
     let _length = poly.len();
     let mut rest = poly.clone()?;

@@ -6,6 +6,7 @@ use Rattle.ffc_mono.specs.declared.mono.TheConstants.{DEGREE_LIMIT}
 use Rattle.ffc_basis.specs.Lines.{polys_of}
 use Rattle.ffc_basis.specs.Reduction.{IsIrreducible, IsStep, IsStopped}
 use Rattle.ffc_basis.proofs.ReductionLemmas.{reduction_begins, reduced_from_terms, stopped}
+use Rattle.ffc_basis.proofs.UnitLemmas.{takes_nothing, takes_next}
 use Rattle.ffc_basis.proofs.reduction.reduce_by.Goals as goal
 
 pub loop-place-init : goal.loop-place-init
@@ -13,6 +14,7 @@ loop-place-init g c = record {
   reduction = reduction_begins g.F.Field.ORDER g.met.F.Field.prime g.O.MonoOrder.cmp g.met.O.MonoOrder.laws DEGREE_LIMIT (polys_of c.args.lines.now)
       c.args.poly.now c.in_ok-rest.rest c.new-parts.result.items c.len-length.ensures.ordered c.in_ok-rest.ensures.cases c.new-parts.ensures.items;
   irreducible = λ j h i w d n lead divides. absurd (omega arith);
+  takes = takes_nothing c.args.meter.now;
 }
 
 pub loop-place-smaller-in_default : goal.loop-place-smaller-in_default
@@ -35,6 +37,7 @@ loop-place-preserved-in_default g c =
                 subst (λ x. IsIrreducible p cmp gs (get_or rest x (0, [])).1) (sym here) (subst (IsIrreducible p cmp gs) c.term-c.ensures.monomial none)
             | inr other ↦ c.loop-place.invariant.irreducible j (omega arith)
           ];
+      takes = c.loop-place.invariant.takes;
     }
 
 pub loop-place-smaller-in-Ok : goal.loop-place-smaller-in-Ok
@@ -48,6 +51,7 @@ loop-place-preserved-in-Ok g c =
     record {
       reduction = c.in-Ok.ensures.reduction c.args.poly.now c.loop-place.invariant.reduction;
       irreducible = λ j h. subst (λ t. IsIrreducible p cmp gs t.1) (c.in-Ok.ensures.first j h).1 (c.loop-place.invariant.irreducible j h);
+      takes = takes_next c.args.meter.now c.loop-place.meter c.take.new.self c.loop-place.invariant.takes c.in_ok-take.ensures.taken;
     }
 
 pub loop-place-smaller : goal.loop-place-smaller
@@ -61,6 +65,7 @@ loop-place-preserved g c =
     record {
       reduction = c.in-Ok.ensures.reduction c.args.poly.now c.loop-place.invariant.reduction;
       irreducible = λ j h. subst (λ t. IsIrreducible p cmp gs t.1) (c.in-Ok.ensures.first j h).1 (c.loop-place.invariant.irreducible j h);
+      takes = takes_next c.args.meter.now c.loop-place.meter c.take.new.self c.loop-place.invariant.takes c.in_ok-take.ensures.taken;
     }
 
 pub returns-clause-reduction : goal.returns-clause-reduction

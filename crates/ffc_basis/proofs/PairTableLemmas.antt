@@ -1,0 +1,356 @@
+-- What is known of pairs, where lines are appended and dropped, and where no pair is pending.
+use Rattle.std.proofs.Common.{◌≡◌, ◌≢◌, ℕ, zero, suc, ◌+◌, ◌<◌, ◌≤◌, ◌⊎◌, List, [], ◌∷◌, ◌++◌, length, get_or, set, take, drop, map, min, Bool, true, false, cond, refl, sym, ap, ◌∙◌, subst, inl, inr, arith, nat_lt, nat_le, filter, length-append, if◌then◌else◌}
+use Rattle.std.proofs.Math.ListN.{get_or-append}
+use Rattle.std.proofs.lemmas.Bool.{cases_eq, cases_order}
+use Rattle.std.proofs.lemmas.Bool.Decides.{nat_tests}
+use Rattle.std.proofs.lemmas.List.{take-append-le, take-append-drop, length-take-le}
+use Rattle.std.specs.declared.cmp.Ordering.{Ordering}
+use Rattle.ffc_ring.specs.Monomial.{Monomial}
+use Rattle.ffc_ring.specs.Polynomial.{Terms}
+use Rattle.ffc_mono.specs.MonomialOrder.{IsMonomialOrder}
+use Rattle.ffc_basis.specs.declared.pair.PairRecord.{PairRecord}
+use Rattle.ffc_basis.specs.declared.pair.PairState.{PairState}
+use Rattle.ffc_basis.specs.declared.pair.PairState.TheVariants.{Pending, Closed, Over}
+use Rattle.ffc_basis.specs.Completion.{IsPairClosed, IsPairOver, AreOver, IsListed}
+use Rattle.ffc_basis.specs.Completed.{IsCompletion}
+use Rattle.ffc_basis.specs.PairTable.{AreBothClosed, AreNeedless, IsState, IsRecord, AreRecords, HasRecord, ArePairs, AreSettled, known_by, forgotten, with_over, over_of, answer_of}
+use Rattle.ffc_basis.proofs.LineLemmas.{taken_more}
+use Rattle.ffc_basis.proofs.Lists.{any_default}
+use Rattle.ffc_basis.proofs.PairLemmas.{grown_pairs_close, same_line_closes}
+
+-- ---- lists
+
+get_or-take : {A : Type 0} (n : ℕ) (xs : List A) (i : ℕ) (d : A) → i < n → get_or (take n xs) i d ≡ get_or xs i d
+get_or-take zero xs i d h = absurd (omega arith)
+get_or-take (suc n) [] i d h = refl
+get_or-take (suc n) (x ∷ xs) zero d h = refl
+get_or-take (suc n) (x ∷ xs) (suc i) d h = get_or-take n xs i d (omega arith)
+
+take-take : {A : Type 0} (n m : ℕ) (xs : List A) → n ≤ m → take n (take m xs) ≡ take n xs
+take-take zero m xs h = refl
+take-take (suc n) zero xs h = absurd (omega arith)
+take-take (suc n) (suc m) [] h = refl
+take-take (suc n) (suc m) (x ∷ xs) h = ap (λ ys. x ∷ ys) (take-take n m xs (omega arith))
+
+take_all : {A : Type 0} (xs : List A) → take (length xs) xs ≡ xs
+take_all [] = refl
+take_all (x ∷ xs) = ap (λ ys. x ∷ ys) (take_all xs)
+
+no_list : {A : Type 0} (x : A) (xs : List A) → x ∷ xs ≢ []
+no_list x xs e = let same : suc (length xs) ≡ 0 = ap length e in omega arith
+
+last_or_before : (i n : ℕ) → i < n + 1 → (i ≡ n) ⊎ (i < n)
+last_or_before i n h =
+    elim (cases_eq i n) [ inl same ↦ inl same | inr other ↦ inr (omega arith) ]
+
+less_of_test : (a b : ℕ) → nat_lt a b ≡ true → a < b
+less_of_test a b h = grind (arith, nat_tests)
+
+not_less_of_test : (a b : ℕ) → nat_lt a b ≡ false → b ≤ a
+not_less_of_test a b h = grind (arith, nat_tests)
+
+at_most_of_test : (a b : ℕ) → nat_le a b ≡ true → a ≤ b
+at_most_of_test a b h = grind (arith, nat_tests)
+
+module _ (p : ℕ) (cmp : Monomial → Monomial → Ordering) where
+  -- ---- lines are appended
+
+  state_grown : (gs more : List Terms) (i j : ℕ) (s : PairState) → IsState p cmp gs i j s → IsState p cmp (gs ++ more) i j s
+  state_grown gs more i j Pending v = tt
+  state_grown gs more i j (Closed n) (within, after, both) = (
+    omega (arith, within, length-append gs more),
+    after,
+    subst (λ hs. AreBothClosed p cmp hs i j) (sym (take-append-le n gs more within)) both,
+  )
+  state_grown gs more i j (Over n) (within, after, over) = (
+    omega (arith, within, length-append gs more),
+    after,
+    subst (λ hs. IsPairOver p cmp hs i j) (sym (take-append-le n gs more within)) over,
+  )
+
+  records_grown : (gs more : List Terms) (rs : List PairRecord) → AreRecords p cmp gs rs → AreRecords p cmp (gs ++ more) rs
+  records_grown gs more [] v = tt
+  records_grown gs more (r ∷ rs) v = (
+    record {
+      ordered = v.0.ordered;
+      within = omega (arith, v.0.within, length-append gs more);
+      state = state_grown gs more r.first r.second r.state v.0.state;
+    },
+    records_grown gs more rs v.1,
+  )
+
+  needless_alike : (a b c d : Terms) → a ≡ c → b ≡ d → AreNeedless p cmp a b → AreNeedless p cmp c d
+  needless_alike a b c d e f v = subst (λ x. AreNeedless p cmp x d) e (subst (AreNeedless p cmp a) f v)
+
+  pub pairs_grown : (gs more : List Terms) (rs : List PairRecord) (joined : ℕ) → ArePairs p cmp gs rs joined → ArePairs p cmp (gs ++ more) rs joined
+  pairs_grown gs more rs joined v = record {
+    joined_within = omega (arith, v.joined_within, length-append gs more);
+    records = records_grown gs more rs v.records;
+    covered = λ i j h g.
+        elim (v.covered i j h g) [
+          | inl there ↦ inl there
+          | inr needless ↦
+              let within = v.joined_within in
+              inr (needless_alike (get_or gs i []) (get_or gs j []) (get_or (gs ++ more) i []) (get_or (gs ++ more) j [])
+              (sym (get_or-append gs more [] i (omega arith))) (sym (get_or-append gs more [] j (omega arith))) needless)
+        ];
+  }
+
+  -- ---- lines are dropped
+
+  closed_cut : (gs : List Terms) (len i j n : ℕ) (b : Bool) → len ≤ length gs → nat_le n len ≡ b → n ≤ length gs → j < n → AreBothClosed p cmp (take n gs) i j → IsState p cmp (take len gs) i j (if b then Closed n else Pending)
+  closed_cut gs len i j n true h is within after both = (
+    omega (arith, at_most_of_test n len is, length-take-le len gs h),
+    after,
+    subst (λ hs. AreBothClosed p cmp hs i j) (sym (take-take n len gs (at_most_of_test n len is))) both,
+  )
+  closed_cut gs len i j n false h is within after both = tt
+
+  over_cut : (gs : List Terms) (len i j n : ℕ) (b : Bool) → len ≤ length gs → nat_le n len ≡ b → n ≤ length gs → j < n → IsPairOver p cmp (take n gs) i j → IsState p cmp (take len gs) i j (if b then Over n else Pending)
+  over_cut gs len i j n true h is within after over = (
+    omega (arith, at_most_of_test n len is, length-take-le len gs h),
+    after,
+    subst (λ hs. IsPairOver p cmp hs i j) (sym (take-take n len gs (at_most_of_test n len is))) over,
+  )
+  over_cut gs len i j n false h is within after over = tt
+
+  state_cut : (gs : List Terms) (len i j : ℕ) (s : PairState) → len ≤ length gs → IsState p cmp gs i j s → IsState p cmp (take len gs) i j (known_by len s)
+  state_cut gs len i j Pending h v = tt
+  state_cut gs len i j (Closed n) h (within, after, both) = closed_cut gs len i j n (nat_le n len) h refl within after both
+  state_cut gs len i j (Over n) h (within, after, over) = over_cut gs len i j n (nat_le n len) h refl within after over
+
+  abbrev left : ℕ → List PairRecord → List PairRecord
+  left len rs = map (forgotten len) (filter (λ r. nat_lt r.second len) rs)
+
+  records_cut_first : (gs : List Terms) (len : ℕ) (r : PairRecord) (rs : List PairRecord) (b : Bool) → len ≤ length gs → nat_lt r.second len ≡ b → IsRecord p cmp gs r → AreRecords p cmp (take len gs) (left len rs)
+      → AreRecords p cmp (take len gs) (map (forgotten len) (cond b (r ∷ filter (λ x. nat_lt x.second len) rs) (filter (λ x. nat_lt x.second len) rs)))
+  records_cut_first gs len r rs true h is v rest = (
+    record {
+      ordered = v.ordered;
+      within = omega (arith, less_of_test r.second len is, length-take-le len gs h);
+      state = state_cut gs len r.first r.second r.state h v.state;
+    },
+    rest,
+  )
+  records_cut_first gs len r rs false h is v rest = rest
+
+  records_cut : (gs : List Terms) (len : ℕ) (rs : List PairRecord) → len ≤ length gs → AreRecords p cmp gs rs → AreRecords p cmp (take len gs) (left len rs)
+  records_cut gs len [] h v = tt
+  records_cut gs len (r ∷ rs) h v = records_cut_first gs len r rs (nat_lt r.second len) h refl v.0 (records_cut gs len rs h v.1)
+
+  has_cut_first : (len : ℕ) (r : PairRecord) (rs : List PairRecord) (i j : ℕ) (b : Bool) → nat_lt r.second len ≡ b → j < len → ((r.first ≡ i) × (r.second ≡ j)) ⊎ HasRecord (left len rs) i j
+      → HasRecord (map (forgotten len) (cond b (r ∷ filter (λ x. nat_lt x.second len) rs) (filter (λ x. nat_lt x.second len) rs))) i j
+  has_cut_first len r rs i j true is low (inl here) = inl here
+  has_cut_first len r rs i j true is low (inr there) = inr there
+  has_cut_first len r rs i j false is low (inl here) = absurd (omega (arith, here.1, not_less_of_test r.second len is))
+  has_cut_first len r rs i j false is low (inr there) = there
+
+  has_cut : (len : ℕ) (rs : List PairRecord) (i j : ℕ) → j < len → HasRecord rs i j → HasRecord (left len rs) i j
+  has_cut len [] i j low has = absurd has
+  has_cut len (r ∷ rs) i j low (inl here) = has_cut_first len r rs i j (nat_lt r.second len) refl low (inl here)
+  has_cut len (r ∷ rs) i j low (inr there) = has_cut_first len r rs i j (nat_lt r.second len) refl low (inr (has_cut len rs i j low there))
+
+  pub pairs_cut : (gs : List Terms) (rs : List PairRecord) (joined len : ℕ) → len ≤ length gs → ArePairs p cmp gs rs joined → ArePairs p cmp (take len gs) (map (forgotten len) (filter (λ r. nat_lt r.second len) rs)) (min joined len)
+  pairs_cut gs rs joined len h v = record {
+    joined_within = omega (arith, length-take-le len gs h);
+    records = records_cut gs len rs h v.records;
+    covered = λ i j low below.
+        elim (v.covered i j low (omega arith)) [
+          | inl there ↦ inl (has_cut len rs i j (omega arith) there)
+          | inr needless ↦
+              inr (needless_alike (get_or gs i []) (get_or gs j []) (get_or (take len gs) i []) (get_or (take len gs) j [])
+              (sym (get_or-take len gs i [] (omega arith))) (sym (get_or-take len gs j [] (omega arith))) needless)
+        ];
+  }
+
+  -- ---- records are appended and changed
+
+  has_push : (rs : List PairRecord) (r : PairRecord) (i j : ℕ) → HasRecord rs i j → HasRecord (rs ++ r ∷ []) i j
+  has_push [] r i j has = absurd has
+  has_push (x ∷ rs) r i j (inl here) = inl here
+  has_push (x ∷ rs) r i j (inr there) = inr (has_push rs r i j there)
+
+  pub has_pushed : (rs : List PairRecord) (r : PairRecord) → HasRecord (rs ++ r ∷ []) r.first r.second
+  has_pushed [] r = inl (refl, refl)
+  has_pushed (x ∷ rs) r = inr (has_pushed rs r)
+
+  records_push : (gs : List Terms) (rs : List PairRecord) (r : PairRecord) → AreRecords p cmp gs rs → IsRecord p cmp gs r → AreRecords p cmp gs (rs ++ r ∷ [])
+  records_push gs [] r v w = (w, tt)
+  records_push gs (x ∷ rs) r v w = (v.0, records_push gs rs r v.1 w)
+
+  -- a pending pair more
+  pub pairs_push : (gs : List Terms) (rs : List PairRecord) (joined : ℕ) (r : PairRecord) → r.first < r.second → r.second < length gs → r.state ≡ Pending → ArePairs p cmp gs rs joined → ArePairs p cmp gs (rs ++ r ∷ []) joined
+  pairs_push gs rs joined r h g is v = record {
+    joined_within = v.joined_within;
+    records = records_push gs rs r v.records record { ordered = h; within = g; state = subst (IsState p cmp gs r.first r.second) (sym is) tt };
+    covered = λ i j low below.
+        elim (v.covered i j low below) [ inl there ↦ inl (has_push rs r i j there) | inr needless ↦ inr needless ];
+  }
+
+  -- the pairs of the line with this number and the first i lines are there or needless
+  abbrev pub IsColumn : List Terms → List PairRecord → ℕ → ℕ → Type 0
+  IsColumn gs rs second first =
+      (i : ℕ) → i < first → HasRecord rs i second ⊎ AreNeedless p cmp (get_or gs i []) (get_or gs second [])
+
+  pub column_push : (gs : List Terms) (rs : List PairRecord) (second first : ℕ) (r : PairRecord) → r.first ≡ first → r.second ≡ second → IsColumn gs rs second first → IsColumn gs (rs ++ r ∷ []) second (first + 1)
+  column_push gs rs second first r e f v i h =
+      elim (last_or_before i first h) [
+        | inl here ↦
+            inl (subst (λ x. HasRecord (rs ++ r ∷ []) x second) (e ∙ sym here) (subst (HasRecord (rs ++ r ∷ []) r.first) f (has_pushed rs r)))
+        | inr low ↦ elim (v i low) [ inl there ↦ inl (has_push rs r i second there) | inr needless ↦ inr needless ]
+      ]
+
+  pub column_needless : (gs : List Terms) (rs : List PairRecord) (second first : ℕ) → AreNeedless p cmp (get_or gs first []) (get_or gs second []) → IsColumn gs rs second first → IsColumn gs rs second (first + 1)
+  column_needless gs rs second first needless v i h =
+      elim (last_or_before i first h) [
+        | inl here ↦ inr (subst (λ x. AreNeedless p cmp (get_or gs x []) (get_or gs second [])) (sym here) needless)
+        | inr low ↦ v i low
+      ]
+
+  -- so each pair of one line more is
+  pub pairs_joined : (gs : List Terms) (rs : List PairRecord) (second : ℕ) → second < length gs → ArePairs p cmp gs rs second → IsColumn gs rs second second → ArePairs p cmp gs rs (second + 1)
+  pairs_joined gs rs second h v column = record {
+    joined_within = omega (arith, h);
+    records = v.records;
+    covered = λ i j low below.
+        elim (last_or_before j second below) [
+          | inl here ↦
+              subst (λ x. HasRecord rs i x ⊎ AreNeedless p cmp (get_or gs i []) (get_or gs x [])) (sym here) (column i (subst (λ x. i < x) here low))
+          | inr before ↦ v.covered i j low before
+        ];
+  }
+
+  records_set : (gs : List Terms) (rs : List PairRecord) (place : ℕ) (r : PairRecord) → AreRecords p cmp gs rs → IsRecord p cmp gs r → AreRecords p cmp gs (set rs place r)
+  records_set gs [] place r v w = tt
+  records_set gs (x ∷ rs) zero r v w = (w, v.1)
+  records_set gs (x ∷ rs) (suc place) r v w = (v.0, records_set gs rs place r v.1 w)
+
+  has_set : (rs : List PairRecord) (place : ℕ) (r x : PairRecord) (i j : ℕ) → place < length rs → get_or rs place x ≡ x → r.first ≡ x.first → r.second ≡ x.second → HasRecord rs i j → HasRecord (set rs place r) i j
+  has_set [] place r x i j h is e f has = absurd has
+  has_set (y ∷ rs) zero r x i j h is e f (inl here) = inl (e ∙ sym (ap (λ z. z.first) is) ∙ here.0, f ∙ sym (ap (λ z. z.second) is) ∙ here.1)
+  has_set (y ∷ rs) zero r x i j h is e f (inr there) = inr there
+  has_set (y ∷ rs) (suc place) r x i j h is e f (inl here) = inl here
+  has_set (y ∷ rs) (suc place) r x i j h is e f (inr there) = inr (has_set rs place r x i j (omega arith) is e f there)
+
+  record_at : (gs : List Terms) (rs : List PairRecord) (place : ℕ) (x : PairRecord) → AreRecords p cmp gs rs → place < length rs → IsRecord p cmp gs (get_or rs place x)
+  record_at gs [] place x v h = absurd (omega arith)
+  record_at gs (r ∷ rs) zero x v h = v.0
+  record_at gs (r ∷ rs) (suc place) x v h = record_at gs rs place x v.1 (omega arith)
+
+  pub record_is : (gs : List Terms) (rs : List PairRecord) (joined place : ℕ) (x : PairRecord) → ArePairs p cmp gs rs joined → place < length rs → get_or rs place x ≡ x → IsRecord p cmp gs x
+  record_is gs rs joined place x v h is = subst (IsRecord p cmp gs) is (record_at gs rs place x v.records h)
+
+  -- more is known of a pair
+  pub pairs_set : (gs : List Terms) (rs : List PairRecord) (joined place : ℕ) (x r : PairRecord) → place < length rs → get_or rs place x ≡ x → r.first ≡ x.first → r.second ≡ x.second
+      → IsState p cmp gs x.first x.second r.state → ArePairs p cmp gs rs joined → ArePairs p cmp gs (set rs place r) joined
+  pairs_set gs rs joined place x r h is e f state v =
+      let old = record_is gs rs joined place x v h is in
+      record {
+        joined_within = v.joined_within;
+        records = records_set gs rs place r v.records record {
+          ordered = omega (arith, old.ordered, e, f);
+          within = omega (arith, old.within, f);
+          state = subst (λ i. IsState p cmp gs i r.second r.state) (sym e) (subst (λ j. IsState p cmp gs x.first j r.state) (sym f) state);
+        };
+        covered = λ i j low below.
+            elim (v.covered i j low below) [ inl there ↦ inl (has_set rs place r x i j h is e f there) | inr needless ↦ inr needless ];
+      }
+
+  -- all lines
+  pub state_by_all : (gs : List Terms) (i j : ℕ) → j < length gs → AreBothClosed p cmp gs i j → IsState p cmp gs i j (Closed (length gs))
+  state_by_all gs i j h both = (omega arith, h, subst (λ hs. AreBothClosed p cmp hs i j) (sym (take_all gs)) both)
+
+  pub over_by_all : (gs : List Terms) (i j : ℕ) → j < length gs → IsPairOver p cmp gs i j → IsState p cmp gs i j (Over (length gs))
+  over_by_all gs i j h over = (omega arith, h, subst (λ hs. IsPairOver p cmp hs i j) (sym (take_all gs)) over)
+
+  -- ---- no pair is pending
+
+  closed_by_first : (gs : List Terms) (n i j : ℕ) → n ≤ length gs → i < n → j < n → IsPairClosed p cmp (take n gs) i j → IsPairClosed p cmp gs i j
+  closed_by_first gs n i j within low after closed =
+      subst (λ hs. IsPairClosed p cmp hs i j) (take-append-drop n gs)
+      (grown_pairs_close p cmp (take n gs) (drop n gs) i j (omega (arith, length-take-le n gs within)) (omega (arith, length-take-le n gs within)) closed)
+
+  listed_later : (s : PairState) (t : ℕ × ℕ) (ts : List (ℕ × ℕ)) (i j : ℕ) → IsListed ts i j → IsListed (with_over s t ts) i j
+  listed_later Pending t ts i j v = v
+  listed_later (Closed n) t ts i j v = v
+  listed_later (Over n) t ts i j v = inr (inr v)
+
+  settled_first : (gs : List Terms) (s : PairState) (i j : ℕ) (ts : List (ℕ × ℕ)) → s ≢ Pending → i < j → IsState p cmp gs i j s → IsListed (with_over s (i, j) ts) i j ⊎ AreBothClosed p cmp gs i j
+  settled_first gs Pending i j ts done low v = absurd (done refl)
+  settled_first gs (Closed n) i j ts done low (within, after, both) =
+      inr (closed_by_first gs n i j within (omega arith) after both.0, closed_by_first gs n j i within after (omega arith) both.1)
+  settled_first gs (Over n) i j ts done low v = inl (inl (refl, refl))
+
+  settled_pair : (gs : List Terms) (rs : List PairRecord) (i j : ℕ) → i < j → AreSettled rs → AreRecords p cmp gs rs → HasRecord rs i j → IsListed (over_of rs) i j ⊎ AreBothClosed p cmp gs i j
+  settled_pair gs [] i j low done v has = absurd has
+  settled_pair gs (r ∷ rs) i j low done v (inl here) =
+      subst (λ x. IsListed (over_of (r ∷ rs)) x j ⊎ AreBothClosed p cmp gs x j) here.0
+      (subst (λ x. IsListed (over_of (r ∷ rs)) r.first x ⊎ AreBothClosed p cmp gs r.first x) here.1
+      (settled_first gs r.state r.first r.second (over_of rs) done.0 v.0.ordered v.0.state))
+  settled_pair gs (r ∷ rs) i j low done v (inr there) =
+      elim (settled_pair gs rs i j low done.1 v.1 there) [
+        | inl listed ↦ inl (listed_later r.state (r.first, r.second) (over_of rs) i j listed)
+        | inr both ↦ inr both
+      ]
+
+  listed_turned : (ts : List (ℕ × ℕ)) (i j : ℕ) → IsListed ts i j → IsListed ts j i
+  listed_turned [] i j v = absurd v
+  listed_turned (t ∷ ts) i j (inl here) = inr (inl here)
+  listed_turned (t ∷ ts) i j (inr (inl turned)) = inl turned
+  listed_turned (t ∷ ts) i j (inr (inr there)) = inr (inr (listed_turned ts i j there))
+
+  are_over_with : (gs : List Terms) (s : PairState) (i j : ℕ) (ts : List (ℕ × ℕ)) → i < j → IsState p cmp gs i j s → AreOver p cmp gs ts → AreOver p cmp gs (with_over s (i, j) ts)
+  are_over_with gs Pending i j ts low v rest = rest
+  are_over_with gs (Closed n) i j ts low v rest = rest
+  are_over_with gs (Over n) i j ts low (within, after, over) rest = ((n, within, omega arith, after, over), rest)
+
+  are_over : (gs : List Terms) (rs : List PairRecord) → AreRecords p cmp gs rs → AreOver p cmp gs (over_of rs)
+  are_over gs [] v = tt
+  are_over gs (r ∷ rs) v = are_over_with gs r.state r.first r.second (over_of rs) v.0.ordered v.0.state (are_over gs rs v.1)
+
+  module _ (laws : IsMonomialOrder cmp) (positive : 0 < p) where
+    each_pair : (gs : List Terms) (rs : List PairRecord) → AreSettled rs → ArePairs p cmp gs rs (length gs) → (i j : ℕ) → i < j → j < length gs → IsListed (over_of rs) i j ⊎ AreBothClosed p cmp gs i j
+    each_pair gs rs done v i j low below =
+        elim (v.covered i j low below) [
+          | inl there ↦ settled_pair gs rs i j low done v.records there
+          | inr needless ↦ inr (needless gs i j (omega arith) below refl refl)
+        ]
+
+    others : (gs : List Terms) (rs : List PairRecord) → AreSettled rs → ArePairs p cmp gs rs (length gs) → (i j : ℕ) → i < length gs → j < length gs → IsListed (over_of rs) i j ⊎ IsPairClosed p cmp gs i j
+    others gs rs done v i j h g =
+        elim (cases_order i j) [
+          | inr (inl less) ↦ elim (each_pair gs rs done v i j less g) [ inl listed ↦ inl listed | inr both ↦ inr both.0 ]
+          | inl same ↦ inr (subst (IsPairClosed p cmp gs i) same (same_line_closes p cmp laws positive gs i))
+          | inr (inr more) ↦
+              elim (each_pair gs rs done v j i more h) [ inl listed ↦ inl (listed_turned (over_of rs) j i listed) | inr both ↦ inr both.1 ]
+        ]
+
+    answer_is : (gs : List Terms) (ts : List (ℕ × ℕ)) → AreOver p cmp gs ts → ((i j : ℕ) → i < length gs → j < length gs → IsListed ts i j ⊎ IsPairClosed p cmp gs i j) → IsCompletion p cmp gs (answer_of ts)
+    answer_is gs [] over v = λ i j h g. elim (v i j h g) [ inl none ↦ absurd none | inr closed ↦ closed ]
+    answer_is gs (t ∷ ts) over v = record { some = λ none. absurd (no_list t ts none); over = over; others = v }
+
+    -- then the answer is right
+    pub settled_answer_is : (gs : List Terms) (rs : List PairRecord) (joined : ℕ) → joined ≡ length gs → AreSettled rs → ArePairs p cmp gs rs joined → IsCompletion p cmp gs (answer_of (over_of rs))
+    settled_answer_is gs rs joined all done v =
+        let w = subst (ArePairs p cmp gs rs) all v in
+        answer_is gs (over_of rs) (are_over gs rs v.records) (others gs rs done w)
+
+pub settled_push : (rs : List PairRecord) (r : PairRecord) → AreSettled rs → r.state ≢ Pending → AreSettled (rs ++ r ∷ [])
+settled_push [] r v h = (h, tt)
+settled_push (x ∷ rs) r v h = (v.0, settled_push rs r v.1 h)
+
+pub settled_next : (rs : List PairRecord) (i : ℕ) (r : PairRecord) → i < length rs → r ≡ get_or rs i r → AreSettled (take i rs) → r.state ≢ Pending → AreSettled (take (i + 1) rs)
+settled_next rs i r h is v done = subst AreSettled (sym (taken_more rs i r h is)) (settled_push (take i rs) r v done)
+
+-- a record that is not pending
+pub settled_at : (rs : List PairRecord) (i : ℕ) (d : PairRecord) → i < length rs → AreSettled (take i rs) → (get_or rs i d).state ≢ Pending → AreSettled (take (i + 1) rs)
+settled_at rs i d h v done = settled_next rs i (get_or rs i d) h (any_default rs i d (get_or rs i d) h) v done
+
+pub not_so : (b : Bool) → b ≡ false → b ≡ true → ⊥
+not_so b e f = subst (λ x. cond x (Unit {0}) ⊥) (sym f ∙ e) tt
+
+pub settled_all : (rs : List PairRecord) (i : ℕ) → length rs ≤ i → AreSettled (take i rs) → AreSettled rs
+settled_all [] zero h v = tt
+settled_all [] (suc i) h v = tt
+settled_all (r ∷ rs) zero h v = absurd (omega arith)
+settled_all (r ∷ rs) (suc i) h v = (v.0, settled_all rs i (omega arith) v.1)

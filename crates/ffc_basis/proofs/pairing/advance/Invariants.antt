@@ -1,0 +1,18 @@
+use Rattle.std.proofs.Common.{◌≡◌, ◌-◌}
+use Rattle.ffc_basis.specs.Lines.{polys_of, AreLines}
+use Rattle.ffc_basis.specs.Completed.{IsFront}
+use Rattle.ffc_basis.specs.PairTable.{ArePairs}
+use Rattle.ffc_basis.specs.Units.{TakesReductions}
+use Rattle.ffc_basis.proofs.pairing.advance.Given as goal
+
+abbrev pub invariant-loop-alloc : goal.invariant-loop-alloc
+invariant-loop-alloc g l = record {
+  front : IsFront g.F.Field.ORDER g.O.MonoOrder.cmp l.fn.lines.items l.lines.items;
+  lines : AreLines g.F.Field.ORDER l.lines.items;
+  pairs : ArePairs g.F.Field.ORDER g.O.MonoOrder.cmp (polys_of l.lines.items) l.pairing.records.items l.pairing.joined;
+  takes : TakesReductions l.fn.meter l.meter;
+  start : l.before ≡ l.fn.meter.reductions;
+}
+
+abbrev pub decreases-loop-alloc : goal.decreases-loop-alloc
+decreases-loop-alloc g l = l.units - (l.meter.reductions - l.before)

@@ -1,0 +1,69 @@
+use Rattle.std.proofs.Common.{refl, sym, subst, arith}
+use Rattle.ffc_basis.specs.Lines.{polys_of, AreLines}
+use Rattle.ffc_basis.specs.declared.spoly.Outcome.TheVariants.{Added}
+use Rattle.ffc_basis.specs.Outcomes.{IsOutcome}
+use Rattle.ffc_basis.specs.PairTable.{ArePairs}
+use Rattle.ffc_basis.proofs.AddedLemmas.{front_same, front_one, line_added, settled_closed, settled_over, settled_added}
+use Rattle.ffc_basis.proofs.pairing.settle.Goals as goal
+
+pub returns-in-Closed : goal.returns-in-Closed
+returns-in-Closed g c =
+    let p = g.F.Field.ORDER in
+    let cmp = g.O.MonoOrder.cmp in
+    let ls = c.args.lines.now.items in
+    let rs = c.args.pairing.now.records.items in
+    let joined = c.args.pairing.now.joined in
+    record {
+      front = front_same p cmp ls ls refl;
+      lines = c.requires.lines;
+      pairs = subst (λ x. ArePairs p cmp (polys_of ls) x joined) (sym c.mark.ensures)
+          (settled_closed p cmp ls rs joined c.args.place c.args.pair c.len-count.result (omega (arith, c.len-count.ensures, c.args.lines.now.ok.0)) (omega (arith, c.requires.within, c.args.pairing.now.records.ok.0)) c.requires.pair
+          (subst (IsOutcome p cmp (polys_of ls) c.args.pair.first c.args.pair.second) c.in-Closed.is c.requires.outcome) c.requires.pairs);
+    }
+
+pub returns-in-Over : goal.returns-in-Over
+returns-in-Over g c =
+    let p = g.F.Field.ORDER in
+    let cmp = g.O.MonoOrder.cmp in
+    let ls = c.args.lines.now.items in
+    let rs = c.args.pairing.now.records.items in
+    let joined = c.args.pairing.now.joined in
+    record {
+      front = front_same p cmp ls ls refl;
+      lines = c.requires.lines;
+      pairs = subst (λ x. ArePairs p cmp (polys_of ls) x joined) (sym c.mark-in-Over.ensures)
+          (settled_over p cmp ls rs joined c.args.place c.args.pair c.len-count.result (omega (arith, c.len-count.ensures, c.args.lines.now.ok.0)) (omega (arith, c.requires.within, c.args.pairing.now.records.ok.0)) c.requires.pair
+          (subst (IsOutcome p cmp (polys_of ls) c.args.pair.first c.args.pair.second) c.in-Over.is c.requires.outcome) c.requires.pairs);
+    }
+
+pub returns-in_err-push-in-Added : goal.returns-in_err-push-in-Added
+returns-in_err-push-in-Added g c =
+    let p = g.F.Field.ORDER in
+    let cmp = g.O.MonoOrder.cmp in
+    let ls = c.args.lines.now.items in
+    let same = c.in_err-push-in-Added.ensures.items in
+    record {
+      front = front_same p cmp ls c.push.new.self.items same;
+      lines = subst (AreLines p) (sym same) c.requires.lines;
+      pairs = subst (λ x. ArePairs p cmp (polys_of x) c.args.pairing.now.records.items c.args.pairing.now.joined) (sym same) c.requires.pairs;
+    }
+
+pub returns-in_ok-push-in-Added : goal.returns-in_ok-push-in-Added
+returns-in_ok-push-in-Added g c =
+    let p = g.F.Field.ORDER in
+    let cmp = g.O.MonoOrder.cmp in
+    let ls = c.args.lines.now.items in
+    let ks = c.push.new.self.items in
+    let rs = c.args.pairing.now.records.items in
+    let joined = c.args.pairing.now.joined in
+    let l = c.in-Added.line in
+    let is = c.in_ok-push-in-Added.ensures.items in
+    let outcome : IsOutcome p cmp (polys_of ls) c.args.pair.first c.args.pair.second (Added l) =
+    subst (IsOutcome p cmp (polys_of ls) c.args.pair.first c.args.pair.second) c.in-Added.is c.requires.outcome in
+    record {
+      front = front_one p cmp ls ks l is outcome.1;
+      lines = line_added p ls ks l is c.requires.lines outcome.0;
+      pairs = subst (λ x. ArePairs p cmp (polys_of ks) x joined) (sym c.mark-in-Added.ensures)
+          (settled_added p cmp ls ks l rs joined c.args.place c.args.pair c.len-count.result is (omega (arith, c.len-count.ensures, c.args.lines.now.ok.0)) (omega (arith, c.requires.within, c.args.pairing.now.records.ok.0)) c.requires.pair
+          outcome.2 c.requires.pairs);
+    }

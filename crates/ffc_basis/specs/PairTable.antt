@@ -1,0 +1,85 @@
+-- What is known of the pairs of lines while a basis is completed.
+use Rattle.std.specs.Prelude.{◌≡◌, ◌≢◌, ℕ, ◌<◌, ◌≤◌, ◌⊎◌, List, [], ◌∷◌, length, get_or, take, nat_le, if◌then◌else◌}
+use Rattle.std.specs.declared.cmp.Ordering.{Ordering}
+use Rattle.ffc_ring.specs.Monomial.{Monomial}
+use Rattle.ffc_ring.specs.Polynomial.{Terms}
+use Rattle.ffc_basis.specs.declared.completion.Completion.{Completion as Answer}
+use Rattle.ffc_basis.specs.declared.completion.Completion.TheVariants.{Closed as whole, SetAside}
+use Rattle.ffc_basis.specs.declared.pair.PairRecord.{PairRecord}
+use Rattle.ffc_basis.specs.declared.pair.PairState.{PairState}
+use Rattle.ffc_basis.specs.declared.pair.PairState.TheVariants.{Pending, Closed, Over}
+use Rattle.ffc_basis.specs.Completion.{IsPairClosed, IsPairOver}
+
+-- both S-polynomials of two lines reduce to zero
+abbrev pub AreBothClosed : ℕ → (Monomial → Monomial → Ordering) → List Terms → ℕ → ℕ → Type 0
+AreBothClosed p cmp gs i j = IsPairClosed p cmp gs i j × IsPairClosed p cmp gs j i
+
+-- so do those of any lines that have these two polynomials
+abbrev pub AreNeedless : ℕ → (Monomial → Monomial → Ordering) → Terms → Terms → Type 0
+AreNeedless p cmp a b =
+    (gs : List Terms) (i j : ℕ) → i < length gs → j < length gs → get_or gs i [] ≡ a → get_or gs j [] ≡ b → AreBothClosed p cmp gs i j
+
+-- what a state says of a pair
+abbrev pub IsState : ℕ → (Monomial → Monomial → Ordering) → List Terms → ℕ → ℕ → PairState → Type 0
+IsState p cmp gs i j Pending = Unit {0}
+IsState p cmp gs i j (Closed n) = (n ≤ length gs) × (j < n) × AreBothClosed p cmp (take n gs) i j
+IsState p cmp gs i j (Over n) = (n ≤ length gs) × (j < n) × IsPairOver p cmp (take n gs) i j
+
+-- a pair of lines
+pub record IsRecord (p : ℕ) (cmp : Monomial → Monomial → Ordering) (gs : List Terms) (r : PairRecord) : Type 0 where
+  pub ordered : r.first < r.second
+  pub within : r.second < length gs
+  pub state : IsState p cmp gs r.first r.second r.state
+
+abbrev pub AreRecords : ℕ → (Monomial → Monomial → Ordering) → List Terms → List PairRecord → Type 0
+AreRecords p cmp gs [] = Unit {0}
+AreRecords p cmp gs (r ∷ rs) = IsRecord p cmp gs r × AreRecords p cmp gs rs
+
+-- the pair is there
+abbrev pub HasRecord : List PairRecord → ℕ → ℕ → Type 0
+HasRecord [] i j = ⊥
+HasRecord (r ∷ rs) i j = ((r.first ≡ i) × (r.second ≡ j)) ⊎ HasRecord rs i j
+
+-- each pair of the first lines is there or needless
+abbrev pub IsCovered : ℕ → (Monomial → Monomial → Ordering) → List Terms → List PairRecord → ℕ → Type 0
+IsCovered p cmp gs rs joined =
+    (i j : ℕ) → i < j → j < joined → HasRecord rs i j ⊎ AreNeedless p cmp (get_or gs i []) (get_or gs j [])
+
+pub record ArePairs (p : ℕ) (cmp : Monomial → Monomial → Ordering) (gs : List Terms) (rs : List PairRecord) (joined : ℕ) : Type 0 where
+  pub joined_within : joined ≤ length gs
+  pub records : AreRecords p cmp gs rs
+  pub covered : IsCovered p cmp gs rs joined
+
+-- no pair is pending
+abbrev pub AreSettled : List PairRecord → Type 0
+AreSettled [] = Unit {0}
+AreSettled (r ∷ rs) = (r.state ≢ Pending) × AreSettled rs
+
+-- what is known by the first lines alone
+abbrev pub known_by : ℕ → PairState → PairState
+known_by len Pending = Pending
+known_by len (Closed n) = if nat_le n len then Closed n else Pending
+known_by len (Over n) = if nat_le n len then Over n else Pending
+
+abbrev pub forgotten : ℕ → PairRecord → PairRecord
+forgotten len r = record { first = r.first; second = r.second; state = known_by len r.state }
+
+-- the pair with this known of it
+abbrev pub with_state : PairRecord → PairState → PairRecord
+with_state r s = record { first = r.first; second = r.second; state = s }
+
+-- a pair before others, where a limit was passed at it
+abbrev pub with_over : PairState → ℕ × ℕ → List (ℕ × ℕ) → List (ℕ × ℕ)
+with_over Pending t ts = ts
+with_over (Closed n) t ts = ts
+with_over (Over n) t ts = t ∷ ts
+
+-- the pairs at which one was passed
+abbrev pub over_of : List PairRecord → List (ℕ × ℕ)
+over_of [] = []
+over_of (r ∷ rs) = with_over r.state (r.first, r.second) (over_of rs)
+
+-- the answer where no pair is pending
+abbrev pub answer_of : List (ℕ × ℕ) → Answer
+answer_of [] = whole
+answer_of (t ∷ ts) = SetAside (t ∷ ts)

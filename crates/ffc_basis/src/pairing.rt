@@ -1,0 +1,370 @@
+//! The pairs of a basis, and what is known of each.
+ghost use Rattle.std.specs.Prelude.{◌≡◌, ◌+◌, ◌<◌, ◌≤◌, [], length, min, map, filter, nat_lt, vec_len, get_or, set, IfOk, IfSome, IfNone, OnOk, IsErrOf};
+ghost use Rattle.std.specs.Bool.{OnTrue, OnFalse};
+ghost use Rattle.ffc_base.specs.Metering.{total};
+ghost use Rattle.ffc_basis.specs.Lines.{polys_of, AreLines};
+ghost use Rattle.ffc_basis.specs.Completion.{IsConstantLine};
+ghost use Rattle.ffc_basis.specs.Completed.{IsFront, IsProgress, HasTaken};
+ghost use Rattle.ffc_basis.specs.Outcomes.{IsOutcome};
+ghost use Rattle.ffc_basis.specs.PairTable.{AreNeedless, ArePairs, AreSettled, known_by, forgotten, with_state, over_of, answer_of};
+ghost use Rattle.ffc_basis.specs.Units.{TakesReductions};
+ghost use Rattle.ffc_basis.specs.declared.stop.BasisStop.TheVariants as stops;
+
+use crate::completion::{Completion, Progress};
+use crate::line::Line;
+use crate::pair::{PairRecord, PairState, Pairs};
+use crate::queue::Queue;
+use crate::spoly::{Outcome, reduce_pair};
+use crate::stop::BasisStop;
+use ffc_base::{Meter, Unit};
+use ffc_field::Field;
+use ffc_mono::MonoOrder;
+use ffc_poly::Poly;
+use std::alloc::{AllocError, Global};
+
+/// The pairs of the first lines, but those whose leading monomials are coprime.
+#[derive(Debug, Drop)]
+pub(crate) struct Pairing {
+    records: Vec<PairRecord>,
+    /// Of so many lines each pair is there.
+    joined: usize,
+    queue: Queue,
+}
+
+impl Pairing {
+    /// No pairs. It takes no memory.
+    pub fn new(alloc: Global) -> Self
+        ensures records { result.records.items ≡ [] }
+        ensures joined { result.joined ≡ 0 }
+    {
+        Pairing {
+            records: Vec::new(alloc),
+            joined: 0,
+            queue: Queue::new(alloc),
+        }
+    }
+
+    /// Drops the pairs of the lines from a number on, and what is known of others by them. It takes no memory.
+    pub fn cut(&mut self, len: usize)
+        ensures records { self.new.records.items ≡ map (forgotten len) (filter (λ r. nat_lt r.second len) self.old.records.items) }
+        ensures joined { self.new.joined ≡ min self.old.joined len }
+    {
+        drop_after(&mut self.records, len);
+        forget_after(&mut self.records, len);
+        self.joined = self.joined.min(len);
+        self.queue.forget();
+    }
+}
+
+/// Drops the pairs of lines from a number on.
+fn drop_after(records: &mut Vec<PairRecord>, len: usize)
+    ensures { records.new.items ≡ filter (λ r. nat_lt r.second len) records.old.items }
+{
+    records.retain(|r| r.second < len);
+}
+
+/// What is known by the first lines alone.
+fn known_by(state: PairState, len: usize) -> PairState
+    ensures { result ≡ known_by len state }
+{
+    match state {
+        PairState::Pending => PairState::Pending,
+        PairState::Closed(n) => {
+            if n <= len {
+                PairState::Closed(n)
+            } else {
+                PairState::Pending
+            }
+        }
+        PairState::Over(n) => {
+            if n <= len {
+                PairState::Over(n)
+            } else {
+                PairState::Pending
+            }
+        }
+    }
+}
+
+/// Forgets what is known by lines from a number on.
+fn forget_after(records: &mut Vec<PairRecord>, len: usize)
+    ensures { records.new.items ≡ map (forgotten len) records.old.items }
+{
+    for place in 0..records.len() {
+        let r = records[place];
+        records[place] = PairRecord {
+            first: r.first,
+            second: r.second,
+            state: known_by(r.state, len),
+        };
+    }
+}
+
+/// Whether the S-polynomial of two polynomials has to be reduced: both are not 0, and a variable occurs in both leading
+/// monomials.
+fn is_needed<F: Field, O: MonoOrder>(a: &Poly<F, O>, b: &Poly<F, O>) -> bool
+    ensures { OnFalse result (AreNeedless F.ORDER O.cmp a.now b.now) }
+{
+    let _lengths = (a.len(), b.len());
+    let Some((_, m)) = a.lead() else {
+        return false;
+    };
+    let Some((_, n)) = b.lead() else {
+        return false;
+    };
+    !m.is_coprime(n)
+}
+
+/// Makes the pairs of a line with the earlier ones.
+fn join_line<F: Field, O: MonoOrder>(
+    alloc: Global,
+    lines: &[Line<F, O>],
+    records: &mut Vec<PairRecord>,
+    queue: &mut Queue,
+    second: usize,
+) -> Result<(), AllocError>
+    requires within { second < length lines.now }
+    requires pairs { ArePairs F.ORDER O.cmp (polys_of lines.now) records.old.items second }
+    ensures kept { ArePairs F.ORDER O.cmp (polys_of lines.now) records.new.items second }
+    ensures joined { OnOk result (ArePairs F.ORDER O.cmp (polys_of lines.now) records.new.items (second + 1)) }
+{
+    for first in 0..second {
+        if is_needed(&lines[first].poly, &lines[second].poly) {
+            let pair = PairRecord {
+                first,
+                second,
+                state: PairState::Pending,
+            };
+            queue.put(alloc, lines, &pair, records.len())?;
+            records.push(pair)?;
+        }
+    }
+    Ok(())
+}
+
+/// Makes the pairs of the lines that have none yet.
+fn join<F: Field, O: MonoOrder>(
+    alloc: Global,
+    lines: &[Line<F, O>],
+    pairing: &mut Pairing,
+) -> Result<(), AllocError>
+    requires { ArePairs F.ORDER O.cmp (polys_of lines.now) pairing.old.records.items pairing.old.joined }
+    ensures pairs { ArePairs F.ORDER O.cmp (polys_of lines.now) pairing.new.records.items pairing.new.joined }
+    ensures joined { OnOk result (pairing.new.joined ≡ length lines.now) }
+{
+    while pairing.joined < lines.len() {
+        let second = pairing.joined;
+        join_line(
+            alloc,
+            lines,
+            &mut pairing.records,
+            &mut pairing.queue,
+            second,
+        )?;
+        pairing.joined = second + 1;
+    }
+    Ok(())
+}
+
+/// The place of the first pending pair.
+fn first_pending(records: &[PairRecord]) -> Option<usize>
+    ensures some { IfSome result (λ place. place < length records.now) }
+    ensures none { IfNone result (AreSettled records.now) }
+{
+    for place in 0..records.len() {
+        if records[place].is_pending() {
+            return Some(place);
+        }
+    }
+    None
+}
+
+/// The place of the pair that comes next.
+fn next_place<F: Field, O: MonoOrder>(
+    alloc: Global,
+    lines: &[Line<F, O>],
+    records: &[PairRecord],
+    queue: &mut Queue,
+) -> Result<Option<usize>, AllocError>
+    ensures some { IfOk result (λ o. IfSome o (λ place. place < length records.now)) }
+    ensures none { IfOk result (λ o. IfNone o (AreSettled records.now)) }
+{
+    queue.refresh(alloc, lines, records)?;
+    if let Some(place) = queue.next_near(alloc, lines, records)? {
+        return Ok(Some(place));
+    }
+    if let Some(place) = queue.next_late(records) {
+        return Ok(Some(place));
+    }
+    Ok(first_pending(records))
+}
+
+/// The pairs at which a limit was passed.
+fn over_pairs(alloc: Global, records: &[PairRecord]) -> Result<Pairs, AllocError>
+    ensures { IfOk result (λ pairs. pairs ≡ over_of records.now) }
+{
+    let mut pairs = Pairs::new(alloc);
+    for r in records {
+        if let PairState::Over(_) = r.state {
+            pairs.push(r.first as u64, r.second as u64)?;
+        }
+    }
+    Ok(pairs)
+}
+
+/// What the basis is where no pair is pending.
+fn settled_answer(alloc: Global, records: &[PairRecord]) -> Result<Completion, AllocError>
+    ensures { IfOk result (λ answer. answer ≡ answer_of (over_of records.now)) }
+{
+    let pairs = over_pairs(alloc, records)?;
+    if pairs.as_slice().is_empty() {
+        Ok(Completion::Closed)
+    } else {
+        Ok(Completion::SetAside(pairs))
+    }
+}
+
+/// The first line that is a constant other than 0.
+fn constant_line<F: Field, O: MonoOrder>(lines: &[Line<F, O>]) -> Option<usize>
+    ensures { IfSome result (IsConstantLine F.ORDER (polys_of lines.now)) }
+{
+    for number in 0..lines.len() {
+        let poly = &lines[number].poly;
+        if poly.is_constant() && !poly.is_zero() {
+            return Some(number);
+        }
+    }
+    None
+}
+
+/// Writes what is known of the pair at a place.
+fn mark(records: &mut Vec<PairRecord>, place: usize, pair: PairRecord, state: PairState)
+    requires { place < vec_len records.old }
+    ensures { records.new.items ≡ set records.old.items place (with_state pair state) }
+{
+    records[place] = PairRecord {
+        first: pair.first,
+        second: pair.second,
+        state,
+    };
+}
+
+/// Writes what a pair's S-polynomial gave, and appends the line that it may give.
+fn settle<F: Field, O: MonoOrder>(
+    lines: &mut Vec<Line<F, O>>,
+    pairing: &mut Pairing,
+    place: usize,
+    pair: PairRecord,
+    outcome: Outcome<F, O>,
+) -> Result<(), AllocError>
+    requires within { place < vec_len pairing.old.records }
+    requires pair { get_or pairing.old.records.items place pair ≡ pair }
+    requires lines { AreLines F.ORDER lines.old.items }
+    requires pairs { ArePairs F.ORDER O.cmp (polys_of lines.old.items) pairing.old.records.items pairing.old.joined }
+    requires outcome { IsOutcome F.ORDER O.cmp (polys_of lines.old.items) pair.first pair.second outcome }
+    ensures front { IsFront F.ORDER O.cmp lines.old.items lines.new.items }
+    ensures lines { AreLines F.ORDER lines.new.items }
+    ensures pairs { ArePairs F.ORDER O.cmp (polys_of lines.new.items) pairing.new.records.items pairing.new.joined }
+{
+    let count = lines.len();
+    match outcome {
+        Outcome::Closed => {
+            mark(&mut pairing.records, place, pair, PairState::Closed(count));
+            Ok(())
+        }
+        Outcome::Over => {
+            mark(&mut pairing.records, place, pair, PairState::Over(count));
+            Ok(())
+        }
+        Outcome::Added(line) => {
+            lines.push(line)?;
+            mark(
+                &mut pairing.records,
+                place,
+                pair,
+                PairState::Closed(count + 1),
+            );
+            Ok(())
+        }
+    }
+}
+
+/// Reduces the S-polynomial of the pair at a place.
+fn treat<F: Field, O: MonoOrder>(
+    lines: &mut Vec<Line<F, O>>,
+    pairing: &mut Pairing,
+    place: usize,
+    meter: &mut Meter,
+) -> Result<(), BasisStop>
+    requires within { place < vec_len pairing.old.records }
+    requires lines { AreLines F.ORDER lines.old.items }
+    requires pairs { ArePairs F.ORDER O.cmp (polys_of lines.old.items) pairing.old.records.items pairing.old.joined }
+    ensures front { IsFront F.ORDER O.cmp lines.old.items lines.new.items }
+    ensures lines { AreLines F.ORDER lines.new.items }
+    ensures pairs { ArePairs F.ORDER O.cmp (polys_of lines.new.items) pairing.new.records.items pairing.new.joined }
+    ensures spent { IsErrOf result stops.Spent → total meter.new ≡ meter.new.budget }
+    ensures takes { TakesReductions meter.old meter.new }
+    ensures forward { OnOk result (meter.old.reductions < meter.new.reductions) }
+{
+    let pair = pairing.records[place];
+    meter.take(Unit::Reduction)?;
+    let outcome = reduce_pair(
+        *lines.allocator(),
+        lines.as_slice(),
+        pair.first,
+        pair.second,
+        meter,
+    )?;
+    settle(lines, pairing, place, pair, outcome)?;
+    Ok(())
+}
+
+/// Whether the line with this number is there and a constant other than 0.
+fn is_constant_at<F: Field, O: MonoOrder>(lines: &[Line<F, O>], number: usize) -> bool
+    ensures { OnTrue result (IsConstantLine F.ORDER (polys_of lines.now) number) }
+{
+    number < lines.len() && !lines[number].poly.is_zero() && lines[number].poly.is_constant()
+}
+
+/// Goes on with Buchberger's algorithm, until at least so many units were taken.
+pub(crate) fn advance<F: Field, O: MonoOrder>(
+    lines: &mut Vec<Line<F, O>>,
+    pairing: &mut Pairing,
+    units: u64,
+    meter: &mut Meter,
+) -> Result<Progress, BasisStop>
+    requires lines { AreLines F.ORDER lines.old.items }
+    requires pairs { ArePairs F.ORDER O.cmp (polys_of lines.old.items) pairing.old.records.items pairing.old.joined }
+    ensures front { IsFront F.ORDER O.cmp lines.old.items lines.new.items }
+    ensures lines { AreLines F.ORDER lines.new.items }
+    ensures pairs { ArePairs F.ORDER O.cmp (polys_of lines.new.items) pairing.new.records.items pairing.new.joined }
+    ensures found { IfOk result (IsProgress F.ORDER O.cmp (polys_of lines.new.items)) }
+    ensures left { IfOk result (HasTaken meter.old meter.new units) }
+    ensures spent { IsErrOf result stops.Spent → total meter.new ≡ meter.new.budget }
+    ensures takes { TakesReductions meter.old meter.new }
+{
+    let alloc = *lines.allocator();
+    if let Some(line) = constant_line(lines.as_slice()) {
+        return Ok(Progress::Done(Completion::Constant(line as u64)));
+    }
+    let before = meter.count(Unit::Reduction);
+    while meter.count(Unit::Reduction) - before < units {
+        join(alloc, lines.as_slice(), pairing)?;
+        let next = next_place(
+            alloc,
+            lines.as_slice(),
+            pairing.records.as_slice(),
+            &mut pairing.queue,
+        )?;
+        let Some(place) = next else {
+            let answer = settled_answer(alloc, pairing.records.as_slice())?;
+            return Ok(Progress::Done(answer));
+        };
+        let count = lines.len();
+        treat(lines, pairing, place, meter)?;
+        if is_constant_at(lines.as_slice(), count) {
+            return Ok(Progress::Done(Completion::Constant(count as u64)));
+        }
+    }
+    Ok(Progress::Left)
+}

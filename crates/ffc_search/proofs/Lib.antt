@@ -1,0 +1,4 @@
+pub mod AboveLemmas
+pub mod MeterLemmas
+pub mod ZeroLemmas
+pub mod TreeLemmas

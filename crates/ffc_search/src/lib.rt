@@ -1,0 +1,25 @@
+//! The triangular search: a common zero of the generators of a stack of lines, or a case tree that shows that there is none
+//! (cases by roots as in Ozdemir, Kremer, Tinelli and Barrett, "Satisfiability Modulo Finite Fields", 2023).
+#![tactic(auto)]
+
+mod accepting;
+mod answers;
+mod branches;
+mod choosing;
+mod emitting;
+mod fitting;
+mod points;
+mod reducing;
+mod roots;
+mod rounds;
+mod searching;
+mod stop;
+mod survey;
+#[cfg(test)]
+mod tests;
+mod tree;
+mod written;
+
+pub use answers::Found;
+pub use searching::search;
+pub use stop::SearchStop;

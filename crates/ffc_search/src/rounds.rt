@@ -1,0 +1,304 @@
+//! Rounds of a search, each with more effort than the one before.
+ghost use Rattle.std.specs.Prelude.{◌≡◌, IsErrOf};
+ghost use Rattle.ffc_base.specs.Metering.{total};
+ghost use Rattle.ffc_basis.specs.Units.{Takes};
+ghost use Rattle.ffc_search.specs.declared.stop.SearchStop.TheVariants as stops;
+ghost use Rattle.ffc_search.specs.Above.{StaysAbove};
+
+use crate::branches::{FIRST_SHARE, Walk, branch_by, next_case};
+use crate::choosing::{Candidate, best_candidate};
+use crate::emitting::write_close;
+use crate::points::zero_at_hand;
+use crate::reducing::units_taken;
+use crate::roots::write_split;
+use crate::stop::SearchStop;
+use crate::survey::{linear_variables, most_used};
+use crate::tree::Tree;
+use ffc_base::{Meter, Unit};
+use ffc_basis::{Completion, Progress};
+use ffc_cert::CertLine;
+use ffc_field::Field;
+use ffc_mono::MonoOrder;
+use ffc_roots::roots;
+use ffc_stack::BasisStack;
+use std::alloc::{AllocError, Global};
+use std::collections::BTreeSet;
+
+/// The greatest order whose values are listed in a tree.
+const MOST_VALUES: u64 = 17;
+
+/// How many values of a variable are guessed at first.
+const FIRST_GUESSES: u64 = 4;
+
+/// How many times the share of a branch the guesses of a round may take.
+const GUESS_FACTOR: u64 = 8;
+
+/// How much a round does before it gives up a branch.
+#[derive(Clone, Copy, Debug)]
+pub struct Effort {
+    /// How many units a branch is completed with at most at once.
+    share: u64,
+    /// How many values of a variable are guessed.
+    guesses: u64,
+}
+
+impl Effort {
+    /// The effort of the first round.
+    pub fn first() -> Self {
+        Effort {
+            share: FIRST_SHARE,
+            guesses: FIRST_GUESSES,
+        }
+    }
+
+    /// The effort of the round after one with this effort.
+    pub fn doubled(self) -> Self {
+        Effort {
+            share: self.share.saturating_mul(2),
+            guesses: self.guesses.saturating_mul(2),
+        }
+    }
+}
+
+/// What a round comes to.
+#[derive(Debug, Drop)]
+pub enum Outcome<F: Field> {
+    /// A common zero.
+    Values(Vec<F>),
+    /// A tree whose branches are all closed.
+    Closed(Vec<CertLine>),
+    /// A branch was given up; with more effort it may not be.
+    GivenUp,
+    /// A branch has neither a zero at hand nor a further choice.
+    Stuck,
+}
+
+/// What a turn comes to.
+#[derive(Debug, Drop)]
+enum Turn<F: Field> {
+    On(Progress),
+    Values(Vec<F>),
+    Over,
+}
+
+/// What a round has to keep to: its effort, and the levels below it.
+#[derive(Clone, Copy, Debug)]
+struct Task {
+    effort: Effort,
+    floor: u64,
+}
+
+/// Whether and why a branch was given up.
+#[derive(Clone, Copy, Debug)]
+struct Limits {
+    /// How many units are taken where guessing ends.
+    deadline: Option<u64>,
+    /// Whether more effort may help.
+    reached: bool,
+}
+
+/// A turn that goes on with a case, if there is one.
+fn turn_of<F: Field>(next: Option<Progress>) -> Turn<F> {
+    match next {
+        Some(progress) => Turn::On(progress),
+        None => Turn::Over,
+    }
+}
+
+/// Goes on by the roots of a polynomial.
+fn by_roots<F: Field, O: MonoOrder>(
+    alloc: Global,
+    stack: &mut BasisStack<F, O>,
+    walk: &mut Walk<F>,
+    candidate: &Candidate<F, O>,
+    floor: u64,
+    meter: &mut Meter,
+) -> Result<Turn<F>, SearchStop>
+    ensures above { StaysAbove floor stack.old stack.new }
+    ensures spent { IsErrOf result stops.Spent → total meter.new ≡ meter.new.budget }
+    ensures takes { Takes meter.old meter.new }
+{
+    if candidate.poly.coefs().len() < 2 {
+        return Err(SearchStop::Memory);
+    }
+    let found = roots(alloc, &candidate.poly, meter)?;
+    if walk.proving {
+        write_split(alloc, &mut walk.tree, stack.lines(), candidate, &found)?;
+    }
+    let mut values = Vec::new(alloc);
+    values.extend_from_slice(found.zeros.as_slice())?;
+    let next = branch_by(alloc, stack, walk, candidate.variable, values, floor, meter)?;
+    Ok(turn_of(next))
+}
+
+/// The elements of these residues, from 0 on.
+fn first_elements<F: Field>(alloc: Global, count: u64) -> Result<Vec<F>, AllocError> {
+    let mut elements = Vec::new(alloc);
+    for n in 0..count {
+        elements.push(F::of(u128::from(n)))?;
+    }
+    Ok(elements)
+}
+
+/// How many values of a variable are tried, and whether these are all.
+fn values_to_try<F: Field, O: MonoOrder>(
+    walk: &mut Walk<F>,
+    limits: &mut Limits,
+    x: u32,
+    effort: Effort,
+    meter: &Meter,
+) -> Result<u64, AllocError> {
+    if F::ORDER <= MOST_VALUES {
+        if walk.proving {
+            walk.tree.write(CertLine::Values(x, F::ORDER as u32))?;
+        }
+        return Ok(F::ORDER);
+    }
+    walk.proving = false;
+    limits.reached = true;
+    let taken = units_taken(meter);
+    let deadline = match limits.deadline {
+        Some(deadline) => deadline,
+        None => taken.saturating_add(effort.share.saturating_mul(GUESS_FACTOR)),
+    };
+    limits.deadline = Some(deadline);
+    if taken > deadline {
+        return Ok(0);
+    }
+    Ok(effort.guesses.min(F::ORDER))
+}
+
+/// Goes on by the values of a variable. Where none is left to choose, the branch is given up.
+fn by_values<F: Field, O: MonoOrder>(
+    alloc: Global,
+    stack: &mut BasisStack<F, O>,
+    walk: &mut Walk<F>,
+    limits: &mut Limits,
+    linear: &BTreeSet<u32>,
+    task: Task,
+    meter: &mut Meter,
+) -> Result<Turn<F>, SearchStop>
+    ensures above { StaysAbove task.floor stack.old stack.new }
+    ensures spent { IsErrOf result stops.Spent → total meter.new ≡ meter.new.budget }
+    ensures takes { Takes meter.old meter.new }
+{
+    let Some(x) = most_used(alloc, stack.lines(), linear)? else {
+        walk.proving = false;
+        return Ok(turn_of(next_case(alloc, stack, walk, task.floor, meter)?));
+    };
+    let count = values_to_try::<F, O>(walk, limits, x, task.effort, meter)?;
+    let values = first_elements(alloc, count)?;
+    let next = branch_by(alloc, stack, walk, x, values, task.floor, meter)?;
+    Ok(turn_of(next))
+}
+
+/// Goes on where the lines have no constant: by roots, by a zero at hand, by more pairs where some are left, or by values.
+fn advance<F: Field, O: MonoOrder>(
+    alloc: Global,
+    stack: &mut BasisStack<F, O>,
+    walk: &mut Walk<F>,
+    limits: &mut Limits,
+    vars: &[u32],
+    task: Task,
+    left: bool,
+    meter: &mut Meter,
+) -> Result<Turn<F>, SearchStop>
+    ensures above { StaysAbove task.floor stack.old stack.new }
+    ensures spent { IsErrOf result stops.Spent → total meter.new ≡ meter.new.budget }
+    ensures takes { Takes meter.old meter.new }
+{
+    let linear = linear_variables(alloc, stack.lines())?;
+    if let Some(candidate) = best_candidate(alloc, stack, &linear, meter)? {
+        return by_roots(alloc, stack, walk, &candidate, task.floor, meter);
+    }
+    if let Some(values) = zero_at_hand(alloc, stack, vars, &linear, meter)? {
+        return Ok(Turn::Values(values));
+    }
+    if left && walk.share < task.effort.share && stack.depth() > task.floor {
+        walk.share = walk.share.saturating_mul(2);
+        return Ok(Turn::On(stack.go_on(walk.share, meter)?));
+    }
+    if left {
+        limits.reached = true;
+    }
+    by_values(alloc, stack, walk, limits, &linear, task, meter)
+}
+
+/// One turn, from how far the lines of the present branch were completed.
+fn take_turn<F: Field, O: MonoOrder>(
+    alloc: Global,
+    stack: &mut BasisStack<F, O>,
+    walk: &mut Walk<F>,
+    limits: &mut Limits,
+    vars: &[u32],
+    task: Task,
+    progress: Progress,
+    meter: &mut Meter,
+) -> Result<Turn<F>, SearchStop>
+    ensures above { StaysAbove task.floor stack.old stack.new }
+    ensures spent { IsErrOf result stops.Spent → total meter.new ≡ meter.new.budget }
+    ensures takes { Takes meter.old meter.new }
+{
+    match progress {
+        Progress::Done(Completion::Constant(line)) => {
+            if walk.proving {
+                write_close(alloc, &mut walk.tree, stack.lines(), line)?;
+            }
+            Ok(turn_of(next_case(alloc, stack, walk, task.floor, meter)?))
+        }
+        Progress::Done(_) => advance(alloc, stack, walk, limits, vars, task, false, meter),
+        Progress::Left => advance(alloc, stack, walk, limits, vars, task, true, meter),
+    }
+}
+
+/// What a round comes to where no case waits.
+fn outcome_of<F: Field>(walk: Walk<F>, limits: Limits) -> Outcome<F> {
+    if walk.proving {
+        return Outcome::Closed(walk.into_tree().into_lines());
+    }
+    if limits.reached {
+        Outcome::GivenUp
+    } else {
+        Outcome::Stuck
+    }
+}
+
+/// One round, on levels above those that are there. Each turn takes a unit.
+pub fn round<F: Field, O: MonoOrder>(
+    alloc: Global,
+    stack: &mut BasisStack<F, O>,
+    vars: &[u32],
+    effort: Effort,
+    floor: u64,
+    meter: &mut Meter,
+) -> Result<Outcome<F>, SearchStop>
+    ensures above { StaysAbove floor stack.old stack.new }
+    ensures spent { IsErrOf result stops.Spent → total meter.new ≡ meter.new.budget }
+    ensures takes { Takes meter.old meter.new }
+{
+    let task = Task { effort, floor };
+    let mut walk = Walk::begin(alloc, Tree::begin(alloc, stack.lines())?);
+    let mut limits = Limits {
+        deadline: None,
+        reached: false,
+    };
+    let no_generators = Vec::new(alloc);
+    let mut progress = stack.push_within(no_generators.as_slice(), FIRST_SHARE, meter)?;
+    loop {
+        meter.take(Unit::Trial)?;
+        match take_turn(
+            alloc,
+            stack,
+            &mut walk,
+            &mut limits,
+            vars,
+            task,
+            progress,
+            meter,
+        )? {
+            Turn::On(next) => progress = next,
+            Turn::Values(values) => return Ok(Outcome::Values(values)),
+            Turn::Over => return Ok(outcome_of(walk, limits)),
+        }
+    }
+}

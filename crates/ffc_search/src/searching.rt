@@ -1,0 +1,103 @@
+//! The search.
+ghost use Rattle.std.specs.Prelude.{◌≡◌, [], Ok, IfOk, IsTrue, IsErrOf};
+ghost use Rattle.ffc_base.specs.Metering.{total};
+ghost use Rattle.ffc_basis.specs.Units.{Takes};
+ghost use Rattle.ffc_search.specs.declared.stop.SearchStop.TheVariants as stops;
+ghost use Rattle.ffc_trees.specs.TreeLines.{limits};
+ghost use Rattle.ffc_trees.specs.Trees.{tree_read};
+ghost use Rattle.ffc_trees.specs.Closing.{Closes};
+ghost use Rattle.ffc_stack.specs.Stacks.{generators};
+ghost use Rattle.ffc_search.specs.Above.{StaysAbove};
+ghost use Rattle.ffc_search.specs.Finding.{OnValues, OnClosed, IsCommonZero};
+
+use crate::accepting::is_accepted;
+use crate::answers::Found;
+use crate::branches::pop_to;
+use crate::points::is_zero;
+use crate::reducing::spend;
+use crate::rounds::{Effort, Outcome, round};
+use crate::stop::SearchStop;
+use ffc_base::{Meter, Unit};
+use ffc_basis::Line;
+use ffc_field::Field;
+use ffc_mono::MonoOrder;
+use ffc_roots::Elements;
+use ffc_stack::BasisStack;
+use ffc_trees::read_trees_close;
+use std::alloc::{AllocError, Global};
+
+/// Rounds with more and more effort, to a zero or a tree. The levels of the last round are left.
+fn attempt<F: Field, O: MonoOrder>(
+    alloc: Global,
+    stack: &mut BasisStack<F, O>,
+    vars: &[u32],
+    floor: u64,
+    meter: &mut Meter,
+) -> Result<Found<F>, SearchStop>
+    ensures above { StaysAbove floor stack.old stack.new }
+    ensures spent { IsErrOf result stops.Spent → total meter.new ≡ meter.new.budget }
+    ensures takes { Takes meter.old meter.new }
+{
+    let mut effort = Effort::first();
+    loop {
+        meter.take(Unit::Trial)?;
+        match round(alloc, stack, vars, effort, floor, meter)? {
+            Outcome::Values(values) => return Ok(Found::Values(Elements::new(values))),
+            Outcome::Closed(lines) => return Ok(Found::Closed(lines)),
+            Outcome::GivenUp => effort = effort.doubled(),
+            Outcome::Stuck => {
+                spend(meter);
+                return Err(SearchStop::Spent);
+            }
+        }
+        pop_to(stack, floor);
+    }
+}
+
+/// Whether what was found is so: the values are a common zero, or the tree is read to its end.
+fn is_right<F: Field, O: MonoOrder>(
+    alloc: Global,
+    lines: &[Line<F, O>],
+    vars: &[u32],
+    found: &Found<F>,
+) -> Result<bool, AllocError>
+    ensures values { IfOk result (λ yes. IsTrue yes → OnValues found.now (IsCommonZero F.ORDER (generators lines.now) vars.now)) }
+    ensures closed { IfOk result (λ yes. IsTrue yes → OnClosed found.now (λ tree. tree_read limits F.ORDER (generators lines.now) tree ≡ Ok [])) }
+{
+    match found {
+        Found::Values(values) => is_zero(alloc, lines, vars, values.as_slice()),
+        Found::Closed(tree) => is_accepted(alloc, lines, tree.as_slice()),
+    }
+}
+
+/// A common zero of the generators, as values of these variables, or a case tree from them that closes. What is found is
+/// tested before it is answered. Afterwards the stack is as before.
+///
+/// # Errors
+///
+/// Spent, where the meter is full: with no further choice the rest of it is taken. Memory, also where a line passes a limit
+/// of polynomials.
+pub fn search<F: Field, O: MonoOrder>(
+    alloc: Global,
+    stack: &mut BasisStack<F, O>,
+    vars: &[u32],
+    meter: &mut Meter,
+) -> Result<Found<F>, SearchStop>
+    ensures values { IfOk result (λ found. OnValues found (IsCommonZero F.ORDER (generators stack.old.lines) vars.now)) }
+    ensures closed { IfOk result (λ found. OnClosed found (λ tree. tree_read limits F.ORDER (generators stack.old.lines) tree ≡ Ok [])) }
+    ensures closes { IfOk result (λ found. OnClosed found (λ tree. Closes limits F.ORDER (generators stack.old.lines) tree [])) }
+    ensures unchanged { stack.new ≡ stack.old }
+    ensures spent { IsErrOf result stops.Spent → total meter.new ≡ meter.new.budget }
+    ensures takes { Takes meter.old meter.new }
+{
+    read_trees_close();
+    let base = stack.depth();
+    let outcome = attempt(alloc, stack, vars, base, meter);
+    pop_to(stack, base);
+    let found = outcome?;
+    if !is_right(alloc, stack.lines(), vars, &found)? {
+        spend(meter);
+        return Err(SearchStop::Spent);
+    }
+    Ok(found)
+}

@@ -1,0 +1,94 @@
+//! What lines say of their variables.
+use ffc_basis::Line;
+use ffc_field::Field;
+use ffc_mono::{MonoOrder, MonoRef};
+use ffc_poly::Poly;
+use std::alloc::{AllocError, Global};
+use std::collections::{BTreeMap, BTreeSet};
+
+/// How many terms a short line has at most.
+const SHORT: usize = 8;
+
+/// How much more a term of a short line counts.
+const SHORT_WEIGHT: u64 = 8;
+
+/// The variable and its exponent, where the leading monomial is a power of one variable.
+pub fn leading_power<F: Field, O: MonoOrder>(poly: &Poly<F, O>) -> Option<(u32, u32)> {
+    match poly.lead() {
+        Some((_, m)) => match m.pairs() {
+            [power] => Some(*power),
+            _ => None,
+        },
+        None => None,
+    }
+}
+
+/// The variables that are leading monomials of lines: reduction replaces them by others.
+pub fn linear_variables<F: Field, O: MonoOrder>(
+    alloc: Global,
+    lines: &[Line<F, O>],
+) -> Result<BTreeSet<u32>, AllocError> {
+    let mut linear = BTreeSet::new(alloc);
+    for line in lines {
+        if let Some((x, 1)) = leading_power(&line.poly) {
+            linear.insert(x)?;
+        }
+    }
+    Ok(linear)
+}
+
+/// How often variables occur, with weights.
+type Uses = BTreeMap<u32, u64>;
+
+/// Adds to the uses of the variables of a monomial. In a monomial of degree 1 an occurrence has no weight.
+fn count_monomial(uses: &mut Uses, m: MonoRef<'_>, weight: u64) -> Result<(), AllocError> {
+    let weight = if m.degree() > 1 { weight } else { 0 };
+    for power in m.pairs() {
+        let before = uses.get(&power.0).copied().unwrap_or(0);
+        uses.insert(power.0, weight.saturating_add(before))?;
+    }
+    Ok(())
+}
+
+/// Adds to the uses of the variables of a polynomial.
+fn count_polynomial<F: Field, O: MonoOrder>(
+    uses: &mut Uses,
+    poly: &Poly<F, O>,
+) -> Result<(), AllocError> {
+    let weight = if poly.len() > SHORT { 1 } else { SHORT_WEIGHT };
+    for i in 0..poly.len() {
+        count_monomial(uses, poly.term(i).1, weight)?;
+    }
+    Ok(())
+}
+
+/// The variable of the greatest use among those that are not linear, the lowest of them.
+fn greatest_use(uses: &Uses, linear: &BTreeSet<u32>) -> Option<u32> {
+    let mut best: Option<(u32, u64)> = None;
+    for (x, count) in uses.iter() {
+        if linear.contains(x) {
+            continue;
+        }
+        let more = match best {
+            Some((_, most)) => *count > most,
+            None => true,
+        };
+        if more {
+            best = Some((*x, *count));
+        }
+    }
+    best.map(|found| found.0)
+}
+
+/// The variable by whose values cases are made: it occurs in most products, and reduction does not replace it.
+pub fn most_used<F: Field, O: MonoOrder>(
+    alloc: Global,
+    lines: &[Line<F, O>],
+    linear: &BTreeSet<u32>,
+) -> Result<Option<u32>, AllocError> {
+    let mut uses = BTreeMap::new(alloc);
+    for line in lines {
+        count_polynomial(&mut uses, &line.poly)?;
+    }
+    Ok(greatest_use(&uses, linear))
+}

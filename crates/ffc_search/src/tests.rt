@@ -1,0 +1,158 @@
+use crate::{Found, search};
+use ffc_base::Meter;
+use ffc_field::{BabyBear, F5, Field, Goldilocks};
+use ffc_mono::{GradedReverseLex, Lex, Mono, MonoOrder};
+use ffc_poly::Poly;
+use ffc_stack::BasisStack;
+use std::alloc::Global;
+use std::process::Abort;
+use std::test::Fail;
+
+/// A term: its coefficient, and its variables, each as often as it is a factor.
+type Row<'a> = (i64, &'a [u32]);
+
+/// What is wanted of a search.
+#[derive(Clone, Copy, Debug, PartialEq, Eq)]
+enum Kind {
+    Values,
+    Closed,
+    Stopped,
+}
+
+/// The element of a signed number.
+fn element<F: Field>(n: i64) -> F {
+    let size = F::of(u128::from(n.unsigned_abs()));
+    if n < 0 { size.neg() } else { size }
+}
+
+/// The product of these variables.
+fn product(alloc: Global, variables: &[u32]) -> Result<Mono, Fail> {
+    let mut product = Mono::from_pairs(alloc, &[]).map_err(|_| "no monomial")?;
+    for x in variables {
+        let factor = Mono::from_pairs(alloc, &[(*x, 1)]).map_err(|_| "no monomial")?;
+        product = product.mul(&factor).map_err(|_| "no monomial")?;
+    }
+    Ok(product)
+}
+
+/// The sum of these terms.
+fn sum<F: Field, O: MonoOrder>(alloc: Global, rows: &[Row<'_>]) -> Result<Poly<F, O>, Fail> {
+    let mut terms = Vec::new(alloc);
+    for row in rows {
+        terms.push((element::<F>(row.0), product(alloc, row.1)?))?;
+    }
+    Ok(Poly::from_terms(alloc, terms.as_slice())?)
+}
+
+/// What the search answers for these generators.
+fn answer<F: Field, O: MonoOrder>(
+    alloc: Global,
+    gens: &[&[Row<'_>]],
+    vars: &[u32],
+    budget: u64,
+) -> Result<(Kind, Vec<u64>), Fail> {
+    let mut polys = Vec::new(alloc);
+    for rows in gens {
+        polys.push(sum::<F, O>(alloc, rows)?)?;
+    }
+    let mut stack: BasisStack<F, O> = BasisStack::new(alloc);
+    let mut meter = Meter::new(budget);
+    let _ = stack
+        .push_within(polys.as_slice(), 4, &mut meter)
+        .map_err(|_| "no level")?;
+    let lines = stack.lines().len();
+    let mut values = Vec::new(alloc);
+    let kind = match search(alloc, &mut stack, vars, &mut meter) {
+        Ok(Found::Values(found)) => {
+            for value in found.as_slice() {
+                values.push(value.residue())?;
+            }
+            Kind::Values
+        }
+        Ok(Found::Closed(_)) => Kind::Closed,
+        Err(_) => Kind::Stopped,
+    };
+    if stack.depth() != 1 || stack.lines().len() != lines {
+        return Err(Fail::from("the stack has changed"));
+    }
+    Ok((kind, values))
+}
+
+/// Whether the search closes these generators over both orders.
+fn closes<F: Field>(alloc: Global, gens: &[&[Row<'_>]], vars: &[u32]) -> Result<bool, Fail> {
+    let lex = answer::<F, Lex>(alloc, gens, vars, 1_000_000)?;
+    let graded = answer::<F, GradedReverseLex>(alloc, gens, vars, 1_000_000)?;
+    Ok(lex.0 == Kind::Closed && graded.0 == Kind::Closed)
+}
+
+/// Whether the search finds these values over both orders.
+fn finds<F: Field>(
+    alloc: Global,
+    gens: &[&[Row<'_>]],
+    vars: &[u32],
+    wanted: &[u64],
+) -> Result<bool, Fail> {
+    let lex = answer::<F, Lex>(alloc, gens, vars, 1_000_000)?;
+    let graded = answer::<F, GradedReverseLex>(alloc, gens, vars, 1_000_000)?;
+    Ok(
+        lex.0 == Kind::Values
+            && graded.0 == Kind::Values
+            && lex.1.as_slice() == wanted
+            && graded.1.as_slice() == wanted,
+    )
+}
+
+#[test]
+fn one_variable(rt: HostRuntime) -> Result<(), Fail> {
+    let alloc = rt.alloc();
+    let square_less_one: [&[Row<'_>]; 2] = [&[(1, &[0, 0]), (-1, &[])], &[(1, &[0]), (-2, &[])]];
+    assert!(rt; closes::<BabyBear>(alloc, &square_less_one, &[0])?);
+    assert!(rt; closes::<F5>(alloc, &square_less_one, &[0])?);
+    let square_and_one: [&[Row<'_>]; 1] = [&[(1, &[0, 0]), (1, &[])]];
+    assert!(rt; finds::<F5>(alloc, &square_and_one, &[0], &[2])?);
+    let square_less_seven: [&[Row<'_>]; 1] = [&[(1, &[0, 0]), (-7, &[])]];
+    assert!(rt; closes::<Goldilocks>(alloc, &square_less_seven, &[0])?);
+    Ok(())
+}
+
+#[test]
+fn two_variables(rt: HostRuntime) -> Result<(), Fail> {
+    let alloc = rt.alloc();
+    let roots: [&[Row<'_>]; 3] = [
+        &[(1, &[0, 0]), (-4, &[])],
+        &[(1, &[1, 1]), (-9, &[])],
+        &[(1, &[0, 1]), (-5, &[])],
+    ];
+    assert!(rt; closes::<BabyBear>(alloc, &roots, &[0, 1])?);
+    let both: [&[Row<'_>]; 2] = [
+        &[(1, &[0, 1]), (-6, &[])],
+        &[(1, &[0]), (1, &[1]), (-5, &[])],
+    ];
+    assert!(rt; finds::<BabyBear>(alloc, &both, &[0, 1], &[3, 2])?);
+    Ok(())
+}
+
+#[test]
+fn bits(rt: HostRuntime) -> Result<(), Fail> {
+    let alloc = rt.alloc();
+    let bits: [&[Row<'_>]; 5] = [
+        &[(1, &[0, 0]), (-1, &[0])],
+        &[(1, &[1, 1]), (-1, &[1])],
+        &[(1, &[2, 2]), (-1, &[2])],
+        &[(1, &[3, 3]), (-1, &[3])],
+        &[(1, &[0]), (2, &[1]), (4, &[2]), (8, &[3]), (-16, &[])],
+    ];
+    assert!(rt; closes::<BabyBear>(alloc, &bits, &[0, 1, 2, 3])?);
+    Ok(())
+}
+
+#[test]
+fn guesses(rt: HostRuntime) -> Result<(), Fail> {
+    let alloc = rt.alloc();
+    let product: [&[Row<'_>]; 1] = [&[(1, &[0, 1]), (-6, &[])]];
+    assert!(rt; finds::<BabyBear>(alloc, &product, &[0, 1], &[1, 6])?);
+    assert!(rt; finds::<F5>(alloc, &product, &[0, 1], &[1, 1])?);
+    let stop = answer::<BabyBear, Lex>(alloc, &product, &[0, 1], 2)?;
+    assert_eq!(rt; stop.0, Kind::Stopped);
+    Ok(())
+}
