@@ -45,11 +45,14 @@ pub(crate) struct Step<F: Field> {
     pub monomial: Mono,
 }
 
-/// The coefficient c divided by d.
+/// The coefficient c divided by d. A line of a completion has the leading coefficient 1, which needs no inverse.
 fn quotient_of<F: Field>(c: F, d: F) -> F
     requires { F.value d ≢ 0 }
     ensures { mul_mod F.ORDER (F.value result) (F.value d) ≡ F.value c }
 {
+    if d.residue() == 1 {
+        return c;
+    }
     match d.inv() {
         Some(inverse) => c.mul(inverse),
         None => unreachable!(),

@@ -1,53 +1,45 @@
--- One more command of a session.
-use Rattle.std.proofs.Common.{◌≡◌, ℕ, ◌+◌, ◌<◌, ◌≤◌, ◌^◌, ◌⊎◌, inl, inr, Bool, true, false, List, [], ◌∷◌, ◌++◌, length, map, take, drop, Option, Some, None, option_map, All, Contains, refl, sym, ap, ap₂, ◌∙◌, subst, arith, append_assoc, append-nil, length-append}
-use Rattle.std.specs.List.{flat_map}
+-- One more command of a dialogue.
+use Rattle.std.proofs.Common.{◌≡◌, ℕ, inl, true, false, List, [], ◌∷◌, ◌++◌, length, take, drop, Option, Some, None, Contains, refl, sym, ap, ap₂, ◌∙◌, subst, arith, append_assoc, append-nil, length-append}
 use Rattle.std.specs.Global.{Vec}
 use Rattle.std.proofs.Common.{Result, Ok, Err, OnOk, OnErr}
 use Rattle.std.specs.Result.{IfOk}
-use Rattle.std.proofs.lemmas.Bool.{false≢true, cases_lt}
-use Rattle.std.proofs.lemmas.Option.{none-some}
-use Rattle.std.proofs.lemmas.List.{take-append-drop, take_all}
+use Rattle.std.proofs.lemmas.Bool.{false≢true}
+use Rattle.std.proofs.lemmas.List.{take-append-drop}
 use Rattle.std.proofs.lemmas.List.Elements.{All-contains, Contains-append_left, Contains-append_right}
 use Rattle.ffc_base.specs.Outside.{Appends, AppendsPrefix}
 use Rattle.ffc_cert.specs.declared.entries.Entry.{Entry}
-use Rattle.ffc_cert.specs.declared.entries.Entry.TheVariants.{Sat, UnsatCases, UnsatSteps, Unknown}
-use Rattle.ffc_cert.specs.Spelling.{entry_text}
 use Rattle.ffc_smt.specs.Terms.{SetLogic, SetOption, GetOption, GetInfo, SolverName, Version, AssertionStackLevels, ReasonUnknown, Unsupported, Echo, CheckSat, CheckSatAssuming, GetModel, GetValue, GetUnsatCore, GetUnsatAssumptions, Exit}
 use Rattle.ffc_smt.specs.Terms as smt
 use Rattle.ffc_smt.specs.Scopes.{State}
 use Rattle.ffc_smt.specs.CommandReading.{limits}
 use Rattle.ffc_smt.specs.Scripts.{Step, after, reads}
 use Rattle.ffc_smt.specs.States.{IsSoundState}
-use Rattle.ffc_smt.specs.TableChecks.{TableCheck, node_of, nodes_in_force, table_check_of, table_checks}
-use Rattle.ffc_smt.specs.CheckLaws.{KeepsCheck}
+use Rattle.ffc_smt.specs.TableChecks.{table_check_of, table_checks}
 use Rattle.ffc_smt.specs.Answering.{asked_text, effect_of, Keeps, EndsModel, Forgets}
 use Rattle.ffc_smt.specs.Answering as answering
 use Rattle.ffc_smt.proofs.ScriptLemmas.{scripts_keep_states}
-use Rattle.ffc_rules.specs.Cores.{core}
 use Rattle.ffc_elab.specs.declared.answers.Asked.{Asked}
 use Rattle.ffc_elab.specs.declared.answers.Command.{Command}
 use Rattle.ffc_elab.specs.declared.answers.Command.TheVariants as command
 use Rattle.ffc_elab.specs.declared.answers.Effect.{Effect}
 use Rattle.ffc_elab.specs.declared.answers.Effect.TheVariants as effect
-use Rattle.ffc_elab.specs.Histories.{Known, assumptions_of, check_now, known_by}
-use Rattle.ffc_elab.specs.Answers.{AsksFor, ChecksUnder, IsAnswered, IsInfo, IsQuiet, Says, asked_as, effect_as}
-use Rattle.ffc_answer.specs.Answers.{Last, after_effect, answer_of, answer_to, answers, answers_from, assumptions_in, checked, last_after, last_from, sat_count, unsat_count, unknown_count, verdict}
+use Rattle.ffc_elab.specs.Histories.{Known, assumptions_of}
+use Rattle.ffc_elab.specs.Answers.{AsksFor, ChecksUnder, IsAnswered, IsInfo, IsQuiet, Says, effect_as}
+use Rattle.ffc_answer.specs.Answers.{Last, after_effect, answer_of, answer_to, answers, answers_from, last_after, last_from}
 use Rattle.ffc_answer.specs.Views.{IsRememberedAt}
 use Rattle.ffc_script.specs.Answers.{Gives, check_by, ends}
 use Rattle.ffc_script.specs.Kept.{AreFirst}
 use Rattle.ffc_script.specs.Progress.{Progress, known_at, steps_of}
-use Rattle.ffc_script.proofs.KeptLemmas.{checks_kept}
 use Rattle.ffc_solve.specs.declared.remembered.Remembered.{Remembered}
-use Rattle.ffc_solve.specs.declared.remembered.Tally.{Tally}
-use Rattle.ffc_solve.specs.declared.session.Session.{Session}
-use Rattle.ffc_solve.specs.declared.session.Advance.{Advance}
-use Rattle.ffc_solve.specs.declared.session.Advance.TheVariants as advance
+use Rattle.ffc_solve.specs.declared.dialogue.Dialogue.{Dialogue}
+use Rattle.ffc_solve.specs.declared.dialogue.Advance.{Advance}
+use Rattle.ffc_solve.specs.declared.dialogue.Advance.TheVariants as advance
 use Rattle.ffc_solve.specs.declared.stop.Stop.{Stop}
-use Rattle.ffc_solve.specs.Solving.{AreEntries, IsCutEntry, IsRest, IsRight}
-use Rattle.ffc_solve.specs.Remembering.{Counts, Holds, IsAsked, IsChecked, IsNext, Remembers, RemembersCheck, counted, effect_by, is_plain, no_longer_fresh, remembered_after, texts_of}
-use Rattle.ffc_solve.specs.Underway.{GoesOn, IsCutAt, IsHalfTold, IsTold}
-use Rattle.ffc_solve.proofs.ListLemmas.{Appends-nil, Appends-same, WroteFront, front_of, checks-append, checks-none, checks-some, AreEntries-more, AreEntries-push, check_at_end, AnswersSplit, answers-append, answers-none, answers-some, answers-end, last-none, last-some, last_end, counts-push, sat-more, unsat-more, unknown-more}
-use Rattle.ffc_solve.proofs.RememberLemmas.{after_check, remembered_next, verdict_answered}
+use Rattle.ffc_solve.specs.Solving.{AreEntries}
+use Rattle.ffc_solve.specs.Remembering.{Holds, IsAsked, IsNext, Remembers, effect_by, is_plain, remembered_after}
+use Rattle.ffc_solve.specs.Underway.{GoesOn, IsCutAt, IsTold}
+use Rattle.ffc_solve.proofs.ListLemmas.{Appends-nil, Appends-same, front_of, checks-append, checks-none, AreEntries-more, AnswersSplit, answers-append, answers-none, last-none, last_end}
+use Rattle.ffc_solve.proofs.RememberLemmas.{remembered_next}
 
 -- Commands and their answers
 
@@ -118,7 +110,7 @@ remembers_after answering.Forgets r l h = tt
 
 -- What was given
 
-module _ (p : Progress) (s : Session) (entries : List Entry) (l : Option Last) (c : Command) (holds : Holds p s entries l) (gives : Gives p s.reader c) (first : AreFirst s.reader.text (steps_of s.reader)) where
+module _ (p : Progress) (s : Dialogue) (entries : List Entry) (l : Option Last) (c : Command) (holds : Holds p s entries l) (gives : Gives p s.reader c) (first : AreFirst s.reader.text (steps_of s.reader)) where
   abbrev x : Step
   x = gives.step
 
@@ -174,8 +166,8 @@ module _ (p : Progress) (s : Session) (entries : List Entry) (l : Option Last) (
         subst (λ e. Remembers (remembered_after e s.last) (last_after l x.command)) (sym (same_effect now x.command c answered_is))
         (remembers_after (effect_of x.command) s.last l holds.remembers)
 
-    pub holds_plain : (t : Session) → t ≡ record s { last = remembered_after (effect_by c) s.last } → Holds t.reader t entries (last_after l x.command)
-    holds_plain t is = subst (λ (u : Session). Holds u.reader u entries (last_after l x.command)) (sym is) (record {
+    pub holds_plain : (t : Dialogue) → t ≡ record s { last = remembered_after (effect_by c) s.last } → Holds t.reader t entries (last_after l x.command)
+    holds_plain t is = subst (λ (u : Dialogue). Holds u.reader u entries (last_after l x.command)) (sym is) (record {
       each = subst (λ cs. AreEntries s.steps cs entries) (sym same_checks) holds.each;
       count = holds.count ∙ ap length (sym same_checks);
       last = last_plain;
@@ -184,8 +176,8 @@ module _ (p : Progress) (s : Session) (entries : List Entry) (l : Option Last) (
       tally = holds.tally;
     })
 
-    pub asked_plain : (t : Session) → t ≡ record s { last = remembered_after (effect_by c) s.last } → IsAsked t c (last_after l x.command) x
-    asked_plain t is = subst (λ (u : Session). IsAsked u c (last_after l x.command) x) (sym is) (record {
+    pub asked_plain : (t : Dialogue) → t ≡ record s { last = remembered_after (effect_by c) s.last } → IsAsked t c (last_after l x.command) x
+    asked_plain t is = subst (λ (u : Dialogue). IsAsked u c (last_after l x.command) x) (sym is) (record {
       sound = sound_before;
       read = gives.read;
       known = known_is;
@@ -197,7 +189,7 @@ module _ (p : Progress) (s : Session) (entries : List Entry) (l : Option Last) (
     checks_on : (rest : List Step) → table_checks ((steps_of p ++ x ∷ []) ++ rest) ≡ table_checks (steps_of p) ++ table_checks rest
     checks_on rest = ap table_checks (append_assoc (steps_of p) (x ∷ []) rest) ∙ checks-append (steps_of p) (x ∷ rest) ∙ ap (λ cs. table_checks (steps_of p) ++ cs) (checks-none x rest None none)
 
-    pub told_plain : (t : Session) (co cn oo on : Option (List ℕ)) → t ≡ record s { last = remembered_after (effect_by c) s.last } → cn ≡ co → Appends (answer_of (last_after l x.command) x) oo on
+    pub told_plain : (t : Dialogue) (co cn oo on : Option (List ℕ)) → t ≡ record s { last = remembered_after (effect_by c) s.last } → cn ≡ co → Appends (answer_of (last_after l x.command) x) oo on
         → IsTold (record s { reader = p }) t entries co cn oo on
     unfolding answers_from
     told_plain t co cn oo on is same written =
@@ -209,12 +201,12 @@ module _ (p : Progress) (s : Session) (entries : List Entry) (l : Option Last) (
           certificate = Appends-same [] co co cn same (Appends-nil co);
           text = answer;
           answered = written;
-          answers_are = ap₂ (λ xs es. answers xs es) (ap (λ (u : Session). steps_of u.reader) is ∙ gives.steps ∙ sym (append-nil (steps_of p ++ x ∷ []))) (append-nil entries) ∙ answers_plain []
+          answers_are = ap₂ (λ xs es. answers xs es) (ap (λ (u : Dialogue). steps_of u.reader) is ∙ gives.steps ∙ sym (append-nil (steps_of p ++ x ∷ []))) (append-nil entries) ∙ answers_plain []
               ∙ ap (λ a. answers (steps_of p) entries ++ a) (append-nil answer);
-          same_text = ap (λ (u : Session). u.reader.text) is ∙ gives.text;
-          longer = ap (λ (u : Session). length (steps_of u.reader)) is ∙ ap (λ (xs : List Step). length xs) gives.steps ∙ length-append (steps_of p) (x ∷ []);
-          budget = ap (λ (u : Session). u.steps) is;
-          taken = ap (λ (u : Session). u.taken) is;
+          same_text = ap (λ (u : Dialogue). u.reader.text) is ∙ gives.text;
+          longer = ap (λ (u : Dialogue). length (steps_of u.reader)) is ∙ ap (λ (xs : List Step). length xs) gives.steps ∙ length-append (steps_of p) (x ∷ []);
+          budget = ap (λ (u : Dialogue). u.steps) is;
+          taken = ap (λ (u : Dialogue). u.taken) is;
         }
 
     pub cut_plain : (more : List ℕ) (co cn oo on : Option (List ℕ)) → cn ≡ co → AppendsPrefix (answer_of (last_after l x.command) x) oo on → IsCutAt (record s { reader = p }) entries more co cn oo on
@@ -247,17 +239,17 @@ plain_from (command.CheckAssuming asked) a b d = absurd (b asked refl)
 plain_from command.Exit a b d = absurd (d refl)
 plain_from _ a b d = refl
 
-pub plain_ok : (r : Result Advance Stop) (s t : Session) (c : Command) (co oo on : Option (List ℕ)) → AreFirst s.reader.text (steps_of s.reader) → t ≡ record s { last = remembered_after (effect_by c) s.last } → is_plain c ≡ true
+pub plain_ok : (r : Result Advance Stop) (s t : Dialogue) (c : Command) (co oo on : Option (List ℕ)) → AreFirst s.reader.text (steps_of s.reader) → t ≡ record s { last = remembered_after (effect_by c) s.last } → is_plain c ≡ true
     → OnOk r ((p : Progress) (entries : List Entry) (l : Option Last) (n : IsNext p s entries l c) → Appends (answer_of (last_after l n.gives.step.command) n.gives.step) oo on) → IfOk r (λ a. a ≡ advance.Answered)
     → IfOk r (λ a. (p : Progress) (entries : List Entry) (l : Option Last) → Holds p s entries l → Gives p s.reader c → GoesOn (record s { reader = p }) t entries co co oo on a)
 plain_ok (Err e) s t c co oo on first is plain ok answered = tt
 plain_ok (Ok a) s t c co oo on first is plain ok answered = λ p entries l holds gives.
     subst (GoesOn (record s { reader = p }) t entries co co oo on) (sym answered) (
       told_plain p s entries l c holds gives first (gives.check ∙ plain_no_check c (known_at s.reader) plain) t co co oo on is refl (ok p entries l (record { holds = holds; gives = gives; plain = plain })),
-      ap (λ (u : Session). u.reader.over) is ∙ gives.over ∙ plain_goes_on c plain,
+      ap (λ (u : Dialogue). u.reader.over) is ∙ gives.over ∙ plain_goes_on c plain,
     )
 
-pub plain_err : (r : Result Advance Stop) (s : Session) (c : Command) (co oo on : Option (List ℕ)) → AreFirst s.reader.text (steps_of s.reader) → is_plain c ≡ true
+pub plain_err : (r : Result Advance Stop) (s : Dialogue) (c : Command) (co oo on : Option (List ℕ)) → AreFirst s.reader.text (steps_of s.reader) → is_plain c ≡ true
     → OnErr r ((p : Progress) (entries : List Entry) (l : Option Last) (n : IsNext p s entries l c) → AppendsPrefix (answer_of (last_after l n.gives.step.command) n.gives.step) oo on)
     → OnErr r ((p : Progress) (entries : List Entry) (l : Option Last) (more : List ℕ) → Holds p s entries l → Gives p s.reader c → IsCutAt (record s { reader = p }) entries more co co oo on)
 plain_err (Ok a) s c co oo on first plain err = tt
@@ -278,7 +270,7 @@ exit_silent k s t GetUnsatCore h = cc
 exit_silent k s t GetUnsatAssumptions h = cc
 exit_silent k s t _ h = absurd h
 
-pub exit_told : (p : Progress) (s : Session) (entries : List Entry) (l : Option Last) (c : Command) (co oo : Option (List ℕ)) → Holds p s entries l → (gives : Gives p s.reader c) → AreFirst s.reader.text (steps_of s.reader) → c ≡ command.Exit
+pub exit_told : (p : Progress) (s : Dialogue) (entries : List Entry) (l : Option Last) (c : Command) (co oo : Option (List ℕ)) → Holds p s entries l → (gives : Gives p s.reader c) → AreFirst s.reader.text (steps_of s.reader) → c ≡ command.Exit
     → GoesOn (record s { reader = p }) s entries co co oo oo advance.Ended
 exit_told p s entries l c co oo holds gives first e =
     let none = gives.check ∙ ap (λ d. check_by d (known_at s.reader)) e in
@@ -289,7 +281,7 @@ exit_told p s entries l c co oo holds gives first e =
     (told_plain p s entries l c holds gives first none s co co oo oo same refl (subst (λ a. Appends a oo oo) (sym silent) (Appends-nil oo)), gives.ended (ap ends e))
 
 -- nothing was written
-pub cut_here : (s : Session) (entries : List Entry) (l : Option Last) (more : List ℕ) (co oo : Option (List ℕ)) → Holds s.reader s entries l → AreFirst s.reader.text (steps_of s.reader) → IsCutAt s entries more co co oo oo
+pub cut_here : (s : Dialogue) (entries : List Entry) (l : Option Last) (more : List ℕ) (co oo : Option (List ℕ)) → Holds s.reader s entries l → AreFirst s.reader.text (steps_of s.reader) → IsCutAt s entries more co co oo oo
 cut_here s entries l more co oo holds first =
     let (rest, e) = first more in
     let steps_are : (reads (s.reader.text ++ more)).steps ≡ steps_of s.reader ++ rest = e in
@@ -308,8 +300,8 @@ cut_here s entries l more co oo holds first =
       answers_are = ap (λ xs. answers xs (entries ++ [])) steps_are ∙ split.answers_are;
     }
 
--- what a session remembers stays where its reader goes on
-pub holds_moved : (p q : Progress) (s : Session) (entries : List Entry) (l : Option Last) → Holds p s entries l → Holds p (record s { reader = q }) entries l
+-- what a dialogue remembers stays where its reader goes on
+pub holds_moved : (p q : Progress) (s : Dialogue) (entries : List Entry) (l : Option Last) → Holds p s entries l → Holds p (record s { reader = q }) entries l
 holds_moved p q s entries l h = record { each = h.each; count = h.count; last = h.last; remembers = h.remembers; kept = h.kept; tally = h.tally }
 
 pub ok_weaker : {T E : Type 0} (r : Result T E) (P Q : T → Type 0) → ((x : T) → P x → Q x) → IfOk r P → IfOk r Q
@@ -320,7 +312,7 @@ pub err_weaker : {T E : Type 0} (r : Result T E) (P Q : Type 0) → (P → Q) �
 err_weaker (Ok x) P Q f h = tt
 err_weaker (Err e) P Q f h = f h
 
--- a session that is to answer a command, after its effect
-pub asked_next : (p : Progress) (s t : Session) (entries : List Entry) (l : Option Last) (c : Command) → AreFirst s.reader.text (steps_of s.reader) → t ≡ record s { last = remembered_after (effect_by c) s.last } → (n : IsNext p s entries l c)
+-- a dialogue that is to answer a command, after its effect
+pub asked_next : (p : Progress) (s t : Dialogue) (entries : List Entry) (l : Option Last) (c : Command) → AreFirst s.reader.text (steps_of s.reader) → t ≡ record s { last = remembered_after (effect_by c) s.last } → (n : IsNext p s entries l c)
     → IsAsked t c (last_after l n.gives.step.command) n.gives.step
 asked_next p s t entries l c first is n = asked_plain p s entries l c n.holds n.gives first (n.gives.check ∙ plain_no_check c (known_at s.reader) n.plain) t is

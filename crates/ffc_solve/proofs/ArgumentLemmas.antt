@@ -1,5 +1,5 @@
 -- Numbers that the arguments give.
-use Rattle.std.proofs.Common.{◌≡◌, ◌≢◌, ◌⊎◌, inl, inr, ℕ, ◌≤◌, [], Option, Some, None, unwrap_or, refl, arith, subst}
+use Rattle.std.proofs.Common.{◌≡◌, ◌≢◌, inl, inr, ℕ, [], Option, Some, None, unwrap_or, refl, arith, subst}
 use Rattle.std.specs.Option.{IfSome}
 use Rattle.clap.specs.Words.{HasKind, Kinds, Text, kind_of}
 use Rattle.clap.specs.declared.error.Error.{Error}

@@ -1,12 +1,10 @@
--- A check of a session.
-use Rattle.std.proofs.Common.{◌≡◌, ℕ, ◌+◌, ◌<◌, ◌≤◌, ◌^◌, ◌⊎◌, inl, inr, Bool, true, false, List, [], ◌∷◌, ◌++◌, length, map, take, drop, Option, Some, None, option_map, slice_get, All, Contains, refl, sym, ap, ap₂, ◌∙◌, subst, arith, append_assoc, append-nil, length-append}
-use Rattle.std.specs.List.{flat_map}
+-- A check of a dialogue.
+use Rattle.std.proofs.Common.{◌≡◌, ℕ, ◌+◌, ◌<◌, ◌≤◌, ◌^◌, inl, inr, List, [], ◌∷◌, ◌++◌, length, map, take, drop, Option, Some, None, option_map, slice_get, Contains, refl, sym, ap, ap₂, ◌∙◌, subst, arith, append_assoc, append-nil, length-append}
 use Rattle.std.specs.Global.{Vec}
-use Rattle.std.proofs.lemmas.Bool.{false≢true, cases_lt}
-use Rattle.std.proofs.lemmas.Option.{none-some}
+use Rattle.std.proofs.lemmas.Bool.{cases_lt}
 use Rattle.std.proofs.lemmas.List.{take-append-drop, take_all}
 use Rattle.std.proofs.lemmas.List.Elements.{All-contains, Contains-append_left, Contains-append_right}
-use Rattle.ffc_base.specs.Outside.{Appends, AppendsPrefix}
+use Rattle.ffc_base.specs.Outside.{Appends}
 use Rattle.ffc_cert.specs.declared.entries.Entry.{Entry}
 use Rattle.ffc_cert.specs.declared.entries.Entry.TheVariants.{Sat, UnsatCases, UnsatSteps, Unknown}
 use Rattle.ffc_cert.specs.Spelling.{entry_text}
@@ -16,34 +14,30 @@ use Rattle.ffc_smt.specs.Scopes.{State}
 use Rattle.ffc_smt.specs.CommandReading.{limits}
 use Rattle.ffc_smt.specs.Scripts.{Step, after, reads}
 use Rattle.ffc_smt.specs.States.{IsSoundState}
-use Rattle.ffc_smt.specs.TableChecks.{TableCheck, node_of, nodes_in_force, table_check_of, table_checks}
+use Rattle.ffc_smt.specs.TableChecks.{TableCheck, nodes_in_force, table_check_of, table_checks}
 use Rattle.ffc_smt.specs.CheckLaws.{KeepsCheck}
-use Rattle.ffc_smt.specs.Answering.{asked_text, effect_of, Keeps, EndsModel, Forgets}
-use Rattle.ffc_smt.specs.Answering as answering
+use Rattle.ffc_smt.specs.Answering.{asked_text}
 use Rattle.ffc_smt.proofs.ScriptLemmas.{scripts_keep_states}
 use Rattle.ffc_rules.specs.Cores.{core}
 use Rattle.ffc_elab.specs.declared.answers.Asked.{Asked}
 use Rattle.ffc_elab.specs.declared.answers.Command.{Command}
 use Rattle.ffc_elab.specs.declared.answers.Command.TheVariants as command
-use Rattle.ffc_elab.specs.declared.answers.Effect.{Effect}
-use Rattle.ffc_elab.specs.declared.answers.Effect.TheVariants as effect
-use Rattle.ffc_elab.specs.Histories.{Known, assumptions_of, check_now, known_by}
-use Rattle.ffc_elab.specs.Answers.{AsksFor, ChecksUnder, IsAnswered, IsInfo, IsQuiet, Says, asked_as, effect_as}
-use Rattle.ffc_answer.specs.Answers.{Last, after_effect, answer_of, answers, answers_from, assumptions_in, checked, last_after, last_from, sat_count, unsat_count, unknown_count, verdict}
+use Rattle.ffc_elab.specs.Histories.{check_now}
+use Rattle.ffc_elab.specs.Answers.{IsAnswered, asked_as}
+use Rattle.ffc_answer.specs.Answers.{Last, answer_of, answers, answers_from, assumptions_in, checked, last_from, sat_count, unsat_count, unknown_count, verdict}
 use Rattle.ffc_answer.specs.Views.{IsRememberedAt}
-use Rattle.ffc_script.specs.Answers.{Gives, check_by, ends}
+use Rattle.ffc_script.specs.Answers.{Gives}
 use Rattle.ffc_script.specs.Kept.{AreFirst}
 use Rattle.ffc_script.specs.Progress.{Progress, known_at, steps_of}
 use Rattle.ffc_script.proofs.KeptLemmas.{checks_kept}
-use Rattle.ffc_solve.specs.declared.remembered.Remembered.{Remembered}
 use Rattle.ffc_solve.specs.declared.remembered.Tally.{Tally}
-use Rattle.ffc_solve.specs.declared.session.Session.{Session}
-use Rattle.ffc_solve.specs.Solving.{AreEntries, IsCutEntry, IsRest, IsRight}
-use Rattle.ffc_solve.specs.Remembering.{Counts, HasRoom, Holds, IsAsked, IsChecked, IsNext, Remembers, RemembersCheck, counted, effect_by, is_plain, no_longer_fresh, remembered_after, texts_of}
+use Rattle.ffc_solve.specs.declared.dialogue.Dialogue.{Dialogue}
+use Rattle.ffc_solve.specs.Solving.{AreEntries, IsRight}
+use Rattle.ffc_solve.specs.Remembering.{Counts, HasRoom, Holds, IsChecked, Remembers, counted, texts_of}
 use Rattle.ffc_solve.specs.Underway.{IsCutAt, IsHalfTold, IsTold}
-use Rattle.ffc_solve.proofs.ListLemmas.{Appends-nil, Appends-same, WroteFront, front_of, checks-append, checks-none, checks-some, AreEntries-more, AreEntries-push, check_at_end, AnswersSplit, answers-append, answers-none, answers-some, answers-end, last-none, last-some, last_end, counts-push, sat-more, unsat-more, unknown-more, sat-few, unsat-few, unknown-few, checks-few}
-use Rattle.ffc_solve.proofs.RememberLemmas.{after_check, remembered_next, verdict_answered}
-use Rattle.ffc_solve.proofs.AdvanceLemmas.{known_is, state_is, answered_is}
+use Rattle.ffc_solve.proofs.ListLemmas.{Appends-nil, Appends-same, front_of, checks-append, checks-some, AreEntries-more, AreEntries-push, check_at_end, AnswersSplit, answers-append, answers-some, answers-end, last-some, last_end, counts-push, sat-more, unsat-more, unknown-more, sat-few, unsat-few, unknown-few, checks-few}
+use Rattle.ffc_solve.proofs.RememberLemmas.{after_check, verdict_answered}
+use Rattle.ffc_solve.proofs.AdvanceLemmas.{state_is}
 
 -- Assumptions as they are answered
 
@@ -74,13 +68,13 @@ add-none : (n : ℕ) → n ≡ n + 0
 add-none n = omega arith
 
 -- the check that was given is the last one
-pub check_is_last : (p : Progress) (s : Session) (c : Command) (check : TableCheck) (gives : Gives p s.reader c) → table_check_of gives.step ≡ Some check → Contains (table_checks (steps_of s.reader)) check
+pub check_is_last : (p : Progress) (s : Dialogue) (c : Command) (check : TableCheck) (gives : Gives p s.reader c) → table_check_of gives.step ≡ Some check → Contains (table_checks (steps_of s.reader)) check
 check_is_last p s c check gives is =
     let all = ap table_checks gives.steps ∙ checks-append (steps_of p) (gives.step ∷ []) ∙ ap (λ cs. table_checks (steps_of p) ++ cs) (checks-some gives.step [] None check is) in
     subst (λ cs. Contains cs check) (sym all) (Contains-append_right (table_checks (steps_of p)) (check ∷ []) check (0, omega arith, refl))
 
 -- one more entry can be counted
-pub room_for : (p : Progress) (s : Session) (entries : List Entry) (l : Option Last) (c : Command) → Holds p s entries l → Gives p s.reader c → length (steps_of s.reader) ≤ length s.reader.text → length s.reader.text ≤ 67108865 → HasRoom s.tally
+pub room_for : (p : Progress) (s : Dialogue) (entries : List Entry) (l : Option Last) (c : Command) → Holds p s entries l → Gives p s.reader c → length (steps_of s.reader) ≤ length s.reader.text → length s.reader.text ≤ 67108865 → HasRoom s.tally
 room_for p s entries l c holds gives few short =
     let one = sat-few entries in
     let two = unsat-few entries in
@@ -93,7 +87,7 @@ room_for p s entries l c holds gives few short =
     let d = holds.tally.unknown in
     record { sat = omega arith; unsat = omega arith; unknown = omega arith }
 
-module _ (p : Progress) (s : Session) (entries : List Entry) (l : Option Last) (c : Command) (holds : Holds p s entries l) (gives : Gives p s.reader c) (first : AreFirst s.reader.text (steps_of s.reader))
+module _ (p : Progress) (s : Dialogue) (entries : List Entry) (l : Option Last) (c : Command) (holds : Holds p s entries l) (gives : Gives p s.reader c) (first : AreFirst s.reader.text (steps_of s.reader))
     (is : table_check_of gives.step ≡ Some (check_now (known_at s.reader))) (entry : Entry) (right : IsRight s.steps (check_now (known_at s.reader)) entry) where
   abbrev x : Step
   x = gives.step
@@ -171,7 +165,7 @@ module _ (p : Progress) (s : Session) (entries : List Entry) (l : Option Last) (
       by_entry (UnsatSteps lines) e = let h = sums (UnsatSteps lines) in record { sat = ap (λ (u : Tally). u.sat) e ∙ add-none s.tally.sat ∙ sym h.0; unsat = ap (λ (u : Tally). u.unsat) e ∙ sym h.1; unknown = ap (λ (u : Tally). u.unknown) e ∙ add-none s.tally.unknown ∙ sym h.2 }
       by_entry (Unknown cause) e = let h = sums (Unknown cause) in record { sat = ap (λ (u : Tally). u.sat) e ∙ add-none s.tally.sat ∙ sym h.0; unsat = ap (λ (u : Tally). u.unsat) e ∙ add-none s.tally.unsat ∙ sym h.1; unknown = ap (λ (u : Tally). u.unknown) e ∙ sym h.2 }
 
-  pub holds_then : (t : Session) (asked : Option (Vec Asked)) → s.steps < 2 ^ 64 → IsChecked s t asked entry → texts_of asked ≡ option_map (map asked_text) (assumptions_in x.command) → Holds t.reader t (entries ++ entry ∷ []) then
+  pub holds_then : (t : Dialogue) (asked : Option (Vec Asked)) → s.steps < 2 ^ 64 → IsChecked s t asked entry → texts_of asked ≡ option_map (map asked_text) (assumptions_in x.command) → Holds t.reader t (entries ++ entry ∷ []) then
   holds_then t asked few h texts = record {
     each = subst (λ n. AreEntries n (table_checks (steps_of t.reader)) (entries ++ entry ∷ [])) (sym h.steps)
         (subst (λ r. AreEntries s.steps (table_checks (steps_of r)) (entries ++ entry ∷ [])) (sym h.reader) (subst (λ cs. AreEntries s.steps cs (entries ++ entry ∷ [])) (sym checks_then) each_then));
@@ -183,7 +177,7 @@ module _ (p : Progress) (s : Session) (entries : List Entry) (l : Option Last) (
     tally = counts_then t.tally h.tally;
   }
 
-  pub told_then : (t : Session) (asked : Option (Vec Asked)) (co cn oo on : Option (List ℕ)) → s.steps < 2 ^ 64 → IsChecked s t asked entry → texts_of asked ≡ option_map (map asked_text) (assumptions_in x.command)
+  pub told_then : (t : Dialogue) (asked : Option (Vec Asked)) (co cn oo on : Option (List ℕ)) → s.steps < 2 ^ 64 → IsChecked s t asked entry → texts_of asked ≡ option_map (map asked_text) (assumptions_in x.command)
       → Appends (entry_text entry) co cn → Appends (verdict entry) oo on → IsTold (record s { reader = p }) t entries co cn oo on
   unfolding answers_from
   told_then t asked co cn oo on few h texts cert out =

@@ -1,5 +1,5 @@
 -- From what was written after the first line to what a run leaves.
-use Rattle.std.proofs.Common.{◌≡◌, ℕ, ◌+◌, ◌<◌, ◌≤◌, ◌⊎◌, inl, inr, Bool, true, false, cond, List, [], ◌∷◌, ◌++◌, length, take, drop, Option, Some, None, refl, sym, ap, ◌∙◌, subst, arith, append_assoc, append-nil, length-append, Result, Ok, Err, OnOk, OnErr}
+use Rattle.std.proofs.Common.{◌≡◌, ℕ, ◌+◌, ◌≤◌, ◌⊎◌, inl, inr, Bool, true, false, cond, List, [], ◌∷◌, ◌++◌, length, take, drop, Option, Some, None, refl, sym, ap, ◌∙◌, subst, arith, append_assoc, append-nil, Result, Ok, Err, OnOk, OnErr}
 use Rattle.std.specs.List.{flat_map}
 use Rattle.std.specs.Option.{IfSome}
 use Rattle.std.specs.Result.{IfOk}
@@ -9,10 +9,10 @@ use Rattle.ffc_cert.specs.Spelling.{entry_text, header, text_of}
 use Rattle.ffc_smt.specs.Scripts.{Script, reads}
 use Rattle.ffc_smt.specs.TableChecks.{table_checks}
 use Rattle.ffc_answer.specs.Answers.{has_all_entries, made_answer, run_answers, script_answers}
-use Rattle.ffc_solve.specs.declared.session.Session.{Session}
-use Rattle.ffc_solve.specs.Solving.{IsBegun, IsPaused, IsStopped, IsTaken, IsWhole}
+use Rattle.ffc_solve.specs.declared.dialogue.Dialogue.{Dialogue}
+use Rattle.ffc_solve.specs.Solving.{IsPaused, IsStopped, IsWhole}
 use Rattle.ffc_solve.specs.Underway.{IsAnswered, IsCut, IsPausedAt, is_fault}
-use Rattle.ffc_solve.proofs.ListLemmas.{Appends-nil, AppendsPrefix-none, Becomes-more, front_is_prefix, WroteFront, front_of}
+use Rattle.ffc_solve.proofs.ListLemmas.{AppendsPrefix-none, Becomes-more, front_is_prefix, front_of}
 use Rattle.std.proofs.lemmas.Bool.{false≢true}
 use Rattle.std.proofs.lemmas.List.{take-append-drop, take_all, length-map}
 use Rattle.std.specs.List.{AllByRecursion}
@@ -48,7 +48,7 @@ pub text_is : (entries : List Entry) → header 2 ++ flat_map entry_text entries
 unfolding text_of
 text_is entries = refl
 
-pub whole_from : (budget : ℕ) (b : List ℕ) (refused : Bool) (s : Session) (co c1 cn oo on : Option (List ℕ)) → Becomes (header 2) co c1 → IsAnswered budget b refused s c1 cn oo on → IsWhole budget None b co cn oo on
+pub whole_from : (budget : ℕ) (b : List ℕ) (refused : Bool) (s : Dialogue) (co c1 cn oo on : Option (List ℕ)) → Becomes (header 2) co c1 → IsAnswered budget b refused s c1 cn oo on → IsWhole budget None b co cn oo on
 whole_from budget b refused s co c1 cn oo on first h = record {
   entries = h.entries;
   each = h.each;

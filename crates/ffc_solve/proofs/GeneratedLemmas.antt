@@ -1,5 +1,5 @@
 -- Generated scripts, step by step.
-use Rattle.std.proofs.Common.{◌≡◌, ℕ, zero, suc, ◌+◌, List, [], ◌++◌, refl, sym, ap, ◌∙◌, arith, append_assoc, append-nil}
+use Rattle.std.proofs.Common.{◌≡◌, ℕ, zero, suc, ◌+◌, ◌++◌, sym, ap, ◌∙◌, arith, append_assoc, append-nil}
 use Rattle.ffc_solve.specs.Generated.{step_text, steps_text}
 
 steps-push : (i n : ℕ) → steps_text i (suc n) ≡ steps_text i n ++ step_text (i + n)

@@ -5,6 +5,7 @@ pub mod AdvanceLemmas
 pub mod CheckLemmas
 pub mod ViewLemmas
 pub mod ReadLemmas
+pub mod TakenLemmas
 pub mod RunLemmas
 pub mod EndingLemmas
 pub mod ArgumentLemmas

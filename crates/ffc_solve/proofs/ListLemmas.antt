@@ -1,15 +1,15 @@
 -- Answers and entries of lists of commands.
-use Rattle.std.proofs.Common.{◌≡◌, ℕ, zero, suc, ◌+◌, ◌<◌, ◌≤◌, List, [], ◌∷◌, ◌++◌, length, take, drop, Option, Some, None, slice_get, refl, sym, ap, ap₂, ◌∙◌, subst, arith, append_assoc, append-nil, length-append, inl, inr, ◌⊎◌}
+use Rattle.std.proofs.Common.{◌≡◌, ℕ, zero, suc, ◌+◌, ◌≤◌, List, [], ◌∷◌, ◌++◌, length, take, Option, Some, None, slice_get, refl, sym, ap, ◌∙◌, subst, arith, append_assoc, append-nil, length-append, inl, inr, ◌⊎◌}
 use Rattle.std.proofs.Common.{Result, Ok, Err, OnErr}
 use Rattle.std.specs.List.{flat_map}
-use Rattle.std.proofs.lemmas.List.{take-append-le, take_all, take-append-drop}
+use Rattle.std.proofs.lemmas.List.{take-append-le, take_all}
 use Rattle.ffc_base.specs.Outside.{Appends, AppendsPrefix, Becomes}
 use Rattle.ffc_cert.specs.declared.entries.Entry.{Entry}
 use Rattle.ffc_cert.specs.declared.entries.Entry.TheVariants.{Sat, UnsatCases, UnsatSteps, Unknown}
 use Rattle.ffc_cert.specs.Spelling.{entry_text}
 use Rattle.ffc_smt.specs.Scripts.{Step}
 use Rattle.ffc_smt.specs.TableChecks.{TableCheck, table_check_of, table_checks}
-use Rattle.ffc_answer.specs.Answers.{Last, answer_of, answers, answers_from, checked, last_after, last_from, sat_count, unsat_count, unknown_count}
+use Rattle.ffc_answer.specs.Answers.{Last, answer_of, answers_from, checked, last_after, last_from, sat_count, unsat_count, unknown_count}
 use Rattle.ffc_solve.specs.Solving.{AreEntries, IsRight}
 use Rattle.std.specs.Result.{IfErr, IsErrOf}
 use Rattle.ffc_solve.specs.declared.stop.Stop.{Stop}

@@ -1,5 +1,5 @@
 -- What is left where a generated script is answered, and the line behind its answers.
-use Rattle.std.proofs.Common.{◌≡◌, ℕ, ◌<◌, ◌≤◌, inl, inr, Bool, true, cond, List, [], ◌++◌, length, take, drop, Option, Some, None, refl, sym, ap, ◌∙◌, subst, arith, append_assoc, append-nil}
+use Rattle.std.proofs.Common.{◌≡◌, ℕ, inl, inr, Bool, cond, List, [], ◌++◌, length, take, drop, Option, Some, refl, sym, ap, ◌∙◌, subst, arith, append_assoc, append-nil}
 use Rattle.std.specs.List.{flat_map}
 use Rattle.std.specs.Option.{IfSome}
 use Rattle.std.proofs.lemmas.List.{take-append-drop}
@@ -9,7 +9,7 @@ use Rattle.ffc_cert.specs.Spelling.{entry_text, header, text_of}
 use Rattle.ffc_smt.specs.Scripts.{Script, reads}
 use Rattle.ffc_smt.specs.TableChecks.{table_checks}
 use Rattle.ffc_answer.specs.Answers.{made_answer, run_answers, script_answers}
-use Rattle.ffc_solve.specs.declared.session.Session.{Session}
+use Rattle.ffc_solve.specs.declared.dialogue.Dialogue.{Dialogue}
 use Rattle.ffc_solve.specs.Solving.{IsStopped, IsWhole}
 use Rattle.ffc_solve.specs.Underway.{IsAnswered}
 use Rattle.ffc_solve.proofs.EndingLemmas.{text_is}
@@ -19,10 +19,10 @@ use Rattle.ffc_solve.proofs.RunLemmas.{all_there}
 run_made : (size : ℕ) (script : Script) (entries : List Entry) → length entries ≡ length (table_checks script.steps) → run_answers (Some size) script entries ≡ script_answers script entries ++ made_answer (Some size) entries
 run_made size script entries all = ap (λ b. script_answers script entries ++ cond b (made_answer (Some size) entries) []) (all_there script.steps entries all)
 
-entries_are : (budget : ℕ) (b : List ℕ) (refused : Bool) (s : Session) (co c1 cn oo o1 : Option (List ℕ)) → Becomes (header 2) co c1 → (h : IsAnswered budget b refused s c1 cn oo o1) → Becomes (text_of 2 h.entries) co cn
+entries_are : (budget : ℕ) (b : List ℕ) (refused : Bool) (s : Dialogue) (co c1 cn oo o1 : Option (List ℕ)) → Becomes (header 2) co c1 → (h : IsAnswered budget b refused s c1 cn oo o1) → Becomes (text_of 2 h.entries) co cn
 entries_are budget b refused s co c1 cn oo o1 first h = subst (λ a. Becomes a co cn) (text_is h.entries) (Becomes-more (header 2) (flat_map entry_text h.entries) co c1 cn first h.certificate)
 
-pub made_whole : (budget size : ℕ) (b : List ℕ) (refused : Bool) (s : Session) (co c1 cn oo o1 on : Option (List ℕ)) → Becomes (header 2) co c1 → (h : IsAnswered budget b refused s c1 cn oo o1) → Appends (made_answer (Some size) h.entries) o1 on
+pub made_whole : (budget size : ℕ) (b : List ℕ) (refused : Bool) (s : Dialogue) (co c1 cn oo o1 on : Option (List ℕ)) → Becomes (header 2) co c1 → (h : IsAnswered budget b refused s c1 cn oo o1) → Appends (made_answer (Some size) h.entries) o1 on
     → IsWhole budget (Some size) b co cn oo on
 made_whole budget size b refused s co c1 cn oo o1 on first h told = record {
   entries = h.entries;
@@ -32,7 +32,7 @@ made_whole budget size b refused s co c1 cn oo o1 on first h told = record {
   answered = subst (λ a. Appends a oo on) (sym (run_made size (reads b) h.entries h.all)) (Appends-more (script_answers (reads b) h.entries) (made_answer (Some size) h.entries) oo o1 on h.answered told);
 }
 
-pub made_cut : (budget size : ℕ) (b : List ℕ) (refused : Bool) (s : Session) (co c1 cn oo o1 on : Option (List ℕ)) → Becomes (header 2) co c1 → (h : IsAnswered budget b refused s c1 cn oo o1) → AppendsPrefix (made_answer (Some size) h.entries) o1 on
+pub made_cut : (budget size : ℕ) (b : List ℕ) (refused : Bool) (s : Dialogue) (co c1 cn oo o1 on : Option (List ℕ)) → Becomes (header 2) co c1 → (h : IsAnswered budget b refused s c1 cn oo o1) → AppendsPrefix (made_answer (Some size) h.entries) o1 on
     → IsStopped budget (Some size) b co cn oo on
 made_cut budget size b refused s co c1 cn oo o1 on first h told =
     let whole = script_answers (reads b) h.entries in
@@ -49,7 +49,7 @@ made_cut budget size b refused s co c1 cn oo o1 on first h told =
           (Appends-more whole (take front.size made) oo o1 on h.answered front.appended);
     })
 
-pub made_silent : (budget size : ℕ) (b : List ℕ) (refused : Bool) (s : Session) (co c1 cn oo on : Option (List ℕ)) → Becomes (header 2) co c1 → IsAnswered budget b refused s c1 cn oo on → IsStopped budget (Some size) b co cn oo on
+pub made_silent : (budget size : ℕ) (b : List ℕ) (refused : Bool) (s : Dialogue) (co c1 cn oo on : Option (List ℕ)) → Becomes (header 2) co c1 → IsAnswered budget b refused s c1 cn oo on → IsStopped budget (Some size) b co cn oo on
 made_silent budget size b refused s co c1 cn oo on first h = made_cut budget size b refused s co c1 cn oo on on first h (AppendsPrefix-none (made_answer (Some size) h.entries) on)
 
 -- a source that never fails gives no fault

@@ -1,10 +1,10 @@
 -- Pieces of a script.
-use Rattle.std.proofs.Common.{◌≡◌, ℕ, zero, suc, ◌+◌, ◌<◌, ◌≤◌, List, [], ◌∷◌, ◌++◌, length, take, drop, Option, Some, None, refl, sym, ap, ◌∙◌, subst, arith, append_assoc, append-nil, length-append}
+use Rattle.std.proofs.Common.{◌≡◌, ℕ, zero, suc, ◌+◌, ◌≤◌, List, [], ◌++◌, length, take, drop, Option, Some, None, refl, sym, ap, ◌∙◌, subst, arith, append_assoc, length-append}
 use Rattle.std.specs.Option.{IfSome}
-use Rattle.std.proofs.lemmas.List.{take-append-drop, take-append-le, take_all, length-take}
+use Rattle.std.proofs.lemmas.List.{take-append-drop, take_all, length-take}
 use Rattle.ffc_base.specs.Outside.{MovesFront}
 use Rattle.ffc_lex.specs.Lexing.{extended}
-use Rattle.ffc_solve.specs.Solving.{IsTaken}
+use Rattle.ffc_solve.specs.Solving.{EndsSoon, IsTaken}
 use Rattle.ffc_solve.specs.Underway.{HasRead, IsAtEnd}
 
 -- what a read moved was read
@@ -12,11 +12,11 @@ pub HasRead-moved : (n : ℕ) (buffer : List ℕ) (x y : Option (List ℕ)) → 
 HasRead-moved n buffer None y m = tt
 HasRead-moved n buffer (Some bytes) y m = (drop n bytes, sym (take-append-drop n bytes) ∙ ap (λ p. p ++ drop n bytes) (sym m.1), m.2)
 
-pub taken_moved : (n : ℕ) (buffer : List ℕ) (x y : Option (List ℕ)) (before : ℕ) → MovesFront n buffer x y → before + n ≤ 67108865 → IfSome x (λ bytes. (piece : List ℕ) × IsTaken piece bytes y × (before + length piece ≤ 67108865))
-taken_moved n buffer None y before m few = tt
-taken_moved n buffer (Some bytes) y before m few =
+pub taken_moved : (n : ℕ) (buffer : List ℕ) (x y : Option (List ℕ)) (before : ℕ) → MovesFront n buffer x y → before + n ≤ 67108865 → n ≤ 4096 → IfSome x (λ bytes. (piece : List ℕ) × IsTaken piece bytes y × (before + length piece ≤ 67108865) × (length piece ≤ 4096))
+taken_moved n buffer None y before m few short = tt
+taken_moved n buffer (Some bytes) y before m few short =
     let long : length (take n bytes) ≤ n = let e = length-take n bytes in omega arith in
-    (take n bytes, record { rest = drop n bytes; split = sym (take-append-drop n bytes); left = m.2; few = omega arith }, omega arith)
+    (take n bytes, record { rest = drop n bytes; split = sym (take-append-drop n bytes); left = m.2; few = omega arith }, omega arith, omega arith)
 
 abbrev none_left : List ℕ
 none_left = []
@@ -44,9 +44,9 @@ HasRead-none None = tt
 HasRead-none (Some bytes) = (bytes, refl, refl)
 
 -- what was read is what was taken
-pub taken_read : (first now : Option (List ℕ)) (text : List ℕ) → length text ≤ 67108865 → HasRead first now text → IfSome first (λ bytes. (t : List ℕ) × IsTaken t bytes now)
-taken_read None now text few h = tt
-taken_read (Some bytes) now text few (rest, e, left) = (text, record { rest = rest; split = e; left = left; few = few })
+pub taken_read : (first now : Option (List ℕ)) (text : List ℕ) → length text ≤ 67108865 → EndsSoon text → HasRead first now text → IfSome first (λ bytes. (t : List ℕ) × IsTaken t bytes now × EndsSoon t)
+taken_read None now text few soon h = tt
+taken_read (Some bytes) now text few soon (rest, e, left) = (text, record { rest = rest; split = e; left = left; few = few }, soon)
 
 pub within_limit : (text piece : List ℕ) → length text + length piece ≤ 67108865 → extended text piece ≡ text ++ piece
 within_limit text piece few = take_all 67108865 (text ++ piece) (omega (arith, length-append text piece))

@@ -1,6 +1,5 @@
 -- What is remembered of the last check stays so after each command.
-use Rattle.std.proofs.Common.{◌≡◌, ℕ, ◌+◌, ◌<◌, ◌≤◌, ◌^◌, ◌==◌, not, Bool, true, false, List, [], ◌∷◌, ◌++◌, length, map, Option, Some, None, option_map, refl, sym, ap, ◌∙◌, subst, arith, append_assoc, append-nil, cond}
-use Rattle.std.specs.Option.{option_copied}
+use Rattle.std.proofs.Common.{◌≡◌, ℕ, ◌+◌, ◌<◌, ◌^◌, ◌==◌, not, true, List, [], ◌∷◌, ◌++◌, length, Option, Some, None, refl, sym, ap, ◌∙◌, subst, arith, append_assoc, append-nil}
 use Rattle.std.proofs.lemmas.Bool.{false≢true, and_parts, eqb-true}
 use Rattle.std.proofs.lemmas.Option.{none-some}
 use Rattle.ffc_cert.specs.declared.entries.Entry.{Entry}
@@ -8,22 +7,21 @@ use Rattle.ffc_cert.specs.declared.entries.Entry.TheVariants.{Sat, UnsatCases, U
 use Rattle.ffc_cert.specs.declared.entries.Cause.{Cause}
 use Rattle.ffc_cert.specs.declared.entries.Cause.TheVariants.{Degree, Terms, Steps, Memory}
 use Rattle.ffc_term.specs.declared.node.Node.{Node}
-use Rattle.ffc_term.specs.Tables.{constant_count}
 use Rattle.ffc_smt.specs.Trees.{Tree}
-use Rattle.ffc_smt.specs.Terms.{Command, Asked, SetLogic, SetOption, GetOption, GetInfo, Unsupported, Echo, Declare, DefineSort, Define, Assert, CheckSat, CheckSatAssuming, GetModel, GetValue, GetUnsatCore, GetUnsatAssumptions, Push, Pop, ResetAssertions, Reset, Exit}
+use Rattle.ffc_smt.specs.Terms.{Command, Asked, Declare, Define, Assert, CheckSat, CheckSatAssuming, GetValue}
 use Rattle.ffc_smt.specs.Scopes.{State, declared_of, assertions_of}
 use Rattle.ffc_smt.specs.CommandReading.{nodes_after}
 use Rattle.ffc_smt.specs.CommandReading.{asked_made}
-use Rattle.ffc_smt.specs.Making.{constant_node, interned, made}
-use Rattle.ffc_smt.specs.Scripts.{Step, after, changed, check_at, check_of}
+use Rattle.ffc_smt.specs.Making.{constant_node, made}
+use Rattle.ffc_smt.specs.Scripts.{after, check_at}
 use Rattle.ffc_smt.specs.States.{IsSoundState}
-use Rattle.ffc_smt.specs.TableChecks.{TableCheck, declared_nodes, table_check_of}
+use Rattle.ffc_smt.specs.TableChecks.{TableCheck, table_check_of}
 use Rattle.ffc_smt.specs.CheckLaws.{KeepsCheck}
-use Rattle.ffc_smt.specs.Answering.{Effect, Keeps, EndsModel, Forgets, effect_of, KeepsScopes}
+use Rattle.ffc_smt.specs.Answering.{Effect, Keeps, EndsModel, Forgets, effect_of}
 use Rattle.ffc_smt.proofs.EffectLemmas.{keeping_keeps}
 use Rattle.ffc_smt.proofs.Extends.{Extends, extends_same, extends_further, interned_extends, made_extends}
-use Rattle.ffc_rules.specs.Causes.{Caused, is_cause_within, is_small, passes_degree, passes_length}
-use Rattle.ffc_rules.specs.Entries.{NodeCheck, limits, EntryOk}
+use Rattle.ffc_rules.specs.Causes.{is_cause_within, is_small, passes_degree, passes_length}
+use Rattle.ffc_rules.specs.Entries.{NodeCheck, limits}
 use Rattle.ffc_rules.proofs.EntryLemmas.{entry_true}
 use Rattle.ffc_rules.specs.Judging.{node_check}
 use Rattle.ffc_answer.specs.Answers.{Last, after_effect, answer_of, checked, last_after, no_more_fresh, verdict}

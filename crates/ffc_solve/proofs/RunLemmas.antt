@@ -1,5 +1,5 @@
 -- Whole runs over a script.
-use Rattle.std.proofs.Common.{◌≡◌, ℕ, ◌+◌, ◌<◌, ◌≤◌, ◌⊎◌, inl, inr, Bool, true, false, cond, List, [], ◌∷◌, ◌++◌, length, take, drop, Option, Some, None, refl, sym, ap, ap₂, ◌∙◌, subst, arith, append_assoc, append-nil, length-append}
+use Rattle.std.proofs.Common.{◌≡◌, ℕ, ◌+◌, ◌≤◌, inl, inr, Bool, true, false, cond, List, [], ◌++◌, length, take, drop, Option, Some, None, refl, sym, ap, ◌∙◌, subst, arith, append_assoc, append-nil, length-append}
 use Rattle.std.specs.List.{flat_map}
 use Rattle.std.specs.Option.{IfSome}
 use Rattle.std.proofs.lemmas.Bool.{le-leb}
@@ -7,26 +7,24 @@ use Rattle.std.proofs.lemmas.List.{take-append-le, take_all, take-append-drop}
 use Rattle.ffc_base.specs.Outside.{Appends, AppendsPrefix}
 use Rattle.ffc_cert.specs.declared.entries.Entry.{Entry}
 use Rattle.ffc_cert.specs.Spelling.{entry_text}
-use Rattle.ffc_lex.specs.Reading.{fault_of}
-use Rattle.ffc_smt.specs.CommandReading.{limits}
 use Rattle.ffc_smt.specs.Scripts.{End, Done, Script, Step, reads}
-use Rattle.ffc_smt.specs.GoingOn.{Going, run_of}
 use Rattle.ffc_smt.specs.TableChecks.{table_checks}
 use Rattle.ffc_answer.specs.Answers.{Last, answers, answers_from, end_answer, last_from, has_all_entries, script_answers}
 use Rattle.ffc_answer.specs.Views.{IsRememberedAt}
 use Rattle.ffc_script.specs.Answers.{HasRun, SaysOnly}
 use Rattle.ffc_script.specs.Kept.{AreFirst}
 use Rattle.ffc_script.specs.Progress.{Progress, known_at, steps_from, steps_of}
-use Rattle.ffc_solve.specs.declared.session.Session.{Session}
-use Rattle.ffc_solve.specs.Solving.{AreEntries, IsTaken}
+use Rattle.ffc_solve.specs.declared.dialogue.Dialogue.{Dialogue}
+use Rattle.ffc_solve.specs.Solving.{AreEntries, EndsSoon, IsTaken}
 use Rattle.ffc_solve.specs.Remembering.{Counts, Holds, Remembers}
 use Rattle.ffc_solve.specs.Underway.{HasFed, HasRead, IsAnswered, IsAtEnd, IsCut, IsCutAt, IsEnd, IsFinished, IsFirst, IsPausedAt, IsSilent, IsTold, IsUnfinished, is_fault}
-use Rattle.ffc_solve.proofs.ListLemmas.{Appends-more, Appends-nil, Appends-same, WroteFront, front_of, front_is_prefix, texts-append, AreEntries-more, checks-append, AnswersSplit, answers-append}
+use Rattle.ffc_solve.proofs.ListLemmas.{Appends-more, Appends-nil, Appends-same, front_of, front_is_prefix, texts-append}
 use Rattle.ffc_solve.proofs.AdvanceLemmas.{cut_here}
 use Rattle.ffc_solve.proofs.ReadLemmas.{HasRead-more, HasRead-none, taken_read}
+use Rattle.ffc_solve.proofs.TakenLemmas.{none_run, soon_fed, soon_none}
 
 -- What a loop over commands keeps: the commands so far are answered.
-pub record IsGoing (s : Session) (co cn oo on lo ln : Option (List ℕ)) : Type 0 where
+pub record IsGoing (s : Dialogue) (co cn oo on lo ln : Option (List ℕ)) : Type 0 where
   pub entries : List Entry
   pub last : Option Last
   pub holds : Holds s.reader s entries last
@@ -36,8 +34,9 @@ pub record IsGoing (s : Session) (co cn oo on lo ln : Option (List ℕ)) : Type 
   pub few : length s.reader.text ≤ 67108865
   pub taken : s.taken ≡ length s.reader.text
   pub active : s.reader.over ≡ false
+  pub soon : EndsSoon s.reader.text
 
-pub going_first : (s : Session) (co oo lo : Option (List ℕ)) → IsFirst s → IsGoing s co co oo oo lo lo
+pub going_first : (s : Dialogue) (co oo lo : Option (List ℕ)) → IsFirst s → IsGoing s co co oo oo lo lo
 unfolding answers_from last_from steps_from
 going_first s co oo lo first =
     let none : steps_of s.reader ≡ [] = ap steps_of first.reader in
@@ -58,10 +57,11 @@ going_first s co oo lo first =
       few = let e = ap (λ (p : Progress). length p.text) first.reader in omega arith;
       taken = first.taken ∙ ap (λ (p : Progress). length p.text) (sym first.reader);
       active = ap (λ (p : Progress). p.over) first.reader;
+      soon = subst EndsSoon (sym (ap (λ (p : Progress). p.text) first.reader)) soon_none;
     }
 
 -- one more command
-module _ (s t : Session) (co c1 cn oo o1 on lo ln : Option (List ℕ)) (h : IsGoing s co c1 oo o1 lo ln) (told : IsTold s t h.entries c1 cn o1 on) where
+module _ (s t : Dialogue) (co c1 cn oo o1 on lo ln : Option (List ℕ)) (h : IsGoing s co c1 oo o1 lo ln) (told : IsTold s t h.entries c1 cn o1 on) where
   pub certificate_then : Appends (flat_map entry_text (h.entries ++ told.more)) co cn
   certificate_then = subst (λ b. Appends b co cn) (sym (texts-append h.entries told.more)) (Appends-more (flat_map entry_text h.entries) (flat_map entry_text told.more) co c1 cn h.certificate told.certificate)
 
@@ -79,11 +79,12 @@ module _ (s t : Session) (co c1 cn oo o1 on lo ln : Option (List ℕ)) (h : IsGo
     few = subst (λ b. length b ≤ 67108865) (sym told.same_text) h.few;
     taken = told.taken ∙ h.taken ∙ ap (λ (b : List ℕ). length b) (sym told.same_text);
     active = active;
+    soon = subst EndsSoon (sym told.same_text) h.soon;
   }
 
 -- one more piece
-pub going_fed : (s t : Session) (co cn oo on lo l1 ln : Option (List ℕ)) → IsGoing s co cn oo on lo l1 → HasFed s t l1 ln → IsGoing t co cn oo on lo ln
-going_fed s t co cn oo on lo l1 ln h fed =
+pub going_fed : (s t : Dialogue) (co cn oo on lo l1 ln : Option (List ℕ)) → IsGoing s co cn oo on lo l1 → HasRun s.reader → HasFed s t l1 ln → IsGoing t co cn oo on lo ln
+going_fed s t co cn oo on lo l1 ln h run fed =
     let text : t.reader.text ≡ s.reader.text ++ fed.piece = ap (λ (p : Progress). p.text) fed.reader in
     let steps : steps_of t.reader ≡ steps_of s.reader = ap steps_of fed.reader in
     let known = ap known_at fed.reader in
@@ -104,6 +105,7 @@ going_fed s t co cn oo on lo l1 ln h fed =
       few = let e = ap (λ (b : List ℕ). length b) text in let k = fed.few in omega (arith, length-append s.reader.text fed.piece);
       taken = fed.taken ∙ ap (λ n. n + length fed.piece) h.taken ∙ sym (ap (λ (b : List ℕ). length b) text ∙ length-append s.reader.text fed.piece);
       active = ap (λ (p : Progress). p.over) fed.reader ∙ h.active;
+      soon = subst EndsSoon (sym text) (soon_fed s.reader.text fed.piece (none_run s.reader run) fed.short);
     }
 
 -- Whole scripts
@@ -113,7 +115,7 @@ pub says_only : (lo ln : Option (List ℕ)) (text : List ℕ) (steps : List Step
 says_only None ln text steps end h says = tt
 says_only (Some b) ln text steps end (rest, e, left) says = ap reads e ∙ says rest
 
-pub says_all : (lo l1 ln : Option (List ℕ)) (s : Session) (steps : List Step) (end : End) → ((t : List ℕ) → reads t ≡ reads (take 67108865 t)) → HasRead lo l1 s.reader.text → IsEnd s l1 ln → reads s.reader.text ≡ record { steps = steps; end = end }
+pub says_all : (lo l1 ln : Option (List ℕ)) (s : Dialogue) (steps : List Step) (end : End) → ((t : List ℕ) → reads t ≡ reads (take 67108865 t)) → HasRead lo l1 s.reader.text → IsEnd s l1 ln → reads s.reader.text ≡ record { steps = steps; end = end }
     → IfSome lo (λ b. reads b ≡ record { steps = steps; end = end })
 says_all None l1 ln s steps end cut h at says = tt
 says_all (Some b) l1 ln s steps end cut (rest, e, left) (inl at) says =
@@ -131,8 +133,8 @@ answers_whole : (script : Script) (xs : List Step) (end : End) (entries : List E
 answers_whole script xs end entries e count =
     ap (λ (r : Script). script_answers r entries) e ∙ ap (λ b. answers xs entries ++ cond b (end_answer end) []) (all_there xs entries count)
 
-pub answered_whole : (t : Session) (b : List ℕ) (end : End) (entries : List Entry) (l : Option Last) (budget : ℕ) (co cn oo o1 on : Option (List ℕ)) → reads b ≡ record { steps = steps_of t.reader; end = end } → t.steps ≡ budget → Holds t.reader t entries l
-    → Appends (flat_map entry_text entries) co cn → Appends (answers (steps_of t.reader) entries) oo o1 → Appends (end_answer end) o1 on → (u : Session) → u.tally ≡ t.tally → IsAnswered budget b (is_fault end) u co cn oo on
+pub answered_whole : (t : Dialogue) (b : List ℕ) (end : End) (entries : List Entry) (l : Option Last) (budget : ℕ) (co cn oo o1 on : Option (List ℕ)) → reads b ≡ record { steps = steps_of t.reader; end = end } → t.steps ≡ budget → Holds t.reader t entries l
+    → Appends (flat_map entry_text entries) co cn → Appends (answers (steps_of t.reader) entries) oo o1 → Appends (end_answer end) o1 on → (u : Dialogue) → u.tally ≡ t.tally → IsAnswered budget b (is_fault end) u co cn oo on
 answered_whole t b end entries l budget co cn oo o1 on says same holds cert out last u tally = record {
   entries = entries;
   each = subst (λ (r : Script). AreEntries budget (table_checks r.steps) entries) (sym says) (subst (λ n. AreEntries n (table_checks (steps_of t.reader)) entries) same holds.each);
@@ -144,7 +146,7 @@ answered_whole t b end entries l budget co cn oo o1 on says same holds cert out 
 }
 
 -- the run stopped in a command
-pub cut_in : (s : Session) (rest : List ℕ) (b : List ℕ) (budget : ℕ) (co c1 cn oo o1 on lo ln : Option (List ℕ)) → b ≡ s.reader.text ++ rest → s.steps ≡ budget → (h : IsGoing s co c1 oo o1 lo ln) → IsCutAt s h.entries rest c1 cn o1 on → IsCut budget b co cn oo on
+pub cut_in : (s : Dialogue) (rest : List ℕ) (b : List ℕ) (budget : ℕ) (co c1 cn oo o1 on lo ln : Option (List ℕ)) → b ≡ s.reader.text ++ rest → s.steps ≡ budget → (h : IsGoing s co c1 oo o1 lo ln) → IsCutAt s h.entries rest c1 cn o1 on → IsCut budget b co cn oo on
 cut_in s rest b budget co c1 cn oo o1 on lo ln e same h k =
     let R = reads (s.reader.text ++ rest) in
     let all = h.entries ++ k.later in
@@ -165,7 +167,7 @@ cut_in s rest b budget co c1 cn oo o1 on lo ln e same h k =
     subst (λ n. IsCut n b co cn oo on) same (subst (λ t. IsCut s.steps t co cn oo on) (sym e) cut)
 
 -- the same, where the script is told
-pub cut_told : (s : Session) (budget : ℕ) (co c1 cn oo o1 on lo ln : Option (List ℕ)) → s.steps ≡ budget → (h : IsGoing s co c1 oo o1 lo ln) → ((more : List ℕ) → IsCutAt s h.entries more c1 cn o1 on) → IfSome lo (λ b. IsCut budget b co cn oo on)
+pub cut_told : (s : Dialogue) (budget : ℕ) (co c1 cn oo o1 on lo ln : Option (List ℕ)) → s.steps ≡ budget → (h : IsGoing s co c1 oo o1 lo ln) → ((more : List ℕ) → IsCutAt s h.entries more c1 cn o1 on) → IfSome lo (λ b. IsCut budget b co cn oo on)
 cut_told s budget co c1 cn oo o1 on lo ln same h k = by_told lo h.read
   where
     by_told : (o : Option (List ℕ)) → HasRead o ln s.reader.text → IfSome o (λ b. IsCut budget b co cn oo on)
@@ -173,7 +175,7 @@ cut_told s budget co c1 cn oo o1 on lo ln same h k = by_told lo h.read
     by_told (Some b) (rest, e, left) = cut_in s rest b budget co c1 cn oo o1 on lo ln e same h (k rest)
 
 -- the end was answered in part
-pub cut_end : (s : Session) (b : List ℕ) (end : End) (entries : List Entry) (l : Option Last) (budget : ℕ) (co cn oo o1 on : Option (List ℕ)) → reads b ≡ record { steps = steps_of s.reader; end = end } → s.steps ≡ budget → Holds s.reader s entries l
+pub cut_end : (s : Dialogue) (b : List ℕ) (end : End) (entries : List Entry) (l : Option Last) (budget : ℕ) (co cn oo o1 on : Option (List ℕ)) → reads b ≡ record { steps = steps_of s.reader; end = end } → s.steps ≡ budget → Holds s.reader s entries l
     → Appends (flat_map entry_text entries) co cn → Appends (answers (steps_of s.reader) entries) oo o1 → AppendsPrefix (end_answer end) o1 on → IsCut budget b co cn oo on
 cut_end s b end entries l budget co cn oo o1 on says same holds cert out last =
     let front = front_of (end_answer end) o1 on last in
@@ -192,7 +194,7 @@ cut_end s b end entries l budget co cn oo o1 on says same holds cert out last =
     }
 
 -- reading failed
-pub paused_at : (s : Session) (budget : ℕ) (co cn oo on lo ln : Option (List ℕ)) → s.steps ≡ budget → IsGoing s co cn oo on lo ln → HasRun s.reader → IfSome lo (λ b. (text : List ℕ) × IsTaken text b ln × IsPausedAt budget text co cn oo on)
+pub paused_at : (s : Dialogue) (budget : ℕ) (co cn oo on lo ln : Option (List ℕ)) → s.steps ≡ budget → IsGoing s co cn oo on lo ln → HasRun s.reader → IfSome lo (λ b. (text : List ℕ) × IsTaken text b ln × IsPausedAt budget text co cn oo on)
 paused_at s budget co cn oo on lo ln same h run = by_told lo h.read
   where
     paused : IsPausedAt budget s.reader.text co cn oo on
@@ -213,10 +215,11 @@ paused_at s budget co cn oo on lo ln same h run = by_told lo h.read
     by_told (Some b) (rest, e, left) = (s.reader.text, record { rest = rest; split = e; left = left; few = h.few }, paused)
 
 -- more was taken than was fed
-pub taken_more : (lo l1 ln : Option (List ℕ)) (text : List ℕ) → HasRead lo l1 text → IfSome l1 (λ b. (piece : List ℕ) × IsTaken piece b ln × (length text + length piece ≤ 67108865)) → IfSome lo (λ b. (t : List ℕ) × IsTaken t b ln)
-taken_more None l1 ln text h k = tt
-taken_more (Some b) l1 ln text (rest, e, left) k =
-    let (piece, is, few) = (let P : Option (List ℕ) → Type 0 = λ o. IfSome o (λ c. (piece : List ℕ) × IsTaken piece c ln × (length text + length piece ≤ 67108865)) in subst P left k) in (
+pub taken_more : (lo l1 ln : Option (List ℕ)) (p : Progress) → HasRead lo l1 p.text → HasRun p → IfSome l1 (λ b. (piece : List ℕ) × IsTaken piece b ln × (length p.text + length piece ≤ 67108865) × (length piece ≤ 4096)) → IfSome lo (λ b. (t : List ℕ) × IsTaken t b ln × EndsSoon t)
+taken_more None l1 ln p h run k = tt
+taken_more (Some b) l1 ln p (rest, e, left) run k =
+    let text = p.text in
+    let (piece, is, few, short) = (let P : Option (List ℕ) → Type 0 = λ o. IfSome o (λ c. (piece : List ℕ) × IsTaken piece c ln × (length text + length piece ≤ 67108865) × (length piece ≤ 4096)) in subst P left k) in (
       text ++ piece,
       record {
         rest = is.rest;
@@ -224,6 +227,7 @@ taken_more (Some b) l1 ln text (rest, e, left) k =
         left = is.left;
         few = omega (arith, length-append text piece);
       },
+      soon_fed text piece (none_run p run) short,
     )
 
 -- How a run ends
@@ -232,7 +236,7 @@ told_if : (o : Option (List ℕ)) (P Q : List ℕ → Type 0) → ((b : List ℕ
 told_if None P Q f h = tt
 told_if (Some b) P Q f h = f b h
 
-pub ended_whole : (s t : Session) (budget : ℕ) (co c1 cn oo o1 on lo ln : Option (List ℕ)) → s.steps ≡ budget → (h : IsGoing s co c1 oo o1 lo ln) → (told : IsTold s t h.entries c1 cn o1 on) → SaysOnly t.reader.text (steps_of t.reader) Done
+pub ended_whole : (s t : Dialogue) (budget : ℕ) (co c1 cn oo o1 on lo ln : Option (List ℕ)) → s.steps ≡ budget → (h : IsGoing s co c1 oo o1 lo ln) → (told : IsTold s t h.entries c1 cn o1 on) → SaysOnly t.reader.text (steps_of t.reader) Done
     → IfSome lo (λ b. IsAnswered budget b false t co cn oo on)
 ended_whole s t budget co c1 cn oo o1 on lo ln same h told says =
     told_if lo _ _ (λ b e. answered_whole t b Done (h.entries ++ told.more) told.last budget co cn oo on on e (told.budget ∙ same) told.holds
@@ -240,14 +244,14 @@ ended_whole s t budget co c1 cn oo o1 on lo ln same h told says =
     (says_only lo ln t.reader.text (steps_of t.reader) Done (subst (HasRead lo ln) (sym told.same_text) h.read) says)
 
 -- a fault in the script
-module _ (s : Session) (budget : ℕ) (co c1 cn oo o1 o2 on lo ln : Option (List ℕ)) (same : s.steps ≡ budget) (h : IsGoing s co c1 oo o1 lo ln) (silent : IsSilent c1 cn o1 o2) (end : End) where
+module _ (s : Dialogue) (budget : ℕ) (co c1 cn oo o1 o2 on lo ln : Option (List ℕ)) (same : s.steps ≡ budget) (h : IsGoing s co c1 oo o1 lo ln) (silent : IsSilent c1 cn o1 o2) (end : End) where
   silent_cert : Appends (flat_map entry_text h.entries) co cn
   silent_cert = Appends-same (flat_map entry_text h.entries) co c1 cn silent.0 h.certificate
 
   silent_out : Appends (answers (steps_of s.reader) h.entries) oo o2
   silent_out = Appends-same (answers (steps_of s.reader) h.entries) oo o1 o2 silent.1 h.answered
 
-  pub fault_whole : (u : Session) → u.tally ≡ s.tally → SaysOnly s.reader.text (steps_of s.reader) end → Appends (end_answer end) o2 on → IfSome lo (λ b. IsAnswered budget b (is_fault end) u co cn oo on)
+  pub fault_whole : (u : Dialogue) → u.tally ≡ s.tally → SaysOnly s.reader.text (steps_of s.reader) end → Appends (end_answer end) o2 on → IfSome lo (λ b. IsAnswered budget b (is_fault end) u co cn oo on)
   fault_whole u tally says last =
       told_if lo _ _ (λ b e. answered_whole s b end h.entries h.last budget co cn oo o2 on e same h.holds silent_cert silent_out last u tally) (says_only lo ln s.reader.text (steps_of s.reader) end h.read says)
 
@@ -256,8 +260,8 @@ module _ (s : Session) (budget : ℕ) (co c1 cn oo o1 o2 on lo ln : Option (List
       told_if lo _ _ (λ b e. cut_end s b end h.entries h.last budget co cn oo o2 on e same h.holds silent_cert silent_out last) (says_only lo ln s.reader.text (steps_of s.reader) end h.read says)
 
 -- the end of the text
-module _ (s : Session) (budget : ℕ) (co c1 cn oo o1 o2 on lo l1 ln : Option (List ℕ)) (cut : (t : List ℕ) → reads t ≡ reads (take 67108865 t)) (same : s.steps ≡ budget) (h : IsGoing s co c1 oo o1 lo l1) (silent : IsSilent c1 cn o1 o2) (at : IsEnd s l1 ln) where
-  pub finished_whole : (u : Session) (refused : Bool) → u.tally ≡ s.tally → IsFinished s.reader refused o2 on → IfSome lo (λ b. IsAnswered budget b refused u co cn oo on)
+module _ (s : Dialogue) (budget : ℕ) (co c1 cn oo o1 o2 on lo l1 ln : Option (List ℕ)) (cut : (t : List ℕ) → reads t ≡ reads (take 67108865 t)) (same : s.steps ≡ budget) (h : IsGoing s co c1 oo o1 lo l1) (silent : IsSilent c1 cn o1 o2) (at : IsEnd s l1 ln) where
+  pub finished_whole : (u : Dialogue) (refused : Bool) → u.tally ≡ s.tally → IsFinished s.reader refused o2 on → IfSome lo (λ b. IsAnswered budget b refused u co cn oo on)
   finished_whole u refused tally f =
       subst (λ r. IfSome lo (λ b. IsAnswered budget b r u co cn oo on)) (sym f.ended)
       (told_if lo _ _ (λ b e. answered_whole s b f.end h.entries h.last budget co cn oo o2 on e same h.holds (silent_cert s budget co c1 cn oo o1 o2 on lo l1 same h silent f.end) (silent_out s budget co c1 cn oo o1 o2 on lo l1 same h silent f.end) f.answered u tally)
@@ -273,7 +277,7 @@ module _ (s : Session) (budget : ℕ) (co c1 cn oo o1 o2 on lo l1 ln : Option (L
 
 -- While the next command is not whole
 
-pub going_silent : (s t : Session) (co c1 cn oo o1 on lo ln : Option (List ℕ)) → t ≡ s → IsSilent c1 cn o1 on → IsGoing s co c1 oo o1 lo ln → IsGoing t co cn oo on lo ln
+pub going_silent : (s t : Dialogue) (co c1 cn oo o1 on lo ln : Option (List ℕ)) → t ≡ s → IsSilent c1 cn o1 on → IsGoing s co c1 oo o1 lo ln → IsGoing t co cn oo on lo ln
 going_silent s t co c1 cn oo o1 on lo ln e silent h =
     subst (λ u. IsGoing u co cn oo on lo ln) (sym e) (record {
       entries = h.entries;
@@ -285,20 +289,21 @@ going_silent s t co c1 cn oo o1 on lo ln e silent h =
       few = h.few;
       taken = h.taken;
       active = h.active;
+      soon = h.soon;
     })
 
-pub going_left : (s : Session) (co cn oo on lo l1 ln : Option (List ℕ)) → ln ≡ l1 → IsGoing s co cn oo on lo l1 → IsGoing s co cn oo on lo ln
+pub going_left : (s : Dialogue) (co cn oo on lo l1 ln : Option (List ℕ)) → ln ≡ l1 → IsGoing s co cn oo on lo l1 → IsGoing s co cn oo on lo ln
 going_left s co cn oo on lo l1 ln e h = subst (λ o. IsGoing s co cn oo on lo o) (sym e) h
 
-pub going_cut : (s : Session) (budget : ℕ) (co cn oo on lo ln : Option (List ℕ)) → s.steps ≡ budget → IsGoing s co cn oo on lo ln → AreFirst s.reader.text (steps_of s.reader) → IfSome lo (λ b. IsCut budget b co cn oo on)
+pub going_cut : (s : Dialogue) (budget : ℕ) (co cn oo on lo ln : Option (List ℕ)) → s.steps ≡ budget → IsGoing s co cn oo on lo ln → AreFirst s.reader.text (steps_of s.reader) → IfSome lo (λ b. IsCut budget b co cn oo on)
 going_cut s budget co cn oo on lo ln same h first = cut_told s budget co cn cn oo on on lo ln same h (λ more. cut_here s h.entries h.last more cn on h.holds first)
 
-pub going_taken : (s : Session) (co cn oo on lo ln : Option (List ℕ)) → IsGoing s co cn oo on lo ln → IfSome lo (λ b. (t : List ℕ) × IsTaken t b ln)
-going_taken s co cn oo on lo ln h = taken_read lo ln s.reader.text h.few h.read
+pub going_taken : (s : Dialogue) (co cn oo on lo ln : Option (List ℕ)) → IsGoing s co cn oo on lo ln → IfSome lo (λ b. (t : List ℕ) × IsTaken t b ln × EndsSoon t)
+going_taken s co cn oo on lo ln h = taken_read lo ln s.reader.text h.few h.soon h.read
 
-pub taken_end : (s : Session) (lo l1 ln : Option (List ℕ)) (text : List ℕ) → length text ≤ 67108865 → HasRead lo l1 text → IsEnd s l1 ln → IfSome lo (λ b. (t : List ℕ) × IsTaken t b ln)
-taken_end s None l1 ln text few h at = tt
-taken_end s (Some b) l1 ln text few (rest, e, left) (inl at) =
+pub taken_end : (s : Dialogue) (lo l1 ln : Option (List ℕ)) (text : List ℕ) → length text ≤ 67108865 → EndsSoon text → HasRead lo l1 text → IsEnd s l1 ln → IfSome lo (λ b. (t : List ℕ) × IsTaken t b ln × EndsSoon t)
+taken_end s None l1 ln text few soon h at = tt
+taken_end s (Some b) l1 ln text few soon (rest, e, left) (inl at) =
     let now : IsAtEnd (Some rest) ln = subst (λ o. IsAtEnd o ln) left at in
-    (text, record { rest = []; split = e ∙ ap (λ r. text ++ r) now.0; left = now.1; few = few })
-taken_end s (Some b) l1 ln text few (rest, e, left) (inr at) = (text, record { rest = rest; split = e; left = at.0 ∙ left; few = few })
+    (text, record { rest = []; split = e ∙ ap (λ r. text ++ r) now.0; left = now.1; few = few }, soon)
+taken_end s (Some b) l1 ln text few soon (rest, e, left) (inr at) = (text, record { rest = rest; split = e; left = at.0 ∙ left; few = few }, soon)

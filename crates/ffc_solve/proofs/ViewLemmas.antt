@@ -1,11 +1,7 @@
--- Views of a session.
-use Rattle.std.proofs.Common.{◌≡◌, ℕ, Bool, false, List, [], map, length, Option, Some, None, option_map, refl, sym, ap, ◌∙◌, subst}
-use Rattle.std.specs.Option.{option_copied, option_and_then}
-use Rattle.ffc_cert.specs.declared.entries.Entry.{Entry}
+-- Views of a dialogue.
+use Rattle.std.proofs.Common.{◌≡◌, Bool, map, Option, Some, None, option_map, refl, ap, ◌∙◌}
+use Rattle.std.specs.Option.{option_copied}
 use Rattle.ffc_smt.specs.Scripts.{Step}
-use Rattle.ffc_smt.specs.Answering.{asked_text}
-use Rattle.ffc_smt.specs.TableChecks.{nodes_in_force}
-use Rattle.ffc_smt.specs.Terms as smt
 use Rattle.ffc_rules.specs.Cores.{core}
 use Rattle.ffc_elab.specs.declared.answers.Command.{Command}
 use Rattle.ffc_elab.specs.Histories.{known_of}
@@ -14,8 +10,8 @@ use Rattle.ffc_answer.specs.Answers.{Last}
 use Rattle.ffc_answer.specs.Views.{IsFreshAs, IsView, assumed_of, entry_of, numbers_of}
 use Rattle.ffc_script.specs.Progress.{known_at}
 use Rattle.ffc_solve.specs.declared.remembered.Remembered.{Remembered}
-use Rattle.ffc_solve.specs.declared.session.Session.{Session}
-use Rattle.ffc_solve.specs.Remembering.{IsAsked, Remembers, asked_in, core_in, entry_in, fresh_in, texts_of}
+use Rattle.ffc_solve.specs.declared.dialogue.Dialogue.{Dialogue}
+use Rattle.ffc_solve.specs.Remembering.{IsAsked, Remembers, asked_in, core_in, entry_in, fresh_in}
 
 same_entry : (r : Option Remembered) (l : Option Last) → Remembers r l → entry_in r ≡ entry_of l
 same_entry None None h = refl
@@ -41,7 +37,7 @@ same_asked None (Some l) h = absurd h
 same_asked (Some r) None h = absurd h
 same_asked (Some r) (Some l) h = h.asked
 
-pub view_is : (s : Session) (v : View) (c : Command) (l : Option Last) (x : Step) → IsAsked s c l x → known_of v.context.now ≡ known_at s.reader → option_copied v.last ≡ entry_in s.last → v.fresh ≡ fresh_in s.last
+pub view_is : (s : Dialogue) (v : View) (c : Command) (l : Option Last) (x : Step) → IsAsked s c l x → known_of v.context.now ≡ known_at s.reader → option_copied v.last ≡ entry_in s.last → v.fresh ≡ fresh_in s.last
     → v.core.now ≡ core_in s.last → option_map (λ asked. map (λ a. a.text) asked) (option_copied v.asked) ≡ asked_in s.last → IsView v c l x
 view_is s v c l x asked context last fresh core texts =
     record {

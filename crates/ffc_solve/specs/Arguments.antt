@@ -1,6 +1,6 @@
 -- The arguments of the solver, `ffsolve --cert FILE [--steps N] [--make N]`: a simple command of `clap` without a help flag. The
 -- numbers are its integers, within their ranges.
-use Rattle.std.specs.Prelude.{◌≡◌, ℕ, ◌≤◌, ◌<◌, Bool, true, false, ◌∷◌, [], List, codes, Option, Some, None, unwrap_or, option_map, IfSome, Result, Ok, Err, ◌⊎◌}
+use Rattle.std.specs.Prelude.{◌≡◌, ℕ, ◌≤◌, ◌<◌, true, [], List, codes, Option, Some, None, unwrap_or, IfSome, Result, Ok, Err, ◌⊎◌}
 use Rattle.std.specs.Str.Parse.{ParsesUnsigned}
 use Rattle.std.specs.declared.num.ParseIntError.{ParseIntError}
 use Rattle.clap.specs.Words.{App, Rule, Text, fault_of, first_of, matches_of, new_app, new_rule, with_rule}

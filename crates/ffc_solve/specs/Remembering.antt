@@ -1,9 +1,9 @@
--- What a session remembers of the last check, and how far it is.
+-- What a dialogue remembers of the last check, and how far it is.
 use Rattle.std.specs.Prelude.{◌≡◌, ℕ, ◌+◌, ◌≤◌, ◌<◌, ◌^◌, Bool, true, false, List, [], length, map, Option, Some, None, option_map}
 use Rattle.std.specs.Global.{Vec}
 use Rattle.ffc_cert.specs.declared.entries.Entry.{Entry}
 use Rattle.ffc_cert.specs.declared.entries.Entry.TheVariants.{Sat, UnsatCases, UnsatSteps, Unknown}
-use Rattle.ffc_smt.specs.TableChecks.{TableCheck, nodes_in_force, table_checks}
+use Rattle.ffc_smt.specs.TableChecks.{nodes_in_force, table_checks}
 use Rattle.ffc_smt.specs.Answering.{asked_text}
 use Rattle.ffc_elab.specs.declared.answers.Asked.{Asked}
 use Rattle.ffc_elab.specs.declared.answers.Command.{Command}
@@ -23,7 +23,7 @@ use Rattle.ffc_answer.specs.Views.{IsRememberedAt}
 use Rattle.ffc_script.specs.Progress.{Progress, steps_of, known_at}
 use Rattle.ffc_solve.specs.declared.remembered.Remembered.{Remembered}
 use Rattle.ffc_solve.specs.declared.remembered.Tally.{Tally}
-use Rattle.ffc_solve.specs.declared.session.Session.{Session}
+use Rattle.ffc_solve.specs.declared.dialogue.Dialogue.{Dialogue}
 use Rattle.ffc_solve.specs.Solving.{AreEntries}
 
 -- Last checks
@@ -84,10 +84,10 @@ pub record HasRoom (t : Tally) : Type 0 where
   pub unsat : t.unsat < 2 ^ 63
   pub unknown : t.unknown < 2 ^ 63
 
--- Sessions
+-- Dialogues
 
--- A session has these entries and remembers this of the last check, where its script was read so far.
-pub record Holds (p : Progress) (s : Session) (entries : List Entry) (l : Option Last) : Type 0 where
+-- A dialogue has these entries and remembers this of the last check, where its script was read so far.
+pub record Holds (p : Progress) (s : Dialogue) (entries : List Entry) (l : Option Last) : Type 0 where
   pub each : AreEntries s.steps (table_checks (steps_of p)) entries
   pub count : length entries ≡ length (table_checks (steps_of p))
   pub last : last_from None (steps_of p) entries ≡ l
@@ -101,14 +101,14 @@ pub record IsBudget (steps : ℕ) : Type 0 where
   pub few : steps ≤ 1000000000000
 
 -- the last check as it is remembered after this entry of it
-pub record RemembersEntry (s : Session) (entry : Entry) (asked : Option (Vec Asked)) (r : Remembered) : Type 0 where
+pub record RemembersEntry (s : Dialogue) (entry : Entry) (asked : Option (Vec Asked)) (r : Remembered) : Type 0 where
   pub entry_is : r.entry ≡ entry
   pub fresh : r.fresh ≡ true
   pub core_is : r.core.items ≡ core entry (length (nodes_in_force (check_now (known_at s.reader))))
   pub asked_is : r.asked ≡ asked
 
 -- a check got this entry
-pub record IsChecked (old new : Session) (asked : Option (Vec Asked)) (entry : Entry) : Type 0 where
+pub record IsChecked (old new : Dialogue) (asked : Option (Vec Asked)) (entry : Entry) : Type 0 where
   pub reader : new.reader ≡ old.reader
   pub steps : new.steps ≡ old.steps
   pub taken : new.taken ≡ old.taken
@@ -117,8 +117,8 @@ pub record IsChecked (old new : Session) (asked : Option (Vec Asked)) (entry : E
   pub last_is : new.last ≡ Some last
   pub remembers : RemembersEntry old entry asked last
 
--- What a view of a session needs, whose last command was answered so, where this is remembered after it.
-pub record IsAsked (s : Session) (command : Command) (l : Option Last) (x : Step) : Type 0 where
+-- What a view of a dialogue needs, whose last command was answered so, where this is remembered after it.
+pub record IsAsked (s : Dialogue) (command : Command) (l : Option Last) (x : Step) : Type 0 where
   pub sound : IsSoundState x.before
   pub read : command_read limits x.before x.tree ≡ Sound x.command
   pub known : known_at s.reader ≡ record { state = after x.before x.tree x.command; assumptions = assumptions_of x.command }
@@ -127,7 +127,7 @@ pub record IsAsked (s : Session) (command : Command) (l : Option Last) (x : Step
   pub remembers : Remembers s.last l
 
 -- A command was given that is no check and no end, and is not answered yet.
-pub record IsNext (p : Progress) (s : Session) (entries : List Entry) (l : Option Last) (command : Command) : Type 0 where
+pub record IsNext (p : Progress) (s : Dialogue) (entries : List Entry) (l : Option Last) (command : Command) : Type 0 where
   pub holds : Holds p s entries l
   pub gives : Gives p s.reader command
   pub plain : is_plain command ≡ true

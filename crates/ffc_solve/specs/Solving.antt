@@ -1,5 +1,5 @@
 -- What a run of the solver writes: the certificate and the answers, whole or up to where it stopped.
-use Rattle.std.specs.Prelude.{◌≡◌, ℕ, ◌<◌, ◌≤◌, ◌⊎◌, Bool, List, [], ◌∷◌, ◌++◌, length, take, Option, Some, None, slice_get}
+use Rattle.std.specs.Prelude.{◌≡◌, ℕ, ◌+◌, ◌<◌, ◌≤◌, ◌⊎◌, List, [], ◌∷◌, ◌++◌, length, take, Option, Some, None, slice_get}
 use Rattle.ffc_base.specs.Outside.{Becomes, Appends, AppendsPrefix}
 use Rattle.ffc_cert.specs.declared.entries.Entry.{Entry}
 use Rattle.ffc_cert.specs.declared.entries.Entry.TheVariants.{Sat, UnsatCases, UnsatSteps, Unknown}
@@ -8,12 +8,13 @@ use Rattle.ffc_cert.specs.WellFormed.{IsReadable}
 use Rattle.ffc_lex.specs.Reading.{fault_of}
 use Rattle.ffc_smt.specs.CommandReading.{limits as reading_limits}
 use Rattle.ffc_smt.specs.Scopes.{State}
+use Rattle.ffc_smt.specs.Terms.{Exit}
 use Rattle.ffc_smt.specs.Scripts.{Step, reads}
 use Rattle.ffc_smt.specs.GoingOn.{Going, run_of}
 use Rattle.ffc_smt.specs.TableChecks.{TableCheck, table_checks}
 use Rattle.ffc_rules.specs.Causes.{Caused}
 use Rattle.ffc_rules.specs.Entries.{EntryOk}
-use Rattle.ffc_rules.specs.Judging.{node_check, Accepts}
+use Rattle.ffc_rules.specs.Judging.{node_check}
 use Rattle.ffc_theory.specs.Stops.{MayBeDecided}
 use Rattle.ffc_answer.specs.Answers.{answers, run_answers}
 
@@ -98,3 +99,22 @@ pub record IsTaken (text script : List ℕ) (new : Option (List ℕ)) : Type 0 w
   pub split : script ≡ text ++ rest
   pub left : new ≡ Some rest
   pub few : length text ≤ 67108865
+
+-- the commands that are whole in the text end with `exit`
+pub record HasExit (text : List ℕ) : Type 0 where
+  pub before : List Step
+  pub exit : Step
+  pub steps : (reads text).steps ≡ before ++ exit ∷ []
+  pub is : exit.command ≡ Exit
+
+-- no form that is whole in the text is `exit` or at fault, and no byte of it is at fault
+pub record HasNoEnd (text : List ℕ) : Type 0 where
+  pub steps : List Step
+  pub state : State
+  pub run : run_of reading_limits text ≡ Going steps state
+  pub sound : fault_of text ≡ None
+
+-- What was taken: at most 4,095 bytes after the `)` of `exit`, and after the byte with which a fault is certain.
+pub record EndsSoon (text : List ℕ) : Type 0 where
+  pub after_exit : (n : ℕ) → HasExit (take n text) → length text ≤ n + 4095
+  pub after_fault : (n : ℕ) → (HasNoEnd (take n text) → ⊥) → length text ≤ n + 4095

@@ -1,8 +1,7 @@
 -- How a run of the solver ends: its statuses, and what each of them leaves.
 use Rattle.std.specs.Prelude.{◌≡◌, ℕ, ◌⊎◌, List, Option, Some, None}
 use Rattle.ffc_base.specs.Outside.{Becomes}
-use Rattle.ffc_smt.specs.Scripts.{Done, reads}
-use Rattle.ffc_smt.specs.Scripts as scripts
+use Rattle.ffc_smt.specs.Scripts.{reads}
 use Rattle.ffc_rules.specs.Judging.{Accepts}
 use Rattle.ffc_solve.specs.declared.solve.SolveStatus.{SolveStatus}
 use Rattle.ffc_solve.specs.declared.solve.SolveStatus.TheVariants as status

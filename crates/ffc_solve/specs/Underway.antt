@@ -1,5 +1,5 @@
 -- What was written while the commands of a script are answered one by one, after the certificate's first line.
-use Rattle.std.specs.Prelude.{◌≡◌, ℕ, ◌+◌, ◌≤◌, ◌<◌, ◌⊎◌, Bool, true, false, List, [], ◌++◌, length, take, Option, Some, None}
+use Rattle.std.specs.Prelude.{◌≡◌, ℕ, ◌+◌, ◌≤◌, ◌<◌, ◌⊎◌, Bool, true, false, List, [], ◌++◌, length, Option, Some, None}
 use Rattle.std.specs.List.{flat_map}
 use Rattle.ffc_base.specs.Outside.{Appends, AppendsPrefix}
 use Rattle.ffc_cert.specs.declared.entries.Entry.{Entry}
@@ -10,14 +10,13 @@ use Rattle.ffc_smt.specs.Scopes.{State}
 use Rattle.ffc_smt.specs.Scripts.{Step, End, Done, AtFault, reads}
 use Rattle.ffc_smt.specs.GoingOn.{Going, run_of}
 use Rattle.ffc_smt.specs.TableChecks.{table_checks}
-use Rattle.ffc_words.specs.declared.faults.ScriptFault.{ScriptFault}
 use Rattle.ffc_answer.specs.Answers.{Last, answers, end_answer, script_answers, verdict}
 use Rattle.ffc_script.specs.Answers.{HasRun, SaysOnly, StopsAt}
 use Rattle.ffc_script.specs.declared.stop.ScriptStop.TheVariants.{Fault}
 use Rattle.ffc_script.specs.Progress.{Progress, steps_of}
-use Rattle.ffc_solve.specs.declared.session.Session.{Session}
-use Rattle.ffc_solve.specs.declared.session.Advance.{Advance}
-use Rattle.ffc_solve.specs.declared.session.Advance.TheVariants as advance
+use Rattle.ffc_solve.specs.declared.dialogue.Dialogue.{Dialogue}
+use Rattle.ffc_solve.specs.declared.dialogue.Advance.{Advance}
+use Rattle.ffc_solve.specs.declared.dialogue.Advance.TheVariants as advance
 use Rattle.ffc_solve.specs.Solving.{AreEntries, IsRest}
 use Rattle.ffc_solve.specs.Remembering.{Holds, Counts}
 
@@ -28,7 +27,7 @@ IsHalfTold entry cert_old cert_new out_old out_new =
     ⊎ (Appends (entry_text entry) cert_old cert_new × AppendsPrefix (verdict entry) out_old out_new)
 
 -- One more command is answered.
-pub record IsTold (old new : Session) (entries : List Entry) (cert_old cert_new out_old out_new : Option (List ℕ)) : Type 0 where
+pub record IsTold (old new : Dialogue) (entries : List Entry) (cert_old cert_new out_old out_new : Option (List ℕ)) : Type 0 where
   pub more : List Entry
   pub last : Option Last
   pub holds : Holds new.reader new (entries ++ more) last
@@ -45,8 +44,8 @@ pub record IsTold (old new : Session) (entries : List Entry) (cert_old cert_new 
 abbrev pub IsSilent : Option (List ℕ) → Option (List ℕ) → Option (List ℕ) → Option (List ℕ) → Type 0
 IsSilent cert_old cert_new out_old out_new = (cert_new ≡ cert_old) × (out_new ≡ out_old)
 
--- how a session went on that has these entries
-abbrev pub GoesOn : Session → Session → List Entry → Option (List ℕ) → Option (List ℕ) → Option (List ℕ) → Option (List ℕ) → Advance → Type 0
+-- how a dialogue went on that has these entries
+abbrev pub GoesOn : Dialogue → Dialogue → List Entry → Option (List ℕ) → Option (List ℕ) → Option (List ℕ) → Option (List ℕ) → Advance → Type 0
 GoesOn old new entries cert_old cert_new out_old out_new advance.Answered =
     IsTold old new entries cert_old cert_new out_old out_new × (new.reader.over ≡ false)
 GoesOn old new entries cert_old cert_new out_old out_new advance.Waiting = IsSilent cert_old cert_new out_old out_new × (new ≡ old) × HasRun old.reader
@@ -57,7 +56,7 @@ GoesOn old new entries cert_old cert_new out_old out_new (advance.Fault f) =
 
 -- The run stopped, however the script goes on: after the entries stands at most a front of one more, and no more is answered than
 -- the entries say.
-pub record IsCutAt (old : Session) (entries : List Entry) (more : List ℕ) (cert_old cert_new out_old out_new : Option (List ℕ)) : Type 0 where
+pub record IsCutAt (old : Dialogue) (entries : List Entry) (more : List ℕ) (cert_old cert_new out_old out_new : Option (List ℕ)) : Type 0 where
   pub later : List Entry
   pub each : AreEntries old.steps (table_checks (reads (old.reader.text ++ more)).steps) (entries ++ later)
   pub part : List ℕ
@@ -79,16 +78,17 @@ IsAtEnd None now = Unit {0}
 IsAtEnd (Some bytes) now = (bytes ≡ []) × (now ≡ Some [])
 
 -- no more is read: nothing is left, or as much was taken as may be
-abbrev pub IsEnd : Session → Option (List ℕ) → Option (List ℕ) → Type 0
+abbrev pub IsEnd : Dialogue → Option (List ℕ) → Option (List ℕ) → Type 0
 IsEnd s left_old left_new = IsAtEnd left_old left_new ⊎ ((left_new ≡ left_old) × (length s.reader.text ≡ 67108865))
 
 -- a piece was read, and is in the reader
-pub record HasFed (old new : Session) (left_old left_new : Option (List ℕ)) : Type 0 where
+pub record HasFed (old new : Dialogue) (left_old left_new : Option (List ℕ)) : Type 0 where
   pub piece : List ℕ
   pub read : HasRead left_old left_new piece
   pub reader : new.reader ≡ record old.reader { text = old.reader.text ++ piece }
   pub some : 0 < length piece
   pub few : length old.reader.text + length piece ≤ 67108865
+  pub short : length piece ≤ 4096
   pub taken : new.taken ≡ old.taken + length piece
   pub same : (new.steps ≡ old.steps) × (new.last ≡ old.last) × (new.tally ≡ old.tally)
 
@@ -100,7 +100,7 @@ is_fault Done = false
 is_fault (AtFault at_line column code) = true
 
 -- All commands and the end of a script are answered.
-pub record IsAnswered (budget : ℕ) (script : List ℕ) (refused : Bool) (new : Session) (cert_old cert_new out_old out_new : Option (List ℕ)) : Type 0 where
+pub record IsAnswered (budget : ℕ) (script : List ℕ) (refused : Bool) (new : Dialogue) (cert_old cert_new out_old out_new : Option (List ℕ)) : Type 0 where
   pub entries : List Entry
   pub each : AreEntries budget (table_checks (reads script).steps) entries
   pub all : length entries ≡ length (table_checks (reads script).steps)
@@ -143,7 +143,7 @@ IsUnfinished p out_old out_new =
     (out_new ≡ out_old) ⊎ ((end : End) × (reads p.text ≡ record { steps = steps_of p; end = end }) × AppendsPrefix (end_answer end) out_old out_new)
 
 -- nothing of the script has come
-pub record IsFirst (s : Session) : Type 0 where
+pub record IsFirst (s : Dialogue) : Type 0 where
   pub reader : s.reader ≡ record { text = []; forms = []; over = false }
   pub taken : s.taken ≡ 0
   pub last : s.last ≡ None

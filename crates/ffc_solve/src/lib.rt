@@ -2,10 +2,10 @@
 #![tactic(auto)]
 
 mod arguments;
+mod dialogue;
 mod generated;
 mod remembered;
 mod running;
-mod session;
 mod solve;
 mod stop;
 

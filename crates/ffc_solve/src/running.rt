@@ -3,11 +3,11 @@ ghost use Rattle.std.specs.Prelude.{◌≡◌, ℕ, ◌+◌, ◌≤◌, ◌⊎�
 ghost use Rattle.ffc_base.specs.Outside.{Rose, Appends, AppendsPrefix};
 ghost use Rattle.ffc_answer.specs.Answers.{fault_answer};
 ghost use Rattle.ffc_script.specs.Answers.{HasRun};
-ghost use Rattle.ffc_solve.specs.Solving.{IsTaken};
+ghost use Rattle.ffc_solve.specs.Solving.{EndsSoon, IsTaken};
 ghost use Rattle.ffc_solve.specs.Remembering.{IsBudget};
 ghost use Rattle.ffc_solve.specs.Underway.{HasFed, IsAnswered, IsCut, IsEnd, IsFinished, IsFirst, IsPausedAt, IsUnfinished};
 
-use crate::session::{Advance, Session};
+use crate::dialogue::{Advance, Dialogue};
 use crate::stop::{Stop, write_out};
 use ffc_answer::error_line;
 use ffc_base::{Sink, Source};
@@ -22,19 +22,19 @@ const MOST_TAKEN: usize = 67_108_865;
 const PIECE: usize = 4096;
 
 /// Reads a piece of the script, where there is one.
-fn read_on<S: Source>(session: &mut Session, script: &mut S) -> Result<bool, Stop>
-    requires active { session.old.reader.over ≡ false }
-    requires taken { session.old.taken ≡ length session.old.reader.text }
-    requires short { length session.old.reader.text ≤ 67108865 }
-    ensures more { IfOk result (λ more. more ≡ true → HasFed session.old session.new (S.left script.old) (S.left script.new)) }
-    ensures end { IfOk result (λ more. more ≡ false → (session.new ≡ session.old) × IsEnd session.old (S.left script.old) (S.left script.new)) }
-    ensures failed { IsErrOf result Stop.ReadFault → (session.new ≡ session.old) × (S.left script.new ≡ S.left script.old) }
-    ensures memory { IsErrOf result Stop.Memory → IfSome (S.left script.old) (λ bytes. (piece : List ℕ) × IsTaken piece bytes (S.left script.new) × (length session.old.reader.text + length piece ≤ 67108865)) }
+fn read_on<S: Source>(dialogue: &mut Dialogue, script: &mut S) -> Result<bool, Stop>
+    requires active { dialogue.old.reader.over ≡ false }
+    requires taken { dialogue.old.taken ≡ length dialogue.old.reader.text }
+    requires short { length dialogue.old.reader.text ≤ 67108865 }
+    ensures more { IfOk result (λ more. more ≡ true → HasFed dialogue.old dialogue.new (S.left script.old) (S.left script.new)) }
+    ensures end { IfOk result (λ more. more ≡ false → (dialogue.new ≡ dialogue.old) × IsEnd dialogue.old (S.left script.old) (S.left script.new)) }
+    ensures failed { IsErrOf result Stop.ReadFault → (dialogue.new ≡ dialogue.old) × (S.left script.new ≡ S.left script.old) }
+    ensures memory { IsErrOf result Stop.Memory → IfSome (S.left script.old) (λ bytes. (piece : List ℕ) × IsTaken piece bytes (S.left script.new) × (length dialogue.old.reader.text + length piece ≤ 67108865) × (length piece ≤ 4096)) }
     ensures later { S.faults script.old ≤ S.faults script.new }
     ensures cause { IsErrOf result Stop.ReadFault → Rose (S.faults script.old) (S.faults script.new) }
     ensures only { IfErr result (λ stop. (stop ≡ Stop.ReadFault) ⊎ (stop ≡ Stop.Memory)) }
 {
-    let room = PIECE.min(MOST_TAKEN - session.taken);
+    let room = PIECE.min(MOST_TAKEN - dialogue.taken);
     if room == 0 {
         return Ok(false);
     }
@@ -45,8 +45,8 @@ fn read_on<S: Source>(session: &mut Session, script: &mut S) -> Result<bool, Sto
     if count == 0 {
         return Ok(false);
     }
-    session.reader.feed(&buffer[..count])?;
-    session.taken += count;
+    dialogue.reader.feed(&buffer[..count])?;
+    dialogue.taken += count;
     Ok(true)
 }
 
@@ -63,19 +63,19 @@ fn tell_fault<O: Sink>(alloc: Global, fault: ScriptFault, out: &mut O) -> Result
 }
 
 /// Answers the end of a text, and says whether it is a fault.
-fn finish<O: Sink>(session: &mut Session, out: &mut O) -> Result<bool, Stop>
-    requires { HasRun session.old.reader }
-    ensures ok { IfOk result (λ refused. IsFinished session.old.reader refused (O.holds out.old) (O.holds out.new)) }
-    ensures err { OnErr result (IsUnfinished session.old.reader (O.holds out.old) (O.holds out.new)) }
-    ensures tally { session.new.tally ≡ session.old.tally }
+fn finish<O: Sink>(dialogue: &mut Dialogue, out: &mut O) -> Result<bool, Stop>
+    requires { HasRun dialogue.old.reader }
+    ensures ok { IfOk result (λ refused. IsFinished dialogue.old.reader refused (O.holds out.old) (O.holds out.new)) }
+    ensures err { OnErr result (IsUnfinished dialogue.old.reader (O.holds out.old) (O.holds out.new)) }
+    ensures tally { dialogue.new.tally ≡ dialogue.old.tally }
     ensures later { O.faults out.old ≤ O.faults out.new }
     ensures cause { IsErrOf result Stop.WriteFault → Rose (O.faults out.old) (O.faults out.new) }
     ensures only { IfErr result (λ stop. (stop ≡ Stop.WriteFault) ⊎ (stop ≡ Stop.Memory)) }
 {
-    match session.reader.finish() {
+    match dialogue.reader.finish() {
         Ok(()) => Ok(false),
         Err(ScriptStop::Fault(fault)) => {
-            tell_fault(session.alloc, fault, out)?;
+            tell_fault(dialogue.alloc, fault, out)?;
             Ok(true)
         }
         Err(ScriptStop::Memory) => Err(Stop::Memory),
@@ -84,18 +84,18 @@ fn finish<O: Sink>(session: &mut Session, out: &mut O) -> Result<bool, Stop>
 
 /// Answers a script to its end, and says whether it has a fault.
 pub fn run<S: Source, O: Sink, C: Sink>(
-    session: &mut Session,
+    dialogue: &mut Dialogue,
     script: &mut S,
     out: &mut O,
     cert: &mut C,
 ) -> Result<bool, Stop>
-    requires first { IsFirst session.old }
-    requires budget { IsBudget session.old.steps }
-    ensures ok { IfOk result (λ refused. IfSome (S.left script.old) (λ bytes. IsAnswered session.old.steps bytes refused session.new (C.holds cert.old) (C.holds cert.new) (O.holds out.old) (O.holds out.new))) }
-    ensures err { OnErr result (IfSome (S.left script.old) (λ bytes. IsCut session.old.steps bytes (C.holds cert.old) (C.holds cert.new) (O.holds out.old) (O.holds out.new))) }
+    requires first { IsFirst dialogue.old }
+    requires budget { IsBudget dialogue.old.steps }
+    ensures ok { IfOk result (λ refused. IfSome (S.left script.old) (λ bytes. IsAnswered dialogue.old.steps bytes refused dialogue.new (C.holds cert.old) (C.holds cert.new) (O.holds out.old) (O.holds out.new))) }
+    ensures err { OnErr result (IfSome (S.left script.old) (λ bytes. IsCut dialogue.old.steps bytes (C.holds cert.old) (C.holds cert.new) (O.holds out.old) (O.holds out.new))) }
     ensures paused { IsErrOf result Stop.ReadFault → IfSome (S.left script.old) (λ bytes. (text : List ℕ) × IsTaken text bytes (S.left script.new)
-        × IsPausedAt session.old.steps text (C.holds cert.old) (C.holds cert.new) (O.holds out.old) (O.holds out.new)) }
-    ensures taken { IfSome (S.left script.old) (λ bytes. (text : List ℕ) × IsTaken text bytes (S.left script.new)) }
+        × IsPausedAt dialogue.old.steps text (C.holds cert.old) (C.holds cert.new) (O.holds out.old) (O.holds out.new)) }
+    ensures taken { IfSome (S.left script.old) (λ bytes. (text : List ℕ) × IsTaken text bytes (S.left script.new) × EndsSoon text) }
     ensures same_name { C.name cert.new ≡ C.name cert.old }
     ensures later_out { O.faults out.old ≤ O.faults out.new }
     ensures cause_script { IsErrOf result Stop.ReadFault → Rose (S.faults script.old) (S.faults script.new) }
@@ -104,18 +104,18 @@ pub fn run<S: Source, O: Sink, C: Sink>(
 {
     long_texts_are_cut();
     'commands: loop {
-        session.reader.steps_are_few();
-        session.reader.steps_come_first();
-        match session.advance(out, cert)? {
+        dialogue.reader.steps_are_few();
+        dialogue.reader.steps_come_first();
+        match dialogue.advance(out, cert)? {
             Advance::Answered => {}
             Advance::Ended => return Ok(false),
             Advance::Fault(fault) => {
-                tell_fault(session.alloc, fault, out)?;
+                tell_fault(dialogue.alloc, fault, out)?;
                 return Ok(true);
             }
-            Advance::Waiting => match read_on(session, script) {
+            Advance::Waiting => match read_on(dialogue, script) {
                 Ok(true) => {}
-                Ok(false) => return finish(session, out),
+                Ok(false) => return finish(dialogue, out),
                 Err(stop) => return Err(stop),
             },
         }

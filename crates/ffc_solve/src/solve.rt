@@ -8,15 +8,15 @@ ghost use Rattle.ffc_solve.specs.Arguments.{AreRefused, AreTaken, HasPlan};
 ghost use Rattle.ffc_solve.specs.declared.arguments.Plan.{Plan as SolvePlan};
 ghost use Rattle.ffc_solve.specs.Generated.{made_text};
 ghost use Rattle.ffc_solve.specs.Remembering.{Counts, IsBudget};
-ghost use Rattle.ffc_solve.specs.Solving.{IsPaused, IsStopped, IsTaken, IsWhole};
+ghost use Rattle.ffc_solve.specs.Solving.{EndsSoon, IsPaused, IsStopped, IsTaken, IsWhole};
 ghost use Rattle.ffc_solve.specs.Status.{Leaves, code_of, status_of};
 ghost use Rattle.ffc_solve.specs.Underway.{IsFirst, is_fault};
 
 use crate::arguments::{Plan, PlanStop};
+use crate::dialogue::Dialogue;
 use crate::generated::make_script;
 use crate::remembered::Tally;
 use crate::running::run;
-use crate::session::Session;
 use crate::stop::{Stop, create_certificate, write_out};
 use ffc_base::{NamedSink, Sink, Source, SureSource};
 use ffc_script::ScriptReader;
@@ -58,12 +58,12 @@ impl SolveStatus {
     }
 }
 
-/// A session of a script of which nothing has come.
-fn first_session(alloc: Global, steps: u64) -> Result<Session, AllocError>
+/// A dialogue of a script of which nothing has come.
+fn first_dialogue(alloc: Global, steps: u64) -> Result<Dialogue, AllocError>
     ensures first { IfOk result IsFirst }
     ensures steps { IfOk result (λ s. s.steps ≡ steps) }
 {
-    Ok(Session {
+    Ok(Dialogue {
         alloc,
         steps,
         reader: ScriptReader::new(alloc)?,
@@ -91,15 +91,15 @@ fn answer_script<S: Source, O: Sink, C: NamedSink>(
     ensures err { OnErr result (IfSome (S.left script.old) (λ bytes. IsStopped plan.now.steps None bytes (C.holds cert.old) (C.holds cert.new) (O.holds out.old) (O.holds out.new))) }
     ensures paused { IsErrOf result Stop.ReadFault → IfSome (S.left script.old) (λ bytes. (text : List ℕ) × IsTaken text bytes (S.left script.new)
         × IsPaused plan.now.steps text (C.holds cert.old) (C.holds cert.new) (O.holds out.old) (O.holds out.new)) }
-    ensures taken { IfSome (S.left script.old) (λ bytes. (text : List ℕ) × IsTaken text bytes (S.left script.new)) }
+    ensures taken { IfSome (S.left script.old) (λ bytes. (text : List ℕ) × IsTaken text bytes (S.left script.new) × EndsSoon text) }
     ensures named { OnOk result (Becomes plan.now.cert_name (C.name cert.old) (C.name cert.new)) }
     ensures cause_script { IsErrOf result Stop.ReadFault → Rose (S.faults script.old) (S.faults script.new) }
     ensures cause_out { IsErrOf result Stop.WriteFault → Rose (O.faults out.old) (O.faults out.new) }
     ensures cause_cert { IsErrOf result Stop.CertFault → Rose (C.faults cert.old) (C.faults cert.new) }
 {
     create_certificate(cert, plan.cert_name.as_str())?;
-    let mut session = first_session(alloc, plan.steps)?;
-    run(&mut session, script, out, cert)
+    let mut dialogue = first_dialogue(alloc, plan.steps)?;
+    run(&mut dialogue, script, out, cert)
 }
 
 /// The line that says how large a generated script is, and how its checks were answered.
@@ -136,10 +136,10 @@ fn answer_generated<O: Sink, C: NamedSink>(
 {
     let text = make_script(alloc, size)?;
     let mut script = SureSource::new(text.into_bytes());
-    let mut session = first_session(alloc, plan.steps)?;
+    let mut dialogue = first_dialogue(alloc, plan.steps)?;
     create_certificate(cert, plan.cert_name.as_str())?;
-    let refused = run(&mut session, &mut script, out, cert)?;
-    let line = made_line(alloc, size, session.tally)?;
+    let refused = run(&mut dialogue, &mut script, out, cert)?;
+    let line = made_line(alloc, size, dialogue.tally)?;
     write_out(out, line.as_bytes())?;
     Ok(refused)
 }
@@ -184,7 +184,7 @@ pub fn solve_main<'a, S: Source, O: Sink, C: NamedSink>(
     // How much of the script was taken, and what is answered where reading failed.
     ensures paused { result ≡ SolveStatus.ReadFault → IfSome (S.left script.old) (λ bytes. (plan : SolvePlan) × HasPlan (map (λ w. w.now) words.now) plan × (text : List ℕ) × IsTaken text bytes (S.left script.new)
         × IsPaused plan.steps text (C.holds cert.old) (C.holds cert.new) (O.holds out.old) (O.holds out.new)) }
-    ensures taken { IfSome (S.left script.old) (λ bytes. (text : List ℕ) × IsTaken text bytes (S.left script.new)) }
+    ensures taken { IfSome (S.left script.old) (λ bytes. (text : List ℕ) × IsTaken text bytes (S.left script.new) × EndsSoon text) }
     ensures read_fault { result ≡ SolveStatus.ReadFault → Rose (S.faults script.old) (S.faults script.new) }
     ensures write_fault { result ≡ SolveStatus.WriteFault → Rose (O.faults out.old) (O.faults out.new) }
     ensures cert_fault { result ≡ SolveStatus.CertFault → Rose (C.faults cert.old) (C.faults cert.new) }

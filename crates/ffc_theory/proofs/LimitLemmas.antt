@@ -6,6 +6,7 @@ use Rattle.std.specs.Result.{IfErr}
 use Rattle.std.specs.List.{list_any, range_with_len}
 use Rattle.std.proofs.lemmas.List.Folds.{Any-from_list_any}
 use Rattle.std.proofs.lemmas.List.FromFn.{get_or-range_with_len, length-range_with_len}
+use Rattle.std.proofs.Math.Nat.{mul-le-mul_right}
 use Rattle.std.proofs.lemmas.Bool.{and_from, eq-eqb, le-leb, lt-leb, false≢true, false_from_ne_true}
 use Rattle.std.proofs.lemmas.List.{drop_more}
 use Rattle.ffc_cert.specs.declared.entries.Entry.TheVariants.{UnsatCases}
@@ -14,7 +15,7 @@ use Rattle.ffc_cert.specs.Spelling.{entry_text}
 use Rattle.ffc_cert.specs.WellFormed.{IsReadable}
 use Rattle.ffc_term.specs.declared.node.Node.{Node}
 use Rattle.ffc_term.specs.Checks.{AreNodesOf}
-use Rattle.ffc_term.specs.Measuring.{AreMeasuresOf, span_of}
+use Rattle.ffc_term.specs.Measuring.{span_of}
 use Rattle.ffc_term.proofs.LawLemmas.{AreNodesOf-one}
 use Rattle.ffc_rules.specs.Cones.{cone, cone_constants, span, work}
 use Rattle.ffc_rules.specs.Causes.{is_small, first_count, is_cause_within, passes_degree, passes_length}
@@ -24,8 +25,11 @@ use Rattle.ffc_rules.specs.Laws.{IsValid}
 use Rattle.ffc_rules.proofs.ConeLemmas.{cone_nodes}
 use Rattle.ffc_rules.proofs.CaseLemmas.{no_model}
 use Rattle.ffc_rules.proofs.KeptLemmas.{cases_kept}
-use Rattle.ffc_check.proofs.CaseLemmas.{within, span_small, model_found}
-use Rattle.ffc_theory.specs.Stops.{IsWithinLimits, IsSmallSpan, IsCaused, IsPassed}
+use Rattle.ffc_check.proofs.CaseLemmas.{within, model_found}
+use Rattle.ffc_rules.proofs.AssignmentLemmas.{span-constants}
+use Rattle.ffc_theory.specs.Parts.{IsConeOf}
+use Rattle.ffc_theory.specs.Stops.{IsWithinLimits, IsSmallSpan, IsCaused, IsPassed, SpendsAll}
+use Rattle.ffc_theory.specs.declared.cone.Cone.{Cone}
 use Rattle.ffc_theory.specs.declared.stop.DecideStop.{DecideStop}
 use Rattle.ffc_theory.specs.declared.stop.DecideStop.TheVariants as stops
 
@@ -69,30 +73,39 @@ nodes_are_cone c nodes valid of = AreNodesOf-one c.nodes c.in_force nodes (cone 
 
 -- What was measured
 
-module _ (c : NodeCheck) (valid : IsValid c) (span_found work_found budget : ℕ) (m : AreMeasuresOf c.nodes c.in_force span_found work_found) where
-  work_capped : work_found ≡ min (work c.nodes c.in_force) (2 ^ 64)
-  work_capped = m.work_is ∙ ap (λ among. min (span_of c.nodes among * length among) (2 ^ 64)) (nodes_are_cone c m.among valid m.all)
+module _ (c : NodeCheck) (parts : Cone) (of : IsConeOf c parts) (span_found budget : ℕ) (is : span_found ≡ min (span_of c.nodes parts.constants.items) (2 ^ 64)) where
+  -- the constants have as many assignments as all nodes
+  span_capped : span_found ≡ min (span c.nodes c.in_force) (2 ^ 64)
+  span_capped = is ∙ ap (λ n. min n (2 ^ 64)) (ap (span_of c.nodes) of.constants ∙ span-constants c.nodes (cone c.nodes c.in_force))
 
-  pub too_much_work : 16777216 < work_found → is_small limits c budget ≡ false
+  node_count : length parts.nodes.items ≡ length (cone c.nodes c.in_force)
+  node_count = ap length of.all
+
+  work_above : span_found * length parts.nodes.items ≤ work c.nodes c.in_force
+  work_above =
+      subst (λ n. span_found * n ≤ work c.nodes c.in_force) (sym node_count)
+      (mul-le-mul_right (length (cone c.nodes c.in_force)) (let e = span_capped in let few : span_found ≤ span c.nodes c.in_force = omega arith in few))
+
+  pub too_much_work : 16777216 < span_found * length parts.nodes.items → is_small limits c budget ≡ false
   unfolding is_small
-  too_much_work over = ap (λ b. b && nat_le (span c.nodes c.in_force) budget) (lt-leb (work c.nodes c.in_force) 16777216 (omega (arith, work_capped)))
+  too_much_work over =
+      ap (λ b. b && nat_le (span c.nodes c.in_force) budget) (lt-leb (work c.nodes c.in_force) 16777216 (let above = work_above in let more : 16777216 < work c.nodes c.in_force = omega arith in more))
 
   and_false : (b : Bool) → (b && false) ≡ false
   and_false true = refl
   and_false false = refl
 
-  pub too_many : work_found ≤ 16777216 → budget < span_found → is_small limits c budget ≡ false
+  pub too_many : budget < span_found → is_small limits c budget ≡ false
   unfolding is_small
-  too_many few over =
-      let same = (span_small c valid span_found work_found 0 m few).1 in
-      ap (λ b. nat_le (work c.nodes c.in_force) 16777216 && b) (lt-leb (span c.nodes c.in_force) budget (subst (λ n. budget < n) same over))
+  too_many over =
+      ap (λ b. nat_le (work c.nodes c.in_force) 16777216 && b) (lt-leb (span c.nodes c.in_force) budget (let e = span_capped in let more : budget < span c.nodes c.in_force = omega arith in more))
       ∙ and_false (nat_le (work c.nodes c.in_force) 16777216)
 
-  pub is_small_span : work_found ≤ 16777216 → span_found ≤ budget → IsSmallSpan c budget span_found
+  pub is_small_span : budget < 2 ^ 64 → span_found * length parts.nodes.items ≤ 16777216 → span_found ≤ budget → IsSmallSpan c budget span_found
   unfolding is_small
-  is_small_span few under =
-      let same = (span_small c valid span_found work_found 0 m few).1 in
-      let little : work c.nodes c.in_force ≤ 16777216 = omega (arith, work_capped) in
+  is_small_span wide few under =
+      let same : span_found ≡ span c.nodes c.in_force = let e = span_capped in omega arith in
+      let little : work c.nodes c.in_force ≤ 16777216 = subst (λ n. n ≤ 16777216) (ap₂ (λ a b. a * b) same node_count) few in
       record {
         small = and_from (nat_le (work c.nodes c.in_force) 16777216) (nat_le (span c.nodes c.in_force) budget) (le-leb (work c.nodes c.in_force) 16777216 little) (le-leb (span c.nodes c.in_force) budget (subst (λ n. n ≤ budget) same under));
         all = same;
@@ -115,30 +128,30 @@ module _ (c : NodeCheck) (budget : ℕ) (large : is_small limits c budget ≡ fa
   terms_caused low long =
       and_from (not (is_small limits c budget)) (not (passes_degree limits c) && passes_length limits c) not_small (and_from (not (passes_degree limits c)) (passes_length limits c) (ap not low) long)
 
-  half_below : (size : ℕ) → cond (size == 0) 0 (min (budget / 2) (16777216 / size)) ≤ budget
-  half_below size = by_size (size == 0)
-    where
-      by_size : (b : Bool) → cond b 0 (min (budget / 2) (16777216 / size)) ≤ budget
-      by_size true = omega arith
-      by_size false = omega arith
-
-  pub first_within : first_count limits c budget ≤ budget
-  unfolding first_count
-  first_within = half_below (length (cone c.nodes c.in_force))
-
   -- the first assignments are among more of them
   fewer_none : (ns : List Node) (ids : List ℕ) (few many : ℕ) → few ≤ many → has_model_below ns ids many ≡ false → has_model_below ns ids few ≡ false
   fewer_none ns ids few many below none = false_from_ne_true (has_model_below ns ids few) (λ some. false≢true (sym none ∙ some_more ns ids few many below some))
 
-  pub spent_caused : (trials reductions assignments chains : ℕ) → IsWithinLimits c → trials + reductions + assignments + chains ≡ budget → has_model_below c.nodes c.in_force budget ≡ false
-      → is_cause_within limits c budget (Steps trials reductions assignments chains) ≡ true
+  spent_caused : (tried trials reductions assignments chains : ℕ) → IsWithinLimits c → trials + reductions + assignments + chains ≡ budget → first_count limits c budget ≤ tried
+      → has_model_below c.nodes c.in_force tried ≡ false → is_cause_within limits c budget (Steps trials reductions assignments chains) ≡ true
   unfolding is_cause_within
-  spent_caused trials reductions assignments chains good sum none =
-      let first = fewer_none c.nodes c.in_force (first_count limits c budget) budget first_within none in
+  spent_caused tried trials reductions assignments chains good sum enough none =
+      let first = fewer_none c.nodes c.in_force (first_count limits c budget) tried enough none in
       let counted = and_from (trials + reductions + assignments + chains == budget) (not (has_model_below c.nodes c.in_force (first_count limits c budget))) (eq-eqb _ budget sum) (ap not first) in
       let short = and_from (not (passes_length limits c)) _ (ap not good.length) counted in
       let low = and_from (not (passes_degree limits c)) _ (ap not good.degree) short in
       and_from (not (is_small limits c budget)) _ not_small low
+
+  -- all units were spent, and at least the first assignments tried
+  pub all_spent : (stop : DecideStop) (tried : ℕ) → IsWithinLimits c → SpendsAll budget stop → first_count limits c budget ≤ tried → has_model_below c.nodes c.in_force tried ≡ false → IsCaused budget c stop
+  all_spent (stops.Spent t r a k) tried good sum enough none = spent_caused tried t r a k good sum enough none
+  all_spent stops.TooHigh tried good sum enough none = absurd sum
+  all_spent stops.TooLong tried good sum enough none = absurd sum
+  all_spent stops.Memory tried good sum enough none = absurd sum
+
+pub first-is : (c : NodeCheck) (budget nodes n : ℕ) → nodes ≡ length (cone c.nodes c.in_force) → n ≡ cond (nodes == 0) 0 (min (budget / 2) (16777216 / nodes)) → first_count limits c budget ≡ n
+unfolding first_count
+first-is c budget nodes n same is = sym (is ∙ ap (λ m. cond (m == 0) 0 (min (budget / 2) (16777216 / m))) same)
 
 pub memory_caused : (c : NodeCheck) (budget : ℕ) → is_cause_within limits c budget Memory ≡ true
 unfolding is_cause_within

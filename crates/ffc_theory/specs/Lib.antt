@@ -1,2 +1,5 @@
 pub mod Stops
 pub mod Counting
+pub mod Enumerating
+pub mod Opened
+pub mod Parts

@@ -1,5 +1,5 @@
 -- What it means that a check is not decided, and which checks are.
-use Rattle.std.specs.Prelude.{◌≡◌, ℕ, ◌≤◌, ◌⊎◌, true, false, List}
+use Rattle.std.specs.Prelude.{◌≡◌, ℕ, ◌+◌, ◌≤◌, ◌⊎◌, true, false, List}
 use Rattle.ffc_cert.specs.declared.entries.Cause.{Cause}
 use Rattle.ffc_cert.specs.declared.entries.Entry.{Entry}
 use Rattle.ffc_cert.specs.declared.entries.Entry.TheVariants.{Sat, UnsatCases, UnsatSteps, Unknown}
@@ -56,3 +56,16 @@ IsVerdict (Sat pairs) = Unit {0}
 IsVerdict UnsatCases = Unit {0}
 IsVerdict (UnsatSteps lines) = Unit {0}
 IsVerdict (Unknown cause) = ⊥
+
+-- an entry that may be given for a check
+pub record IsGiven (c : NodeCheck) (entry : Entry) : Type 0 where
+  pub readable : IsReadable 2 entry
+  pub right : EntryOk c entry
+  pub verdict : IsVerdict entry
+
+-- the whole budget was spent
+abbrev pub SpendsAll : ℕ → DecideStop → Type 0
+SpendsAll budget (stops.Spent trials reductions assignments chains) = trials + reductions + assignments + chains ≡ budget
+SpendsAll budget stops.TooHigh = ⊥
+SpendsAll budget stops.TooLong = ⊥
+SpendsAll budget stops.Memory = ⊥

@@ -1,79 +1,124 @@
 //! Deciding a check.
-ghost use Rattle.std.specs.Prelude.{◌≡◌, ◌<◌, ◌≤◌, true, false, OnOk, IfOk, IfErr};
+ghost use Rattle.std.specs.Prelude.{◌≡◌, ◌+◌, ◌≤◌, false, OnOk, IfOk, IfErr};
+ghost use Rattle.ffc_base.specs.Metering.{total};
 ghost use Rattle.ffc_cert.specs.WellFormed.{IsReadable};
 ghost use Rattle.ffc_rules.specs.Causes.{is_small};
 ghost use Rattle.ffc_rules.specs.Entries.{limits, EntryOk};
 ghost use Rattle.ffc_rules.specs.Laws.{IsValid};
 ghost use Rattle.ffc_check.specs.Judged.{node_check};
-ghost use Rattle.ffc_theory.specs.Stops.{IsCaused, IsWithinLimits, IsSmallSpan, IsVerdict, MayBeDecided};
+ghost use Rattle.ffc_theory.specs.Parts.{IsConeOf};
+ghost use Rattle.ffc_theory.specs.Stops.{IsCaused, IsGiven, IsWithinLimits, IsSmallSpan, IsVerdict, MayBeDecided, SpendsAll};
 
-use crate::enumerate::first_model;
-use crate::limits::{check_limits, small_span};
+use crate::cone::Cone;
+use crate::enumerate::Enumeration;
+use crate::limits::{check_limits, first_count, small_span};
+use crate::proposing::proposed;
 use crate::stop::DecideStop;
 use ffc_base::{Meter, Unit};
 use ffc_cert::Entry;
 use ffc_term::Check;
 use std::alloc::Global;
 
-/// Decides a check that is small within the budget.
-fn decide_small(alloc: Global, check: &Check, span: u64, steps: u64) -> Result<Entry, DecideStop>
-    requires valid { IsValid (node_check check.now) }
-    requires small { IsSmallSpan (node_check check.now) steps span }
-    ensures readable { IfOk result (IsReadable 2) }
-    ensures right { IfOk result (EntryOk (node_check check.now)) }
-    ensures verdict { IfOk result IsVerdict }
-    ensures only { IfErr result (λ stop. stop ≡ DecideStop.Memory) }
+/// The most assignments that are tried before the engine is asked.
+const EARLY_TRIALS: u64 = 256;
+
+/// How many units were taken.
+fn spent(meter: &Meter) -> u64
+    ensures units { result ≡ total meter.now }
+    ensures within { result ≤ meter.now.budget }
 {
-    let mut meter = Meter::new(steps);
-    match first_model(alloc, check, span, &mut meter)? {
-        Some(pairs) => Ok(Entry::Sat(pairs)),
-        None => Ok(Entry::UnsatCases),
-    }
+    let _budget = meter.budget();
+    meter.count(Unit::Trial)
+        + meter.count(Unit::Reduction)
+        + meter.count(Unit::Assignment)
+        + meter.count(Unit::Chain)
 }
 
-/// Looks for a model of another check until the budget is spent.
-fn decide_large(alloc: Global, check: &Check, steps: u64) -> Result<Entry, DecideStop>
+/// The stop where all units were taken, by one meter or another.
+fn spent_by(trials: &Meter, engine: &Meter, steps: u64) -> DecideStop
+    requires all { total trials.now + total engine.now ≡ steps }
+    ensures { SpendsAll steps result }
+{
+    let both = |kind: Unit| trials.count(kind) + engine.count(kind);
+    DecideStop::Spent(
+        both(Unit::Trial),
+        both(Unit::Reduction),
+        both(Unit::Assignment),
+        both(Unit::Chain),
+    )
+}
+
+/// Decides a check that is small within the budget, by going through all its assignments.
+fn decide_small(
+    alloc: Global,
+    check: &Check,
+    cone: &Cone,
+    span: u64,
+    steps: u64,
+) -> Result<Entry, DecideStop>
     requires valid { IsValid (node_check check.now) }
+    requires cone { IsConeOf (node_check check.now) cone.now }
+    requires small { IsSmallSpan (node_check check.now) steps span }
+    ensures given { IfOk result (IsGiven (node_check check.now)) }
+    ensures only { IfErr result (λ stop. stop ≡ DecideStop.Memory) }
+{
+    let mut trials = Meter::new(steps);
+    let mut enumeration = Enumeration::new(alloc, check, cone)?;
+    if enumeration.go_on(check, cone, span, &mut trials) {
+        return Ok(Entry::Sat(enumeration.into_values(check)));
+    }
+    Ok(Entry::UnsatCases)
+}
+
+/// Decides another check, as far as the budget reaches: a few assignments are tried, then the engine is asked, and what it leaves
+/// of the budget goes to further assignments. The engine leaves at least as many as are tried in any case.
+fn decide_large(alloc: Global, check: &Check, cone: &Cone, steps: u64) -> Result<Entry, DecideStop>
+    requires valid { IsValid (node_check check.now) }
+    requires cone { IsConeOf (node_check check.now) cone.now }
     requires large { is_small limits (node_check check.now) steps ≡ false }
     requires within { IsWithinLimits (node_check check.now) }
-    ensures readable { IfOk result (IsReadable 2) }
-    ensures right { IfOk result (EntryOk (node_check check.now)) }
-    ensures verdict { IfOk result IsVerdict }
+    ensures given { IfOk result (IsGiven (node_check check.now)) }
     ensures caused { IfErr result (IsCaused steps (node_check check.now)) }
 {
-    let mut meter = Meter::new(steps);
-    match first_model(alloc, check, steps, &mut meter)? {
-        Some(pairs) => Ok(Entry::Sat(pairs)),
-        None => Err(DecideStop::Spent(
-            meter.count(Unit::Trial),
-            meter.count(Unit::Reduction),
-            meter.count(Unit::Assignment),
-            meter.count(Unit::Chain),
-        )),
+    let first = first_count(cone.nodes.len(), steps);
+    let early = first.min(EARLY_TRIALS);
+    let mut trials = Meter::new(steps);
+    let mut engine = Meter::new(steps - first);
+    let mut enumeration = Enumeration::new(alloc, check, cone)?;
+    if enumeration.go_on(check, cone, early, &mut trials) {
+        return Ok(Entry::Sat(enumeration.into_values(check)));
     }
+    if let Some(entry) = proposed(alloc, check, &mut engine)? {
+        return Ok(entry);
+    }
+    let left = steps - early - spent(&engine);
+    if enumeration.go_on(check, cone, left, &mut trials) {
+        return Ok(Entry::Sat(enumeration.into_values(check)));
+    }
+    Err(spent_by(&trials, &engine, steps))
 }
 
 /// Decides a check within a budget of units of work.
 ///
-/// A check with few assignments is gone through. Of another one whose equalities are within the limits of polynomials, as many
-/// assignments are tried as there are units.
+/// A check with few assignments is gone through. Of another one whose equalities are within the limits of polynomials, some
+/// assignments are tried, and the engine over polynomials is asked for an entry, which is given where it is readable and the
+/// checker accepts it.
 ///
 /// # Errors
 ///
 /// A stop says why there is no entry: `IsCaused` has the condition of each but `Memory`, which may come at any time.
 pub fn decide(alloc: Global, check: &Check, steps: u64) -> Result<Entry, DecideStop>
     requires valid { IsValid (node_check check.now) }
-    requires some { 0 < steps }
-    requires few { steps ≤ 1000000000000 }
     ensures readable { IfOk result (IsReadable 2) }
     ensures right { IfOk result (EntryOk (node_check check.now)) }
     ensures verdict { IfOk result IsVerdict }
     ensures decided { OnOk result (MayBeDecided steps (node_check check.now)) }
     ensures caused { IfErr result (IsCaused steps (node_check check.now)) }
 {
-    if let Some(span) = small_span(check, steps)? {
-        return decide_small(alloc, check, span, steps);
+    let cone = Cone::of(alloc, check)?;
+    if let Some(span) = small_span(check, &cone, steps) {
+        return decide_small(alloc, check, &cone, span, steps);
     }
-    check_limits(check)?;
-    decide_large(alloc, check, steps)
+    check_limits(check, &cone)?;
+    decide_large(alloc, check, &cone, steps)
 }

@@ -1,85 +1,32 @@
 //! Going through the assignments of a check's constants by number.
-ghost use Rattle.std.specs.Prelude.{◌≡◌, ℕ, ◌+◌, ◌<◌, ◌≤◌, length, map, replicate, true, false, IfOk, IfSome, IfNone};
-ghost use Rattle.std.specs.List.Sorted.{IsStrictlyIncreasing};
+ghost use Rattle.std.specs.Prelude.{◌≡◌, ◌+◌, ◌≤◌, length, map, replicate, true, false, IsTrue, IfOk};
 ghost use Rattle.ffc_base.specs.Metering.{total};
-ghost use Rattle.ffc_term.specs.Checks.{IsClosed, AreNodesOf, AreConstantsOf};
-ghost use Rattle.ffc_term.specs.Lists.{HaveSameNumbers};
 ghost use Rattle.ffc_term.specs.declared.value.Value.TheVariants as value;
-ghost use Rattle.ffc_rules.specs.Assignments.{are_true, has_model_below};
+ghost use Rattle.ffc_rules.specs.Assignments.{are_true};
 ghost use Rattle.ffc_rules.specs.Laws.{IsValid};
 ghost use Rattle.ffc_check.specs.Judged.{node_check};
-ghost use Rattle.ffc_theory.specs.Counting.{HasDigits};
+ghost use Rattle.ffc_theory.specs.Enumerating.{IsReached, IsModelFound, with_zeros};
+ghost use Rattle.ffc_theory.specs.Parts.{IsConeOf};
 ghost use Rattle.ffc_theory.specs.Stops.{AreModelValues};
 
+use crate::cone::Cone;
 use crate::counting::{advance, list_numbers};
 use ffc_base::{Meter, Unit};
 use ffc_cert::Sequence;
-use ffc_term::{Assignment, Check, NodeId, Value, distinct};
+use ffc_term::{Assignment, Check, NodeId, Value};
 use std::alloc::{AllocError, Global};
+use std::mem;
 
-/// What a check's assignments are tried on: the nodes of the check, the assertions and the constants among them, each in
-/// increasing order.
-#[derive(Clone, Copy)]
-struct Cone<'a> {
-    nodes: &'a [NodeId],
-    assertions: &'a [NodeId],
-    constants: &'a [NodeId],
-}
-
-/// Whether all assertions are true under an assignment. The nodes are evaluated up to the first assertion that is false; their
-/// values go into `out`.
-fn is_model(check: &Check, cone: &Cone, assignment: &Assignment, out: &mut [Value]) -> bool
-    requires nodes { AreNodesOf check.now.table.now check.now.in_force.now cone.now.nodes.now }
-    requires closed { IsClosed check.now.table.now cone.now.nodes.now }
-    requires increasing { IsStrictlyIncreasing cone.now.assertions.now }
-    requires assertions { HaveSameNumbers cone.now.assertions.now check.now.in_force.now }
-    requires long { length out.old ≡ length check.now.table.now }
-    ensures { result ≡ are_true check.now.table.now check.now.in_force.now assignment.now }
-{
-    check
-        .table
-        .are_true(cone.nodes, cone.assertions, assignment, out)
-}
-
-/// The first of so many assignments that makes all assertions true. Each is one Trial. It takes no memory.
-fn search(
-    check: &Check,
-    cone: &Cone,
-    tries: u64,
-    meter: &mut Meter,
+/// Where the assignments of a check were gone through to, with all memory that this takes.
+#[derive(Drop)]
+pub struct Enumeration {
+    alloc: Global,
+    /// The next assignment; where a model was found, the model.
     values: Vec<Value>,
-    out: &mut [Value],
-) -> Option<Vec<Value>>
-    requires valid { IsValid (node_check check.now) }
-    requires nodes { AreNodesOf check.now.table.now check.now.in_force.now cone.now.nodes.now }
-    requires closed { IsClosed check.now.table.now cone.now.nodes.now }
-    requires increasing { IsStrictlyIncreasing cone.now.assertions.now }
-    requires assertions { HaveSameNumbers cone.now.assertions.now check.now.in_force.now }
-    requires constants { AreConstantsOf check.now.table.now check.now.in_force.now cone.now.constants.now }
-    requires values { length values.items ≡ length check.now.table.now }
-    requires first { HasDigits check.now.table.now cone.now.constants.now values.items 0 }
-    requires long { length out.old ≡ length check.now.table.now }
-    requires room { total meter.old + tries ≤ meter.old.budget }
-    ensures found { IfSome result (λ values. are_true check.now.table.now check.now.in_force.now values.items ≡ true) }
-    ensures digits { IfSome result (λ values. (k : ℕ) × HasDigits check.now.table.now cone.now.constants.now values.items k) }
-    ensures none { IfNone result (has_model_below check.now.table.now check.now.in_force.now tries ≡ false) }
-    ensures spent { IfNone result (total meter.new ≡ total meter.old + tries) }
-    ensures same_budget { meter.new.budget ≡ meter.old.budget }
-{
-    let mut values = values;
-    for number in 0..tries {
-        let Ok(()) = meter.take(Unit::Trial) else {
-            return None;
-        };
-        let assignment = Assignment::new(values);
-        let found = is_model(check, cone, &assignment, out);
-        values = assignment.into_vec();
-        if found {
-            return Some(values);
-        }
-        advance(check.table, cone.constants, values.as_mut_slice());
-    }
-    None
+    /// Room for the values of nodes.
+    out: Vec<Value>,
+    /// Room for a value of each declared constant.
+    pairs: Vec<(u32, u64)>,
 }
 
 /// So many values, all false.
@@ -91,43 +38,89 @@ fn blank(alloc: Global, count: usize) -> Result<Vec<Value>, AllocError>
 
 /// Each of these nodes with 0 beside it.
 fn with_zeros(alloc: Global, ids: &[NodeId]) -> Result<Vec<(u32, u64)>, AllocError>
-    ensures { IfOk result (λ pairs. pairs.items ≡ map (λ id. (id, 0)) ids.now) }
+    ensures { IfOk result (λ pairs. pairs.items ≡ with_zeros ids.now) }
 {
     ids.iter().map(|id| (*id, 0)).collect(alloc)
 }
 
-/// What the first model among so many assignments gives the declared constants. All memory is taken before the first Trial.
-pub fn first_model(
-    alloc: Global,
-    check: &Check,
-    tries: u64,
-    meter: &mut Meter,
-) -> Result<Option<Sequence<(u32, u64)>>, AllocError>
-    requires valid { IsValid (node_check check.now) }
-    requires room { total meter.old + tries ≤ meter.old.budget }
-    ensures found { IfOk result (λ found. IfSome found (AreModelValues (node_check check.now))) }
-    ensures none { IfOk result (λ found. IfNone found (has_model_below check.now.table.now check.now.in_force.now tries ≡ false)) }
-    ensures spent { IfOk result (λ found. IfNone found (total meter.new ≡ total meter.old + tries)) }
-    ensures same_budget { meter.new.budget ≡ meter.old.budget }
-{
-    let nodes = check.table.nodes_of(check.in_force)?;
-    let assertions = distinct(alloc, check.in_force)?;
-    let constants = check.table.constants_of(check.in_force)?;
-    let cone = Cone {
-        nodes: nodes.as_slice(),
-        assertions: assertions.as_slice(),
-        constants: constants.as_slice(),
-    };
-    let count = check.table.len() as usize;
-    let values = blank(alloc, count)?;
-    let mut out = blank(alloc, count)?;
-    let mut pairs = with_zeros(alloc, check.declared)?;
-    let found = search(check, &cone, tries, meter, values, out.as_mut_slice());
-    match found {
-        Some(values) => {
-            list_numbers(check.table, values.as_slice(), pairs.as_mut_slice());
-            Ok(Some(Sequence::from_vec(pairs)))
+impl Enumeration {
+    /// Before the first assignment.
+    pub fn new(alloc: Global, check: &Check, cone: &Cone) -> Result<Enumeration, AllocError>
+        requires valid { IsValid (node_check check.now) }
+        requires cone { IsConeOf (node_check check.now) cone.now }
+        ensures { IfOk result (IsReached (node_check check.now) 0) }
+    {
+        let count = check.table.len() as usize;
+        Ok(Enumeration {
+            alloc,
+            values: blank(alloc, count)?,
+            out: blank(alloc, count)?,
+            pairs: with_zeros(alloc, check.declared)?,
+        })
+    }
+
+    /// Whether all assertions are true under the next assignment. The nodes are evaluated up to the first assertion that is false.
+    fn is_model(&mut self, check: &Check, cone: &Cone) -> bool
+        requires valid { IsValid (node_check check.now) }
+        requires cone { IsConeOf (node_check check.now) cone.now }
+        requires long { length self.old.out.items ≡ length check.now.table.now }
+        ensures model { result ≡ are_true check.now.table.now check.now.in_force.now self.old.values.items }
+        ensures values { self.new.values.items ≡ self.old.values.items }
+        ensures out { length self.new.out.items ≡ length self.old.out.items }
+        ensures pairs { self.new.pairs.items ≡ self.old.pairs.items }
+    {
+        let values = mem::replace(&mut self.values, Vec::new(self.alloc));
+        let assignment = Assignment::new(values);
+        let found = check.table.are_true(
+            cone.nodes.as_slice(),
+            cone.assertions.as_slice(),
+            &assignment,
+            self.out.as_mut_slice(),
+        );
+        self.values = assignment.into_vec();
+        found
+    }
+
+    /// Goes through so many more assignments, up to the first under which all assertions are true, and says whether there is one.
+    /// Each is one Trial. It takes no memory.
+    pub fn go_on(&mut self, check: &Check, cone: &Cone, tries: u64, meter: &mut Meter) -> bool
+        requires valid { IsValid (node_check check.now) }
+        requires cone { IsConeOf (node_check check.now) cone.now }
+        requires reached { IsReached (node_check check.now) (total meter.old) self.old }
+        requires room { total meter.old + tries ≤ meter.old.budget }
+        ensures found { IsTrue result → IsModelFound (node_check check.now) self.new }
+        ensures none { result ≡ false → IsReached (node_check check.now) (total meter.new) self.new }
+        ensures spent { result ≡ false → total meter.new ≡ total meter.old + tries }
+        ensures same_budget { meter.new.budget ≡ meter.old.budget }
+    {
+        for _ in 0..tries {
+            let Ok(()) = meter.take(Unit::Trial) else {
+                return false;
+            };
+            if self.is_model(check, cone) {
+                return true;
+            }
+            advance(
+                check.table,
+                cone.constants.as_slice(),
+                self.values.as_mut_slice(),
+            );
         }
-        None => Ok(None),
+        false
+    }
+
+    /// What the model that was found gives the declared constants.
+    pub fn into_values(self, check: &Check) -> Sequence<(u32, u64)>
+        requires valid { IsValid (node_check check.now) }
+        requires found { IsModelFound (node_check check.now) self }
+        ensures { AreModelValues (node_check check.now) result }
+    {
+        let Enumeration {
+            values,
+            mut pairs,
+            ..
+        } = self;
+        list_numbers(check.table, values.as_slice(), pairs.as_mut_slice());
+        Sequence::from_vec(pairs)
     }
 }

@@ -1,12 +1,18 @@
 //! Decides checks: gives each an entry of a certificate, or says why there is none.
 //!
-//! For now a check is decided by going through the assignments of its constants.
+//! A check is decided by going through the assignments of its constants, or by an entry that the engine proposes and the checker
+//! accepts.
 #![tactic(auto)]
 
+mod cone;
 mod counting;
 mod deciding;
 mod enumerate;
 mod limits;
+mod proposing;
+mod readable;
+#[cfg(test)]
+mod readable_tests;
 mod stop;
 #[cfg(test)]
 mod tests;

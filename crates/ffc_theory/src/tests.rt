@@ -1,4 +1,4 @@
-//! Checks that one constant has a power of some value.
+//! Checks that one constant has a power of some value, decided, and entries that are proposed for them.
 ghost use Rattle.std.specs.Prelude.{◌≡◌, IsTrue, All, [], ◌∷◌};
 ghost use Rattle.std.specs.List.{list_all};
 ghost use Rattle.ffc_field.specs.Orders.{IsOrder};
@@ -8,11 +8,12 @@ ghost use Rattle.ffc_rules.specs.Entries.{is_boolean};
 ghost use Rattle.ffc_rules.specs.Laws.{IsValid};
 ghost use Rattle.ffc_check.specs.Judged.{node_check};
 
+use crate::proposing::tested;
 use crate::{DecideStop, decide};
-use ffc_cert::Entry;
+use ffc_cert::{Cause, CertLine, Entry, Sequence};
 use ffc_field::FieldId;
 use ffc_term::{Check, Node, NodeId, NodeList, NodeTable, Sort, TermStop};
-use std::alloc::Global;
+use std::alloc::{AllocError, Global};
 use std::process::Abort;
 use std::test::Fail;
 
@@ -161,7 +162,12 @@ fn power_table(
 #[derive(Clone, Copy, Debug, PartialEq, Eq)]
 enum Answer {
     Sat(u64),
+    /// By cases.
     Unsat,
+    /// By clauses and lemmas.
+    Refuted,
+    /// So many units were spent in all.
+    Spent(u64),
     Stop(DecideStop),
     Other,
 }
@@ -173,7 +179,14 @@ fn answer_of(decided: Result<Entry, DecideStop>) -> Answer {
             _ => Answer::Other,
         },
         Ok(Entry::UnsatCases) => Answer::Unsat,
+        Ok(Entry::UnsatSteps(_)) => Answer::Refuted,
         Ok(_) => Answer::Other,
+        Err(DecideStop::Spent(trials, reductions, assignments, chains)) => Answer::Spent(
+            trials
+                .wrapping_add(reductions)
+                .wrapping_add(assignments)
+                .wrapping_add(chains),
+        ),
         Err(stop) => Answer::Stop(stop),
     }
 }
@@ -181,21 +194,18 @@ fn answer_of(decided: Result<Entry, DecideStop>) -> Answer {
 const GOLDILOCKS: u64 = 18_446_744_069_414_584_321;
 
 /// The order, the number of squares, n, the steps, and the answer.
-const ROWS: [(u64, u32, u64, u64, Answer); 11] = [
+const ROWS: [(u64, u32, u64, u64, Answer); 14] = [
     (17, 1, 16, 17, Answer::Sat(4)),
+    (17, 1, 16, u64::MAX, Answer::Sat(4)),
+    (17, 1, 16, 0, Answer::Spent(0)),
     (17, 1, 3, 17, Answer::Unsat),
-    (17, 1, 3, 16, Answer::Stop(DecideStop::Spent(16, 0, 0, 0))),
-    (17, 1, 16, 4, Answer::Stop(DecideStop::Spent(4, 0, 0, 0))),
-    (17, 1, 16, 5, Answer::Sat(4)),
+    (17, 1, 3, 2, Answer::Spent(2)),
+    (17, 1, 16, 4, Answer::Spent(4)),
     (17, 1, 0, 1, Answer::Sat(0)),
-    (
-        GOLDILOCKS,
-        1,
-        4,
-        2,
-        Answer::Stop(DecideStop::Spent(2, 0, 0, 0)),
-    ),
-    (GOLDILOCKS, 1, 4, 3, Answer::Sat(2)),
+    (GOLDILOCKS, 1, 4, 2, Answer::Spent(2)),
+    (GOLDILOCKS, 1, 4, 6, Answer::Sat(2)),
+    (GOLDILOCKS, 1, 250_000, 100_000, Answer::Sat(500)),
+    (GOLDILOCKS, 1, 7, 100_000, Answer::Refuted),
     (17, 8, 1, 17, Answer::Sat(1)),
     (17, 8, 1, 16, Answer::Stop(DecideStop::TooHigh)),
     (17, 7, 1, 16, Answer::Sat(1)),
@@ -214,12 +224,72 @@ fn powers(rt: HostRuntime) -> Result<(), Fail> {
             first_order: order,
         };
         assert!(rt; is_valid(&check));
-        assert!(rt; steps > 0 && steps <= 1_000_000_000_000);
         assert_eq!(rt;
             answer_of(decide(alloc, &check, steps)),
             answer,
             "{order} {squares} {n} {steps}"
         );
+    }
+    Ok(())
+}
+
+/// What is proposed.
+#[derive(Clone, Copy, Debug, PartialEq, Eq)]
+enum Proposal {
+    Value(u64),
+    Cases,
+    /// A line of a tree in a clause's place.
+    Tree,
+    /// No clause.
+    Nothing,
+    Unknown,
+}
+
+fn entry_of(alloc: Global, proposal: Proposal) -> Result<Entry, AllocError> {
+    match proposal {
+        Proposal::Value(value) => {
+            let mut pairs = Sequence::new(alloc);
+            pairs.push((0, value))?;
+            Ok(Entry::Sat(pairs))
+        }
+        Proposal::Cases => Ok(Entry::UnsatCases),
+        Proposal::Tree => {
+            let mut lines = Sequence::new(alloc);
+            lines.push(CertLine::Close)?;
+            Ok(Entry::UnsatSteps(lines))
+        }
+        Proposal::Nothing => Ok(Entry::UnsatSteps(Sequence::new(alloc))),
+        Proposal::Unknown => Ok(Entry::Unknown(Cause::Degree)),
+    }
+}
+
+/// n, what is proposed for the check that a square is n modulo 17, and whether it is given.
+const PROPOSALS: [(u64, Proposal, bool); 8] = [
+    (16, Proposal::Value(4), true),
+    (16, Proposal::Value(5), false),
+    (16, Proposal::Value(21), false),
+    (16, Proposal::Cases, false),
+    (3, Proposal::Cases, true),
+    (3, Proposal::Tree, false),
+    (3, Proposal::Nothing, false),
+    (3, Proposal::Unknown, false),
+];
+
+#[test]
+fn proposals(rt: HostRuntime) -> Result<(), Fail> {
+    let alloc = rt.alloc();
+    for (n, proposal, given) in PROPOSALS {
+        let (table, asserted) = power_table(&rt, alloc, 17, 1, n)?;
+        let in_force = [asserted];
+        let check = Check {
+            table: &table,
+            declared: &[0],
+            in_force: &in_force,
+            first_order: 17,
+        };
+        assert!(rt; is_valid(&check));
+        let found = tested(alloc, &check, entry_of(alloc, proposal)?);
+        assert_eq!(rt; matches!(found, Ok(Some(_))), given, "{n} {proposal:?}");
     }
     Ok(())
 }

@@ -1,4 +1,4 @@
-use Rattle.std.proofs.Common.{◌≡◌, ℕ, ◌-◌, List, [], ◌∷◌, ◌++◌, codes, decimal, sym, ap, ap₂, ◌∙◌, append_assoc}
+use Rattle.std.proofs.Common.{◌≡◌, ℕ, ◌-◌, List, [], ◌∷◌, ◌++◌, codes, decimal, ap, ap₂, ◌∙◌, append_assoc}
 use Rattle.ffc_solve.proofs.generated.push_step.Goals as goal
 
 line3 : (p d s : List ℕ) → p ++ (d ++ (s ++ 10 ∷ [])) ≡ ((p ++ d) ++ s) ++ 10 ∷ []

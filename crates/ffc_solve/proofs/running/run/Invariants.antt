@@ -6,8 +6,8 @@ use Rattle.ffc_solve.proofs.running.run.Given as goal
 -- the commands so far are answered
 abbrev pub invariant-commands : goal.invariant-commands
 invariant-commands g l = record {
-  going : IsGoing l.session (g.C.Sink.holds l.initial.cert) (g.C.Sink.holds l.cert) (g.O.Sink.holds l.initial.out) (g.O.Sink.holds l.out) (g.S.Source.left l.initial.script) (g.S.Source.left l.script);
-  budget : l.session.steps ≡ l.initial.session.steps;
+  going : IsGoing l.dialogue (g.C.Sink.holds l.initial.cert) (g.C.Sink.holds l.cert) (g.O.Sink.holds l.initial.out) (g.O.Sink.holds l.out) (g.S.Source.left l.initial.script) (g.S.Source.left l.script);
+  budget : l.dialogue.steps ≡ l.initial.dialogue.steps;
   name : g.C.Sink.name l.cert ≡ g.C.Sink.name l.initial.cert;
   later_script : g.S.Source.faults l.initial.script ≤ g.S.Source.faults l.script;
   later_out : g.O.Sink.faults l.initial.out ≤ g.O.Sink.faults l.out;
@@ -16,4 +16,4 @@ invariant-commands g l = record {
 
 -- each time a command is taken or a byte is read
 abbrev pub decreases-commands : goal.decreases-commands
-decreases-commands g l = 134217731 - (length l.session.reader.text + length (steps_of l.session.reader))
+decreases-commands g l = 134217731 - (length l.dialogue.reader.text + length (steps_of l.dialogue.reader))

@@ -1,4 +1,4 @@
-use Rattle.std.proofs.Common.{rules, ◌≡◌, List, ℕ, Some, map, sym, ap, ◌∙◌, subst, string_bytes}
+use Rattle.std.proofs.Common.{rules, ◌≡◌, Some, ap, ◌∙◌, subst, string_bytes}
 use Rattle.ffc_base.specs.Outside.{Appends, AppendsPrefix}
 use Rattle.ffc_answer.specs.Answers.{made_answer}
 use Rattle.ffc_solve.specs.Generated.{made_text}
@@ -20,9 +20,9 @@ returns-in_err-refused-clause-err g c =
     let oo = g.O.Sink.holds c.args.out.now in
     let on = g.O.Sink.holds c.run.new.out in
     let bytes : c.into_bytes.result.items ≡ made_text c.args.size = search rules in
-    let cut = told_at _ (made_text c.args.size) (λ b. IsCut c.in_ok-session.session.steps b c1 cn oo on) (c.new-script.ensures.tells ∙ ap Some bytes) c.in_err-refused.ensures.err in
+    let cut = told_at _ (made_text c.args.size) (λ b. IsCut c.in_ok-dialogue.dialogue.steps b c1 cn oo on) (c.new-script.ensures.tells ∙ ap Some bytes) c.in_err-refused.ensures.err in
     on_err c.from_residual-in_err-refused.result _ (stopped_from c.args.plan.now.steps (Some c.args.size) (made_text c.args.size) co c1 cn oo on c.in_ok-create_certificate.ensures.ok
-    (subst (λ n. IsCut n (made_text c.args.size) c1 cn oo on) c.in_ok-session.ensures.steps cut))
+    (subst (λ n. IsCut n (made_text c.args.size) c1 cn oo on) c.in_ok-dialogue.ensures.steps cut))
 
 pub returns-in_err-refused-clause-cause_out : goal.returns-in_err-refused-clause-cause_out
 returns-in_err-refused-clause-cause_out g c = λ is. c.run.ensures.cause_out (search rules)
@@ -38,9 +38,9 @@ returns-in_err-line-clause-err g c =
     let oo = g.O.Sink.holds c.args.out.now in
     let o1 = g.O.Sink.holds c.run.new.out in
     let bytes : c.into_bytes.result.items ≡ made_text c.args.size = search rules in
-    let first = told_at _ (made_text c.args.size) (λ b. IsAnswered c.in_ok-session.session.steps b c.in_ok-refused.refused c.run.new.session c1 cn oo o1) (c.new-script.ensures.tells ∙ ap Some bytes) c.in_ok-refused.ensures.ok in
-    let h : IsAnswered c.args.plan.now.steps (made_text c.args.size) c.in_ok-refused.refused c.run.new.session c1 cn oo o1 = subst (λ n. IsAnswered n (made_text c.args.size) c.in_ok-refused.refused c.run.new.session c1 cn oo o1) c.in_ok-session.ensures.steps first in
-    on_err c.from_residual-in_err-line.result _ (made_silent c.args.plan.now.steps c.args.size (made_text c.args.size) c.in_ok-refused.refused c.run.new.session co c1 cn oo o1 c.in_ok-create_certificate.ensures.ok h)
+    let first = told_at _ (made_text c.args.size) (λ b. IsAnswered c.in_ok-dialogue.dialogue.steps b c.in_ok-refused.refused c.run.new.dialogue c1 cn oo o1) (c.new-script.ensures.tells ∙ ap Some bytes) c.in_ok-refused.ensures.ok in
+    let h : IsAnswered c.args.plan.now.steps (made_text c.args.size) c.in_ok-refused.refused c.run.new.dialogue c1 cn oo o1 = subst (λ n. IsAnswered n (made_text c.args.size) c.in_ok-refused.refused c.run.new.dialogue c1 cn oo o1) c.in_ok-dialogue.ensures.steps first in
+    on_err c.from_residual-in_err-line.result _ (made_silent c.args.plan.now.steps c.args.size (made_text c.args.size) c.in_ok-refused.refused c.run.new.dialogue co c1 cn oo o1 c.in_ok-create_certificate.ensures.ok h)
 
 pub returns-in_err-write_out-clause-err : goal.returns-in_err-write_out-clause-err
 returns-in_err-write_out-clause-err g c =
@@ -51,12 +51,12 @@ returns-in_err-write_out-clause-err g c =
     let o1 = g.O.Sink.holds c.run.new.out in
     let on = g.O.Sink.holds c.write_out.new.out in
     let bytes : c.into_bytes.result.items ≡ made_text c.args.size = search rules in
-    let first = told_at _ (made_text c.args.size) (λ b. IsAnswered c.in_ok-session.session.steps b c.in_ok-refused.refused c.run.new.session c1 cn oo o1) (c.new-script.ensures.tells ∙ ap Some bytes) c.in_ok-refused.ensures.ok in
-    let h : IsAnswered c.args.plan.now.steps (made_text c.args.size) c.in_ok-refused.refused c.run.new.session c1 cn oo o1 = subst (λ n. IsAnswered n (made_text c.args.size) c.in_ok-refused.refused c.run.new.session c1 cn oo o1) c.in_ok-session.ensures.steps first in
+    let first = told_at _ (made_text c.args.size) (λ b. IsAnswered c.in_ok-dialogue.dialogue.steps b c.in_ok-refused.refused c.run.new.dialogue c1 cn oo o1) (c.new-script.ensures.tells ∙ ap Some bytes) c.in_ok-refused.ensures.ok in
+    let h : IsAnswered c.args.plan.now.steps (made_text c.args.size) c.in_ok-refused.refused c.run.new.dialogue c1 cn oo o1 = subst (λ n. IsAnswered n (made_text c.args.size) c.in_ok-refused.refused c.run.new.dialogue c1 cn oo o1) c.in_ok-dialogue.ensures.steps first in
     let line = c.in_ok-line.ensures h.entries h.tally in
     let shown : c.as_bytes.result.now ≡ string_bytes c.in_ok-line.line = search rules in
     let told : AppendsPrefix (made_answer (Some c.args.size) h.entries) o1 on = subst (λ a. AppendsPrefix a o1 on) (shown ∙ line) c.in_err-write_out.ensures.err in
-    on_err c.from_residual-in_err-write_out.result _ (made_cut c.args.plan.now.steps c.args.size (made_text c.args.size) c.in_ok-refused.refused c.run.new.session co c1 cn oo o1 on c.in_ok-create_certificate.ensures.ok h told)
+    on_err c.from_residual-in_err-write_out.result _ (made_cut c.args.plan.now.steps c.args.size (made_text c.args.size) c.in_ok-refused.refused c.run.new.dialogue co c1 cn oo o1 on c.in_ok-create_certificate.ensures.ok h told)
 
 pub returns-in_err-write_out-clause-cause_out : goal.returns-in_err-write_out-clause-cause_out
 returns-in_err-write_out-clause-cause_out g c = λ is. rose_later _ _ _ c.run.ensures.later_out (c.write_out.ensures.cause (search rules))
@@ -73,12 +73,12 @@ returns-clause-ok g c =
     let o1 = g.O.Sink.holds c.run.new.out in
     let on = g.O.Sink.holds c.write_out.new.out in
     let bytes : c.into_bytes.result.items ≡ made_text c.args.size = search rules in
-    let first = told_at _ (made_text c.args.size) (λ b. IsAnswered c.in_ok-session.session.steps b c.in_ok-refused.refused c.run.new.session c1 cn oo o1) (c.new-script.ensures.tells ∙ ap Some bytes) c.in_ok-refused.ensures.ok in
-    let h : IsAnswered c.args.plan.now.steps (made_text c.args.size) c.in_ok-refused.refused c.run.new.session c1 cn oo o1 = subst (λ n. IsAnswered n (made_text c.args.size) c.in_ok-refused.refused c.run.new.session c1 cn oo o1) c.in_ok-session.ensures.steps first in
+    let first = told_at _ (made_text c.args.size) (λ b. IsAnswered c.in_ok-dialogue.dialogue.steps b c.in_ok-refused.refused c.run.new.dialogue c1 cn oo o1) (c.new-script.ensures.tells ∙ ap Some bytes) c.in_ok-refused.ensures.ok in
+    let h : IsAnswered c.args.plan.now.steps (made_text c.args.size) c.in_ok-refused.refused c.run.new.dialogue c1 cn oo o1 = subst (λ n. IsAnswered n (made_text c.args.size) c.in_ok-refused.refused c.run.new.dialogue c1 cn oo o1) c.in_ok-dialogue.ensures.steps first in
     let line = c.in_ok-line.ensures h.entries h.tally in
     let shown : c.as_bytes.result.now ≡ string_bytes c.in_ok-line.line = search rules in
     let told : Appends (made_answer (Some c.args.size) h.entries) o1 on = subst (λ a. Appends a o1 on) (shown ∙ line) c.in_ok-write_out.ensures.ok in
-    made_whole c.args.plan.now.steps c.args.size (made_text c.args.size) c.in_ok-refused.refused c.run.new.session co c1 cn oo o1 on c.in_ok-create_certificate.ensures.ok h told
+    made_whole c.args.plan.now.steps c.args.size (made_text c.args.size) c.in_ok-refused.refused c.run.new.dialogue co c1 cn oo o1 on c.in_ok-create_certificate.ensures.ok h told
 
 pub returns-clause-refused : goal.returns-clause-refused
 returns-clause-refused g c =
@@ -87,5 +87,5 @@ returns-clause-refused g c =
     let oo = g.O.Sink.holds c.args.out.now in
     let o1 = g.O.Sink.holds c.run.new.out in
     let bytes : c.into_bytes.result.items ≡ made_text c.args.size = search rules in
-    let first = told_at _ (made_text c.args.size) (λ b. IsAnswered c.in_ok-session.session.steps b c.in_ok-refused.refused c.run.new.session c1 cn oo o1) (c.new-script.ensures.tells ∙ ap Some bytes) c.in_ok-refused.ensures.ok in
+    let first = told_at _ (made_text c.args.size) (λ b. IsAnswered c.in_ok-dialogue.dialogue.steps b c.in_ok-refused.refused c.run.new.dialogue c1 cn oo o1) (c.new-script.ensures.tells ∙ ap Some bytes) c.in_ok-refused.ensures.ok in
     IsAnswered.ended first

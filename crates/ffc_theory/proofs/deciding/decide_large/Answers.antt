@@ -1,18 +1,33 @@
-use Rattle.std.proofs.Common.{◌≡◌, ◌+◌, arith, ap}
+use Rattle.std.proofs.Common.{◌≡◌, ◌-◌, ◌≤◌, length, refl, ap, ◌∙◌, subst, sym, arith}
 use Rattle.std.proofs.lemmas.Result.{err_from_is_err_and}
-use Rattle.ffc_base.specs.Metering.{total}
+use Rattle.ffc_base.specs.Metering.{Spending, total}
+use Rattle.ffc_rules.specs.Causes.{first_count}
+use Rattle.ffc_rules.specs.Entries.{limits}
 use Rattle.ffc_check.specs.Judged.{node_check}
-use Rattle.ffc_theory.proofs.LimitLemmas.{spent_caused, memory_caused}
+use Rattle.ffc_theory.proofs.LimitLemmas.{memory_caused, stopped_by_memory, all_spent, first-is}
 use Rattle.ffc_theory.proofs.deciding.decide_large.Goals as goal
 
-pub returns-in_err-pairs-clause-caused : goal.returns-in_err-pairs-clause-caused
-returns-in_err-pairs-clause-caused c = let p = err_from_is_err_and c.from_residual.result c.from_residual.ensures.1 in rw (p.1, p.2) (memory_caused (node_check c.args.check.now) c.args.steps)
+pub returns-in_err-enumeration-clause-caused : goal.returns-in_err-enumeration-clause-caused
+returns-in_err-enumeration-clause-caused c = let p = err_from_is_err_and c.from_residual.result c.from_residual.ensures.1 in rw (p.1, p.2) (memory_caused (node_check c.args.check.now) c.args.steps)
 
-pub returns-in-None-clause-caused : goal.returns-in-None-clause-caused
-returns-in-None-clause-caused c =
-    let spent = rw c.in-None.is at c.in_ok-pairs.ensures.spent in
-    let begun = ap total c.new-meter.ensures in
-    let counts : c.count.result + c.count-in-None.result + c.count-in-None-2.result + c.count-in-None-3.result ≡ c.args.steps =
-    let t = c.count.ensures.count in let r = c.count-in-None.ensures.count in let a = c.count-in-None-2.ensures.count in let k = c.count-in-None-3.ensures.count in omega arith in
-    spent_caused (node_check c.args.check.now) c.args.steps c.requires.large c.count.result c.count-in-None.result c.count-in-None-2.result c.count-in-None-3.result c.requires.within counts
-    (rw c.in-None.is at c.in_ok-pairs.ensures.none)
+pub returns-in_err-entry-clause-caused : goal.returns-in_err-entry-clause-caused
+returns-in_err-entry-clause-caused c =
+    let p = err_from_is_err_and c.from_residual-in_err-entry.result c.from_residual-in_err-entry.ensures.1 in
+    rw (p.1, p.2) (stopped_by_memory (node_check c.args.check.now) c.args.steps c.in_err-entry.field-0.0 c.in_err-entry.ensures.only)
+
+pub returns-clause-caused : goal.returns-clause-caused
+returns-clause-caused c =
+    let check = node_check c.args.check.now in
+    let first = first-is check c.args.steps c.len.result c.first_count-first.result
+    (c.len.ensures ∙ c.args.cone.now.nodes.ok.0 ∙ ap length c.requires.cone.all) c.first_count-first.ensures.count in
+    let tried = total c.go_on-2.new.meter in
+    let enough : c.first_count-first.result ≤ tried =
+    let within = c.first_count-first.ensures.within in
+    let early = c.min-early.ensures in
+    let begun = ap total c.new-trials.ensures in
+    let once = c.if-go_on.ensures.spent refl in
+    let twice = c.if-go_on-2.ensures.spent refl in
+    let budget : c.proposed.new.meter.budget ≡ c.args.steps - c.first_count-first.result = c.in_ok-entry.ensures.same_budget ∙ ap (λ (m : Spending). m.budget) c.new-engine.ensures in
+    let units = c.spent.ensures.within in
+    omega arith in
+    all_spent check c.args.steps c.requires.large c.spent_by.result tried c.requires.within c.spent_by.ensures (subst (λ n. n ≤ tried) (sym first) enough) (c.if-go_on-2.ensures.none refl).none

@@ -1,13 +1,19 @@
-use Rattle.std.proofs.Common.{sym, ap, ◌∙◌}
+use Rattle.std.proofs.Common.{◌≡◌, false, sym, ap, ◌∙◌, subst, refl, arith}
+use Rattle.ffc_base.specs.Metering.{total}
 use Rattle.ffc_rules.specs.Assignments.{has_model_below}
 use Rattle.ffc_check.specs.Judged.{node_check}
 use Rattle.ffc_theory.proofs.LimitLemmas.{cases_right, cases_readable}
 use Rattle.ffc_theory.proofs.deciding.decide_small.Goals as goal
 
-pub returns-in-None-clause-readable : goal.returns-in-None-clause-readable
-returns-in-None-clause-readable c = cases_readable
-
-pub returns-in-None-clause-right : goal.returns-in-None-clause-right
-returns-in-None-clause-right c =
-    let check = c.args.check.now in
-    cases_right (node_check check) c.requires.valid c.requires.small.work (ap (has_model_below check.table.now check.in_force.now) (sym c.requires.small.all) ∙ rw c.in-None.is at c.in_ok-pairs.ensures.none)
+pub returns-clause-given : goal.returns-clause-given
+returns-clause-given c =
+    let check = node_check c.args.check.now in
+    let begun = ap total c.new-trials.ensures in
+    let after = c.if-go_on.ensures.spent refl in
+    let all : total c.go_on.new.meter ≡ c.args.span = omega arith in
+    record {
+      readable = cases_readable;
+      right = cases_right check c.requires.valid c.requires.small.work
+          (ap (has_model_below check.nodes check.in_force) (sym (all ∙ c.requires.small.all)) ∙ (c.if-go_on.ensures.none refl).none);
+      verdict = tt;
+    }

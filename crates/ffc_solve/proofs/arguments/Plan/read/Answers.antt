@@ -1,6 +1,5 @@
-use Rattle.std.proofs.Common.{unwrap_or, ◌≡◌, ℕ, true, [], List, Option, map, codes, inl, inr, refl, sym, ap, ◌∙◌, subst}
-use Rattle.clap.specs.Words.{App, Text, app_of, fault_of, first_of, first_value, found_of, HasKind, is_simple, is_simple_and_free, matches_of}
-use Rattle.clap.specs.declared.parser.matches.ArgMatches.{ArgMatches}
+use Rattle.std.proofs.Common.{unwrap_or, ◌≡◌, true, [], map, codes, inl, inr, refl, sym, ap, ◌∙◌, subst}
+use Rattle.clap.specs.Words.{fault_of, first_of, found_of, HasKind, is_simple, is_simple_and_free, matches_of}
 use Rattle.clap.proofs.OnLiterals.{clap_on_literals}
 use Rattle.clap.proofs.WalkLemmas.{first_value-rows}
 use Rattle.ffc_solve.specs.Arguments.{IsInRange, IsNumber, IsNumberOr, IsOutside, number_given, solve_app}

@@ -1,0 +1,5 @@
+pub mod ListingLemmas
+pub mod LimitLemmas
+pub mod PartLemmas
+pub mod ExpandLemmas
+pub mod WaitingLemmas

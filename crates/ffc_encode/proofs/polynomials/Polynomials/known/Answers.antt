@@ -1,0 +1,15 @@
+use Rattle.std.proofs.Common.{rules, arith}
+use Rattle.std.proofs.lemmas.Grind.{common_steps}
+use Rattle.ffc_ring.specs.Polynomial.{SamePolynomial}
+use Rattle.ffc_term.specs.Tables.{IsTable}
+use Rattle.ffc_trees.specs.NodePolynomials.{poly_at}
+use Rattle.ffc_encode.proofs.ExpandLemmas.{values_of_node}
+use Rattle.ffc_encode.proofs.polynomials.Polynomials.known.Goals as goal
+
+pub returns-in-Some-clause-value : goal.returns-in-Some-clause-value
+returns-in-Some-clause-value g c =
+    let p = g.F.Field.ORDER in
+    let nodes = c.args.self.now in
+    let same : SamePolynomial p c.in-Some.found.now (poly_at nodes c.args.id) = first_of (search rules, grind (arith, common_steps)) in
+    let table : IsTable nodes = first_of (search rules, grind (arith, common_steps)) in
+    values_of_node nodes p c.args.id c.in-Some.found.now table c.requires same

@@ -1,0 +1,154 @@
+//! What equalities say as polynomials that are zero.
+use crate::equalities::{is_of_order, sides};
+use ffc_cdcl::Lit;
+use ffc_encode::{EncodeStop, poly_of};
+use ffc_field::Field;
+use ffc_mono::{GradedReverseLex, Mono, MonoStop};
+use ffc_poly::{Poly, PolyStop};
+use ffc_term::{NodeId, NodeTable, distinct};
+use std::alloc::{AllocError, AllocFailed, Global};
+
+/// The polynomials of the engine.
+pub type Generator<F> = Poly<F, GradedReverseLex>;
+
+/// Why polynomials are not made.
+#[derive(Clone, Copy, Debug, PartialEq, Eq)]
+pub enum GeneratorStop {
+    /// A limit of polynomials was passed.
+    Over,
+    /// Out of memory.
+    Memory,
+}
+
+impl From<AllocError> for GeneratorStop {
+    fn from(_: AllocError) -> GeneratorStop {
+        GeneratorStop::Memory
+    }
+}
+
+impl<T: Drop> From<AllocFailed<T>> for GeneratorStop {
+    fn from(_: AllocFailed<T>) -> GeneratorStop {
+        GeneratorStop::Memory
+    }
+}
+
+impl From<EncodeStop> for GeneratorStop {
+    fn from(stop: EncodeStop) -> GeneratorStop {
+        match stop {
+            EncodeStop::TooHigh | EncodeStop::TooLong => GeneratorStop::Over,
+            EncodeStop::Memory => GeneratorStop::Memory,
+        }
+    }
+}
+
+impl From<PolyStop> for GeneratorStop {
+    fn from(stop: PolyStop) -> GeneratorStop {
+        match stop {
+            PolyStop::DegreeOver | PolyStop::TermsOver => GeneratorStop::Over,
+            PolyStop::Memory => GeneratorStop::Memory,
+        }
+    }
+}
+
+impl From<MonoStop> for GeneratorStop {
+    fn from(stop: MonoStop) -> GeneratorStop {
+        match stop {
+            MonoStop::DegreeOver => GeneratorStop::Over,
+            MonoStop::Memory => GeneratorStop::Memory,
+        }
+    }
+}
+
+/// The polynomial of a field node.
+fn node_poly<F: Field>(
+    alloc: Global,
+    table: &NodeTable,
+    id: NodeId,
+) -> Result<Generator<F>, GeneratorStop> {
+    if !is_of_order(table, F::ORDER, id) {
+        return Err(GeneratorStop::Over);
+    }
+    Ok(poly_of::<F, GradedReverseLex>(alloc, table, id)?)
+}
+
+/// One side of an equality minus the other.
+fn difference<F: Field>(
+    alloc: Global,
+    table: &NodeTable,
+    id: NodeId,
+) -> Result<Generator<F>, GeneratorStop> {
+    let Some((left, right)) = sides(table, id) else {
+        return Err(GeneratorStop::Over);
+    };
+    let left = node_poly::<F>(alloc, table, left)?;
+    let right = node_poly::<F>(alloc, table, right)?;
+    Ok(left.sub(&right)?)
+}
+
+/// The polynomial that is a constant.
+fn constant<F: Field>(alloc: Global, value: F) -> Result<Generator<F>, GeneratorStop> {
+    let mut terms = Vec::new(alloc);
+    terms.push((value, Mono::from_pairs(alloc, &[])?))?;
+    Ok(Poly::from_terms(alloc, terms.as_slice())?)
+}
+
+/// Says that a polynomial has an inverse, which is a variable: their product minus 1.
+fn with_inverse<F: Field>(
+    alloc: Global,
+    poly: &Generator<F>,
+    variable: u32,
+) -> Result<Generator<F>, GeneratorStop> {
+    let inverse = Mono::from_pairs(alloc, &[(variable, 1)])?;
+    let minus_one = constant(alloc, F::of(1).neg())?;
+    Ok(minus_one.add_multiple(F::of(1), inverse.as_ref(), poly)?)
+}
+
+/// What the equalities say of their sides: each that holds that its sides' difference is zero, and each other one that the
+/// difference has an inverse. The inverse for the k-th equality is the variable `first + k`.
+pub fn generators<F: Field>(
+    alloc: Global,
+    table: &NodeTable,
+    equalities: &[Lit],
+    first: u32,
+) -> Result<Vec<Generator<F>>, GeneratorStop> {
+    let mut made = Vec::new(alloc);
+    let mut variable = first;
+    for equality in equalities {
+        let poly = difference::<F>(alloc, table, equality.node)?;
+        if equality.positive {
+            made.push(poly)?;
+        } else {
+            made.push(with_inverse(alloc, &poly, variable)?)?;
+        }
+        let Some(next) = variable.checked_add(1) else {
+            return Err(GeneratorStop::Over);
+        };
+        variable = next;
+    }
+    Ok(made)
+}
+
+/// Appends the variables of a polynomial.
+fn append_variables<F: Field>(
+    poly: &Generator<F>,
+    variables: &mut Vec<u32>,
+) -> Result<(), AllocError> {
+    for (_, monomial) in poly.iter() {
+        for power in monomial.pairs() {
+            variables.push(power.0)?;
+        }
+    }
+    Ok(())
+}
+
+/// The variables of some polynomials, each once, in increasing order.
+pub fn variables_of<F: Field>(
+    alloc: Global,
+    polys: &[Generator<F>],
+) -> Result<Vec<u32>, AllocError> {
+    let mut variables = Vec::new(alloc);
+    for poly in polys {
+        append_variables(poly, &mut variables)?;
+    }
+    distinct(alloc, variables.as_slice())
+}

@@ -1,0 +1,75 @@
+//! Why the engine stops.
+use ffc_base::Spent;
+use ffc_basis::BasisStop;
+use ffc_cdcl::CdclStop;
+use std::alloc::{AllocError, AllocFailed};
+
+/// Why the engine stops before it has an answer.
+#[derive(Clone, Copy, Debug, PartialEq, Eq)]
+pub enum EngineStop {
+    /// The meter is full.
+    Spent,
+    /// Out of memory.
+    Memory,
+}
+
+impl From<AllocError> for EngineStop {
+    ghost use Rattle.std.specs.Prelude.{◌≡◌};
+    ghost use Rattle.ffc_engine.specs.declared.stop.EngineStop.TheVariants.{Memory};
+
+    ghost from_gives = { λ _ stop. stop ≡ Memory };
+
+    fn from(_: AllocError) -> EngineStop {
+        EngineStop::Memory
+    }
+}
+
+impl<T: Drop> From<AllocFailed<T>> for EngineStop {
+    ghost use Rattle.std.specs.Prelude.{◌≡◌};
+    ghost use Rattle.ffc_engine.specs.declared.stop.EngineStop.TheVariants.{Memory};
+
+    ghost from_gives = { λ _ stop. stop ≡ Memory };
+
+    fn from(_: AllocFailed<T>) -> EngineStop {
+        EngineStop::Memory
+    }
+}
+
+impl From<Spent> for EngineStop {
+    ghost use Rattle.std.specs.Prelude.{◌≡◌};
+    ghost use Rattle.ffc_engine.specs.declared.stop.EngineStop.TheVariants as stops;
+
+    ghost from_gives = { λ _ stop. stop ≡ stops.Spent };
+
+    fn from(_: Spent) -> EngineStop {
+        EngineStop::Spent
+    }
+}
+
+impl From<CdclStop> for EngineStop {
+    ghost use Rattle.std.specs.Prelude.{◌≡◌};
+    ghost use Rattle.ffc_engine.specs.Stops.{of_cdcl};
+
+    ghost from_gives = { λ stop made. made ≡ of_cdcl stop };
+
+    fn from(stop: CdclStop) -> EngineStop {
+        match stop {
+            CdclStop::Spent => EngineStop::Spent,
+            CdclStop::Memory => EngineStop::Memory,
+        }
+    }
+}
+
+impl From<BasisStop> for EngineStop {
+    ghost use Rattle.std.specs.Prelude.{◌≡◌};
+    ghost use Rattle.ffc_engine.specs.Stops.{of_basis};
+
+    ghost from_gives = { λ stop made. made ≡ of_basis stop };
+
+    fn from(stop: BasisStop) -> EngineStop {
+        match stop {
+            BasisStop::Spent => EngineStop::Spent,
+            BasisStop::Memory => EngineStop::Memory,
+        }
+    }
+}
