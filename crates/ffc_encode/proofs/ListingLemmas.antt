@@ -1,6 +1,5 @@
 -- The clauses of a node, listed in turn, are those of its schemes.
-use Rattle.std.proofs.Common.{◌≡◌, ℕ, zero, suc, ◌+◌, ◌<◌, Bool, List, [], ◌∷◌, ◌++◌, length, map, take, drop, get_or, All, Option, Some, None, slice_get, refl, sym, ap, ap₂, ◌∙◌, subst, arith, append_assoc, append-nil, length-take, not, Result, OnOk}
-use Rattle.std.proofs.lemmas.Result.{on_ok_weaker}
+use Rattle.std.proofs.Common.{◌≡◌, ℕ, zero, suc, ◌+◌, ◌<◌, Bool, List, [], ◌∷◌, ◌++◌, length, map, take, drop, get_or, All, Option, Some, None, slice_get, refl, sym, ap, ap₂, ◌∙◌, subst, arith, append_assoc, append-nil, length-take, not}
 use Rattle.std.specs.Prelude.{flat_map}
 use Rattle.std.specs.List.{range_with_len}
 use Rattle.std.proofs.lemmas.List.{take_more, length-map}
@@ -11,7 +10,7 @@ use Rattle.ffc_term.specs.declared.node.Node.TheVariants.{True, False, Not, And,
 use Rattle.ffc_term.specs.declared.value.Value.{Value}
 use Rattle.ffc_term.specs.Nodes.{IsNodeAt}
 use Rattle.ffc_term.specs.Tables.{IsTable, second_equality}
-use Rattle.ffc_clause.specs.Clauses.{Clause, plus, minus}
+use Rattle.ffc_clause.specs.Clauses.{Clause}
 use Rattle.ffc_rules.specs.Schemes.{one, schemes, schemes_at, scheme_clauses, scheme_clause, all_schemes}
 use Rattle.ffc_rules.specs.Clauses.{IsTrueClause}
 use Rattle.ffc_rules.proofs.SchemeLemmas.{scheme_true}
@@ -29,7 +28,7 @@ module _ {A B : Type 0} (f : ℕ → A → List B) where
       ∙ sym (append_assoc (f k y) (counted f (k + 1) xs) (f (k + 1 + length xs) x))
       ∙ ap (λ n. (f k y ++ counted f (k + 1) xs) ++ f n x) (let same : k + 1 + length xs ≡ k + suc (length xs) = omega arith in same)
 
-  abbrev if_there : ℕ → Option A → List B
+  abbrev pub if_there : ℕ → Option A → List B
   if_there k None = []
   if_there k (Some x) = f k x
 
@@ -134,46 +133,34 @@ pub map_push : {X Y : Type 0} (f : X → Y) (xs : List X) (x : X) → map f (xs 
 map_push f [] x = refl
 map_push f (y ∷ xs) x = ap (λ l. f y ∷ l) (map_push f xs x)
 
-pub children_more : (v i index : ℕ) (all : Bool) (ids : List ℕ) (old now new : List NodeClause) → i < length ids → index ≡ i → now ≡ old ++ indexed v 0 0 (child_clauses v all (take i ids)) → new ≡ now ++ clause_of v 0 index ((not all, v) ∷ (all, get_or ids i 0) ∷ []) ∷ [] → new ≡ old ++ indexed v 0 0 (child_clauses v all (take (i + 1) ids))
-children_more v i index all ids old now new inside same e f =
-    let push = λ (k : ℕ) (lits : Clause). clause_of v 0 k lits ∷ [] in
+pub rows_more : (v i : ℕ) (rows : List Clause) (row : Clause) (old now new : List NodeClause) → i < length rows → row ≡ get_or rows i row → now ≡ old ++ numbered v 0 (map one (take i rows)) → new ≡ now ++ clause_of v i 0 row ∷ [] → new ≡ old ++ numbered v 0 (map one (take (i + 1) rows))
+rows_more v i rows row old now new inside is e f =
+    let f_of = λ (scheme : ℕ) (clauses : List Clause). indexed v scheme 0 clauses in
+    let before : List (List Clause) = map one (take i rows) in
+    let many : 0 + length before ≡ i = omega (arith, length-map (take i rows) one, length-take i rows) in
+    let longer : map one (take (i + 1) rows) ≡ before ++ one row ∷ [] = ap (map one) (take_more rows i row inside ∙ ap (λ x. take i rows ++ x ∷ []) (sym is)) ∙ map_push one (take i rows) row in
+    f ∙ ap (λ l. l ++ clause_of v i 0 row ∷ []) e
+    ∙ append_assoc old (numbered v 0 before) (clause_of v i 0 row ∷ [])
+    ∙ ap (λ l. old ++ l) (sym (ap (numbered v 0) longer ∙ counted_more f_of 0 before (one row) ∙ ap (λ k. numbered v 0 before ++ indexed v k 0 (one row)) many))
+
+pub children_more : (v i : ℕ) (all : Bool) (ids : List ℕ) (id : ℕ) (old now new : List NodeClause) → i < length ids → id ≡ get_or ids i id → now ≡ old ++ indexed v 0 0 (child_clauses v all (take i ids)) → new ≡ now ++ clause_of v 0 i ((not all, v) ∷ (all, id) ∷ []) ∷ [] → new ≡ old ++ indexed v 0 0 (child_clauses v all (take (i + 1) ids))
+children_more v i all ids id old now new inside is e f =
+    let f_of = λ (index : ℕ) (lits : Clause). clause_of v 0 index lits ∷ [] in
     let of = λ (a : ℕ). (not all, v) ∷ (all, a) ∷ [] in
     let before : List Clause = map of (take i ids) in
-    let last : Clause = of (get_or ids i 0) in
-    let many : 0 + length before ≡ index = omega (arith, length-map (take i ids) of, length-take i ids, same, inside) in
-    let longer : map of (take (i + 1) ids) ≡ before ++ last ∷ [] = ap (map of) (take_more ids i 0 inside) ∙ map_push of (take i ids) (get_or ids i 0) in
-    let more = ap (indexed v 0 0) longer ∙ counted_more push 0 before last ∙ ap (λ k. indexed v 0 0 before ++ clause_of v 0 k last ∷ []) many in
-    f ∙ ap (λ l. l ++ clause_of v 0 index last ∷ []) e
-    ∙ append_assoc old (indexed v 0 0 before) (clause_of v 0 index last ∷ [])
-    ∙ ap (λ l. old ++ l) (sym more)
+    let many : 0 + length before ≡ i = omega (arith, length-map (take i ids) of, length-take i ids) in
+    let longer : map of (take (i + 1) ids) ≡ before ++ of id ∷ [] = ap (map of) (take_more ids i id inside ∙ ap (λ x. take i ids ++ x ∷ []) (sym is)) ∙ map_push of (take i ids) id in
+    f ∙ ap (λ l. l ++ clause_of v 0 i (of id) ∷ []) e
+    ∙ append_assoc old (indexed v 0 0 before) (clause_of v 0 i (of id) ∷ [])
+    ∙ ap (λ l. old ++ l) (sym (ap (indexed v 0 0) longer ∙ counted_more f_of 0 before (of id) ∙ ap (λ k. indexed v 0 0 before ++ clause_of v 0 k (of id) ∷ []) many))
 
 pub gate_listed : (v : ℕ) (all : Bool) (ids : List ℕ) (lits : Clause) (old mid new : List NodeClause) → mid ≡ old ++ indexed v 0 0 (child_clauses v all ids) → new ≡ mid ++ clause_of v 1 0 lits ∷ [] → lits ≡ (all, v) ∷ map (λ a. (not all, a)) ids → new ≡ old ++ numbered v 0 (gate v all ids)
 gate_listed v all ids lits old mid new e f g =
     f ∙ ap₂ (λ m l. m ++ clause_of v 1 0 l ∷ []) e g ∙ append_assoc old (indexed v 0 0 (child_clauses v all ids)) (clause_of v 1 0 ((all, v) ∷ map (λ a. (not all, a)) ids) ∷ [])
 
--- the clauses that were pushed are those of the node that is there
-pub pushed : {X E : Type 0} (r : Result X E) (ns : List Node) (v : ℕ) (m n : Node) (old new : List NodeClause) → IsNodeAt ns v m → m ≡ n → OnOk r (new ≡ old ++ numbered v 0 (schemes v n)) → OnOk r (new ≡ old ++ clauses_at ns v)
-pushed r ns v m n old new at is =
-    let there : IsNodeAt ns v n = subst (IsNodeAt ns v) is at in
-    let same : clauses_at ns v ≡ numbered v 0 (schemes v n) = clauses_listed ns v ∙ ap (numbered v 0) (schemes_of_node ns v n there) in
-    on_ok_weaker r (λ e. e ∙ ap (λ l. old ++ l) (sym same))
-
-pub gate_pushed : {X E : Type 0} (r : Result X E) (v : ℕ) (all : Bool) (xs ids : List ℕ) (old new : List NodeClause) → xs ≡ ids → OnOk r (new ≡ old ++ numbered v 0 (gate v all xs)) → OnOk r (new ≡ old ++ numbered v 0 (gate v all ids))
-gate_pushed r v all xs ids old new same = on_ok_weaker r (λ e. e ∙ ap (λ l. old ++ numbered v 0 (gate v all l)) same)
-
--- the schemes of an `ite` of field sort, with the numbers of its equalities
-abbrev pub choice : ℕ → ℕ → ℕ → List (List Clause)
-choice c first second = one (minus c ∷ plus first ∷ []) ∷ one (plus c ∷ plus second ∷ []) ∷ []
-
-pub choice_pushed : {X E : Type 0} (r : Result X E) (ns : List Node) (v c a b first second : ℕ) (n : Node) (old new : List NodeClause) → IsTable ns → IsNodeAt ns v n → n ≡ IteField c a b → (IsNodeAt ns v (IteField c a b) → IsNodeAt ns first (Eq v a)) → (IsNodeAt ns v (IteField c a b) → IsNodeAt ns second (Eq v b)) → OnOk r (new ≡ old ++ numbered v 0 (choice c first second)) → OnOk r (new ≡ old ++ clauses_at ns v)
-choice_pushed r ns v c a b first second n old new table at is one_at other_at h =
-    let there : IsNodeAt ns v (IteField c a b) = subst (IsNodeAt ns v) is at in
-    let e = first_equality ns v c a b first table there (one_at there) in
-    let f = other_equality ns v c a b second table there (other_at there) in
-    pushed r ns v n (IteField c a b) old new at is (on_ok_weaker r (λ g. g ∙ ap₂ (λ x y. old ++ numbered v 0 (choice c x y)) e f) h)
-
-pub nothing_pushed : (ns : List Node) (v : ℕ) (n : Node) (old : List NodeClause) → IsNodeAt ns v n → schemes v n ≡ [] → old ≡ old ++ clauses_at ns v
-nothing_pushed ns v n old at none = sym (append-nil old) ∙ ap (λ l. old ++ l) (sym (clauses_listed ns v ∙ ap (numbered v 0) (schemes_of_node ns v n at ∙ none)))
+-- the clauses of a node that is there
+pub node_listed : (ns : List Node) (v : ℕ) (n : Node) (old new : List NodeClause) → IsNodeAt ns v n → new ≡ old ++ numbered v 0 (schemes v n) → new ≡ old ++ clauses_at ns v
+node_listed ns v n old new at e = e ∙ ap (λ l. old ++ l) (sym (clauses_listed ns v ∙ ap (numbered v 0) (schemes_of_node ns v n at)))
 
 pub other_schemes : (v : ℕ) (n : Node) → (n ≡ True → ⊥) → (n ≡ False → ⊥) → ((a : ℕ) → n ≡ Not a → ⊥) → ((ids : List ℕ) → n ≡ And ids → ⊥) → ((ids : List ℕ) → n ≡ Or ids → ⊥) → ((a b : ℕ) → n ≡ Iff a b → ⊥) → ((a b : ℕ) → n ≡ Xor a b → ⊥) → ((c a b : ℕ) → n ≡ IteBool c a b → ⊥) → ((c a b : ℕ) → n ≡ IteField c a b → ⊥) → schemes v n ≡ []
 other_schemes v True a b c d e f g h k = absurd (a refl)
@@ -186,3 +173,8 @@ other_schemes v (Xor x y) a b c d e f g h k = absurd (g x y refl)
 other_schemes v (IteBool x y z) a b c d e f g h k = absurd (h x y z refl)
 other_schemes v (IteField x y z) a b c d e f g h k = absurd (k x y z refl)
 other_schemes v _ a b c d e f g h k = refl
+
+pub nodes_more : (ns : List Node) (ids : List ℕ) (i id : ℕ) (now new : List NodeClause) → i < length ids → id ≡ get_or ids i id → now ≡ node_clauses ns (take i ids) → new ≡ now ++ clauses_at ns id → new ≡ node_clauses ns (take (i + 1) ids)
+nodes_more ns ids i id now new inside is e f =
+    f ∙ ap (λ l. l ++ clauses_at ns id) e ∙ ap (λ l. node_clauses ns (take i ids) ++ l) (sym (append-nil (clauses_at ns id)))
+    ∙ sym (ap (node_clauses ns) (take_more ids i id inside ∙ ap (λ x. take i ids ++ x ∷ []) (sym is)) ∙ flat_map-append (clauses_at ns) (take i ids) (id ∷ []))

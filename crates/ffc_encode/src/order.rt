@@ -21,11 +21,7 @@ struct Visit {
 }
 
 /// Lets nodes wait to be looked at.
-fn visit_all(
-    waiting: &mut BinaryHeap<Visit>,
-    ids: &[NodeId],
-    made: bool,
-) -> Result<(), AllocError>
+fn visit_all(waiting: &mut BinaryHeap<Visit>, ids: &[NodeId], made: bool) -> Result<(), AllocError>
     ensures { OnOk result (IsPermutation (map (visit_of made) ids.now ++ heap_items waiting.old) (heap_items waiting.new)) }
 {
     for id in ids {

@@ -26,11 +26,7 @@ pub struct Owed {
 }
 
 /// Lets a multiple of a node's polynomial wait.
-fn owe<F: Field>(
-    waiting: &mut BinaryHeap<Owed>,
-    node: NodeId,
-    weight: F,
-) -> Result<(), AllocError>
+fn owe<F: Field>(waiting: &mut BinaryHeap<Owed>, node: NodeId, weight: F) -> Result<(), AllocError>
     ensures { OnOk result (IsPermutation (owed_of node (F.value weight) ∷ heap_items waiting.old) (heap_items waiting.new)) }
 {
     waiting.push(Owed {

@@ -74,10 +74,19 @@ fn are_some_boolean(table: &NodeTable, ids: &[NodeId]) -> bool
 /// The order of BabyBear.
 const ORDER: u64 = 2013265921;
 
+/// The order of the first of these nodes, or 0.
+fn order_of_first(table: &NodeTable, ids: &[NodeId]) -> u64 {
+    match ids.first() {
+        Some(id) if *id < table.len() => table.sort_of(*id).order(),
+        _ => 0,
+    }
+}
+
 fn are_of_one_field(table: &NodeTable, ids: &[NodeId]) -> bool
     ensures { IsTrue result → AreOfOneField table.now ids.now }
 {
-    !ids.is_empty() && are_field(table, ORDER, ids)
+    let order = order_of_first(table, ids);
+    !ids.is_empty() && are_field(table, order, ids)
 }
 
 fn fits(table: &NodeTable, node: &Node) -> bool
@@ -151,7 +160,12 @@ fn list(alloc: Global, ids: &[NodeId]) -> Result<NodeList, AllocError> {
 fn text_of_clauses(alloc: Global, clauses: &[NodeClause]) -> Result<String, AllocError> {
     let mut text = String::new(alloc);
     for clause in clauses {
-        let NodeClause { node, scheme, index, lits } = clause;
+        let NodeClause {
+            node,
+            scheme,
+            index,
+            lits,
+        } = clause;
         write!(text, "{node} {scheme} {index}")?;
         for (positive, id) in lits.as_slice() {
             let sign = if *positive { "+" } else { "-" };
@@ -261,20 +275,34 @@ fn poly_text(alloc: Global, table: &NodeTable, id: NodeId) -> Result<String, Enc
     Ok(text_of(alloc, &poly)?)
 }
 
+/// The text of a node's polynomial, made after that of another node.
+fn kept_text(
+    alloc: Global,
+    table: &NodeTable,
+    first: NodeId,
+    id: NodeId,
+) -> Result<String, EncodeStop>
+    requires first { IsFieldAt table.now 2013265921 first }
+    requires second { IsFieldAt table.now 2013265921 id }
+{
+    let mut polys = Polynomials::<BabyBear, GradedReverseLex>::new(alloc, table);
+    polys.learn(first)?;
+    polys.learn(id)?;
+    match polys.known(id) {
+        Some(poly) => Ok(text_of(alloc, poly)?),
+        None => Err(EncodeStop::Memory),
+    }
+}
+
 #[test]
 fn polynomials_of_field_nodes(rt: HostRuntime) -> Result<(), Fail> {
     let alloc = rt.alloc();
     let table = field_table(&rt, alloc)?;
-    let mut polys = Polynomials::<BabyBear, GradedReverseLex>::new(alloc, &table);
+    assert!(rt; is_field(&table, ORDER, 14));
     for (id, wanted) in POLYS {
         assert!(rt; is_field(&table, ORDER, id));
         assert_eq!(rt; poly_text(alloc, &table, id)?.as_str(), wanted, "{id}");
-        polys.learn(id)?;
-        if let Some(poly) = polys.known(id) {
-            assert_eq!(rt; text_of(alloc, poly)?.as_str(), wanted, "{id}");
-        } else {
-            assert!(rt; false, "{id}");
-        }
+        assert_eq!(rt; kept_text(alloc, &table, 14, id)?.as_str(), wanted, "{id}");
     }
     Ok(())
 }

@@ -194,14 +194,15 @@ fn answer_of(decided: Result<Entry, DecideStop>) -> Answer {
 const GOLDILOCKS: u64 = 18_446_744_069_414_584_321;
 
 /// The order, the number of squares, n, the steps, and the answer.
-const ROWS: [(u64, u32, u64, u64, Answer); 14] = [
+const ROWS: [(u64, u32, u64, u64, Answer); 15] = [
     (17, 1, 16, 17, Answer::Sat(4)),
     (17, 1, 16, u64::MAX, Answer::Sat(4)),
     (17, 1, 16, 0, Answer::Spent(0)),
     (17, 1, 3, 17, Answer::Unsat),
     (17, 1, 3, 2, Answer::Spent(2)),
     (17, 1, 16, 4, Answer::Spent(4)),
-    (17, 1, 0, 1, Answer::Sat(0)),
+    (17, 1, 0, 1, Answer::Spent(1)),
+    (17, 1, 0, 2, Answer::Sat(0)),
     (GOLDILOCKS, 1, 4, 2, Answer::Spent(2)),
     (GOLDILOCKS, 1, 4, 6, Answer::Sat(2)),
     (GOLDILOCKS, 1, 250_000, 100_000, Answer::Sat(500)),

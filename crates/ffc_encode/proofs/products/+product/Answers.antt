@@ -36,9 +36,10 @@ product-requires g t c κs within =
     let fields = c.requires.factors.fields in
     let whole : front ++ back ≡ ids = ap₂ (λ a b. a ++ b) c.split_at.ensures.front c.split_at.ensures.back ∙ take-append-drop _ ids in
     let first : All (IsFieldAt nodes p) front = subst (All (IsFieldAt nodes p)) (sym c.split_at.ensures.front) (All-take (IsFieldAt nodes p) _ ids fields) in
-    let second : All (IsFieldAt nodes p) back = subst (All (IsFieldAt nodes p)) (sym c.split_at.ensures.back) (All-drop (IsFieldAt nodes p) _ ids fields) in
-    (omega (arith, c.decreases, c.split_at.ensures.back_len, c.split_at.ensures.front_len, c.in_default.len_at_least),
-    (search rules, (search rules, (c.requires.valid, (c.requires.known, front_factors nodes p c.requires.valid front back ids whole c.requires.factors first second)))))
+    let second : All (IsFieldAt nodes p) back = subst (All (IsFieldAt nodes p)) (sym c.split_at.ensures.back) (All-drop (IsFieldAt nodes p) _ ids fields) in (
+      omega (arith, c.decreases, c.split_at.ensures.back_len, c.split_at.ensures.front_len, c.in_default.len_at_least),
+      (search rules, (search rules, (c.requires.valid, (c.requires.known, front_factors nodes p c.requires.valid front back ids whole c.requires.factors first second)))),
+    )
 
 pub product-requires-in_default : goal.product-requires-in_default
 product-requires-in_default g t c κs within =
@@ -50,9 +51,10 @@ product-requires-in_default g t c κs within =
     let fields = c.requires.factors.fields in
     let whole : front ++ back ≡ ids = ap₂ (λ a b. a ++ b) c.split_at.ensures.front c.split_at.ensures.back ∙ take-append-drop _ ids in
     let first : All (IsFieldAt nodes p) front = subst (All (IsFieldAt nodes p)) (sym c.split_at.ensures.front) (All-take (IsFieldAt nodes p) _ ids fields) in
-    let second : All (IsFieldAt nodes p) back = subst (All (IsFieldAt nodes p)) (sym c.split_at.ensures.back) (All-drop (IsFieldAt nodes p) _ ids fields) in
-    (omega (arith, c.decreases, c.split_at.ensures.back_len, c.split_at.ensures.front_len, c.in_default.len_at_least),
-    (search rules, (search rules, (c.requires.valid, (c.requires.known, back_factors nodes p c.requires.valid front back ids whole c.requires.factors first second)))))
+    let second : All (IsFieldAt nodes p) back = subst (All (IsFieldAt nodes p)) (sym c.split_at.ensures.back) (All-drop (IsFieldAt nodes p) _ ids fields) in (
+      omega (arith, c.decreases, c.split_at.ensures.back_len, c.split_at.ensures.front_len, c.in_default.len_at_least),
+      (search rules, (search rules, (c.requires.valid, (c.requires.known, back_factors nodes p c.requires.valid front back ids whole c.requires.factors first second)))),
+    )
 
 pub both-requires-clause-low : goal.both-requires-clause-low
 both-requires-clause-low g t c =
