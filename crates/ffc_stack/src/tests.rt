@@ -59,13 +59,13 @@ fn levels(rt: HostRuntime) -> Result<(), Fail> {
     pop_undoes_push::<F5, GradedReverseLex>();
     push_goes_on::<F5, GradedReverseLex>();
     let mut stack = Stack::new(alloc);
-    let mut depth = 0;
+    let mut depth: u64 = 0;
     for (generator, wanted, pops) in STEPS {
         let gens = [line_of(alloc, generator)?];
         let completion = stack
             .push(&gens, &mut Meter::new(100))
             .map_err(|_| "stopped")?;
-        depth += 1;
+        depth = depth.wrapping_add(1);
         assert_eq!(rt; stack.depth(), depth);
         assert_eq!(rt; generators(&stack) as u64, depth);
         assert_eq!(rt; found(&stack, completion)?, wanted);
