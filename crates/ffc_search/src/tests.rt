@@ -1,4 +1,4 @@
-use crate::{Found, search};
+use crate::{Found, SearchStop, search};
 use ffc_base::Meter;
 use ffc_field::{BabyBear, F5, Field, Goldilocks};
 use ffc_mono::{GradedReverseLex, Lex, Mono, MonoOrder};
@@ -44,6 +44,24 @@ fn sum<F: Field, O: MonoOrder>(alloc: Global, rows: &[Row<'_>]) -> Result<Poly<F
     Ok(Poly::from_terms(alloc, terms.as_slice())?)
 }
 
+/// The kind of an answer, and the values that it has.
+fn kind_of<F: Field>(
+    alloc: Global,
+    answer: &Result<Found<F>, SearchStop>,
+) -> Result<(Kind, Vec<u64>), Fail> {
+    let mut values = Vec::new(alloc);
+    match answer {
+        Ok(Found::Values(found)) => {
+            for value in found.as_slice() {
+                values.push(value.residue())?;
+            }
+            Ok((Kind::Values, values))
+        }
+        Ok(Found::Closed(_)) => Ok((Kind::Closed, values)),
+        Err(_) => Ok((Kind::Stopped, values)),
+    }
+}
+
 /// What the search answers for these generators.
 fn answer<F: Field, O: MonoOrder>(
     alloc: Global,
@@ -61,21 +79,11 @@ fn answer<F: Field, O: MonoOrder>(
         .push_within(polys.as_slice(), 4, &mut meter)
         .map_err(|_| "no level")?;
     let lines = stack.lines().len();
-    let mut values = Vec::new(alloc);
-    let kind = match search(alloc, &mut stack, vars, &mut meter) {
-        Ok(Found::Values(found)) => {
-            for value in found.as_slice() {
-                values.push(value.residue())?;
-            }
-            Kind::Values
-        }
-        Ok(Found::Closed(_)) => Kind::Closed,
-        Err(_) => Kind::Stopped,
-    };
+    let found = search(alloc, &mut stack, vars, &mut meter);
     if stack.depth() != 1 || stack.lines().len() != lines {
         return Err(Fail::from("the stack has changed"));
     }
-    Ok((kind, values))
+    kind_of(alloc, &found)
 }
 
 /// Whether the search closes these generators over both orders.
