@@ -16,68 +16,36 @@ const ORDER: u64 = 2_013_265_921;
 
 const SIZE: u32 = 4;
 
+/// The families, each with what it says and its verdict.
+const FAMILIES: [&str; 20] = [
+    "zero        tests for zero in a chain: the last answer is a bit                unsat",
+    "zero-open   the same, where the last answer is not bound                       sat",
+    "zero-twice  two copies of the chain with one input: their answers are equal    unsat",
+    "range       bits whose sum is past their greatest                              unsat",
+    "range-open  bits whose sum is in their range                                   sat",
+    "unique      two lists of bits with one sum have the same first bit             unsat",
+    "select      selections in a chain give one of their inputs                     unsat",
+    "xor         exclusive ors of bits in a chain give a bit                        unsat",
+    "adder       an adder of bits agrees with the sum of their numbers              unsat",
+    "inverse     inverses are unique                                                unsat",
+    "square      square roots are unique up to their sign                           unsat",
+    "rounds      two copies of a permutation of width 3, exponent 7, agree          unsat",
+    "rounds-open the same, where one input may differ                               sat",
+    "mimc        two copies of rounds of width 1, exponent 7, agree                 unsat",
+    "linear      linear equations that contradict their sum                         unsat",
+    "linear-open the same without the sum                                           sat",
+    "product     choices of two values each, whose product is 0                     unsat",
+    "sum         choices of two values each, whose sum is too great                 unsat",
+    "pigeons     one more number than there are values, all different               unsat",
+    "ite         a counter by ite stays in its range                                unsat",
+];
+
 /// Lists the families.
 fn list<R: Print>(rt: &R) -> io::Result<()> {
-    println!(rt;
-        "zero        tests for zero in a chain: the last answer is a bit                unsat"
-    )?;
-    println!(rt;
-        "zero-open   the same, where the last answer is not bound                       sat"
-    )?;
-    println!(rt;
-        "zero-twice  two copies of the chain with one input: their answers are equal    unsat"
-    )?;
-    println!(rt;
-        "range       bits whose sum is past their greatest                              unsat"
-    )?;
-    println!(rt;
-        "range-open  bits whose sum is in their range                                   sat"
-    )?;
-    println!(rt;
-        "unique      two lists of bits with one sum have the same first bit             unsat"
-    )?;
-    println!(rt;
-        "select      selections in a chain give one of their inputs                     unsat"
-    )?;
-    println!(rt;
-        "xor         exclusive ors of bits in a chain give a bit                        unsat"
-    )?;
-    println!(rt;
-        "adder       an adder of bits agrees with the sum of their numbers              unsat"
-    )?;
-    println!(rt;
-        "inverse     inverses are unique                                                unsat"
-    )?;
-    println!(rt;
-        "square      square roots are unique up to their sign                           unsat"
-    )?;
-    println!(rt;
-        "rounds      two copies of a permutation of width 3, exponent 7, agree          unsat"
-    )?;
-    println!(rt;
-        "rounds-open the same, where one input may differ                               sat"
-    )?;
-    println!(rt;
-        "mimc        two copies of rounds of width 1, exponent 7, agree                 unsat"
-    )?;
-    println!(rt;
-        "linear      linear equations that contradict their sum                         unsat"
-    )?;
-    println!(rt;
-        "linear-open the same without the sum                                           sat"
-    )?;
-    println!(rt;
-        "product     choices of two values each, whose product is 0                     unsat"
-    )?;
-    println!(rt;
-        "sum         choices of two values each, whose sum is too great                 unsat"
-    )?;
-    println!(rt;
-        "pigeons     one more number than there are values, all different               unsat"
-    )?;
-    println!(rt;
-        "ite         a counter by ite stays in its range                                unsat"
-    )
+    for family in FAMILIES {
+        println!(rt; "{family}")?;
+    }
+    Ok(())
 }
 
 /// Prints a script of a family.

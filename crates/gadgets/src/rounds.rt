@@ -1,4 +1,6 @@
 //! Rounds of permutations, and linear equations.
+ghost use Rattle.std.specs.Prelude.{◌≤◌};
+
 use crate::script::declare;
 use std::io;
 
@@ -65,7 +67,9 @@ pub fn mimc<R: Print>(rt: &R, size: u32) -> io::Result<()> {
 }
 
 /// The coefficient of a constant in an equation, from 1 to 1,000.
-fn coefficient(row: u32, column: u32) -> u64 {
+fn coefficient(row: u32, column: u32) -> u64
+    ensures { (1 ≤ result) × (result ≤ 1000) }
+{
     let seed = u64::from(row)
         .wrapping_mul(7919)
         .wrapping_add(u64::from(column).wrapping_mul(104_729));
