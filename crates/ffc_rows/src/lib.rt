@@ -10,6 +10,8 @@ mod checker;
 #[cfg(test)]
 mod deep;
 #[cfg(test)]
+mod engine;
+#[cfg(test)]
 mod failing;
 #[cfg(test)]
 mod pieces;
