@@ -1,5 +1,5 @@
 -- Each line leads on in the text of an entry: the entry that it completes is well formed and not too long, and has this text.
-use Rattle.std.proofs.Common.{◌≡◌, ℕ, zero, suc, ◌+◌, ◌-◌, ◌<◌, ◌≤◌, ◌==◌, ◌^◌, Bool, true, false, List, [], ◌∷◌, ◌++◌, length, take, min, Result, Ok, Err, refl, sym, ap, ◌∙◌, subst, arith, append_assoc, length-append}
+use Rattle.std.proofs.Common.{◌≡◌, ℕ, ◌+◌, ◌-◌, ◌<◌, ◌≤◌, ◌==◌, ◌^◌, Bool, true, false, List, [], ◌∷◌, ◌++◌, length, take, min, Result, Ok, Err, refl, sym, ap, ◌∙◌, subst, arith, append_assoc, length-append}
 use Rattle.std.specs.Prelude.{codes, nat_lt, if◌then◌else◌}
 use Rattle.std.specs.List.{AllByRecursion, flat_map}
 use Rattle.std.proofs.lemmas.List.{append-nil, length-take, take_all}
@@ -19,7 +19,7 @@ use Rattle.ffc_cert.specs.declared.progress.Place.{Place}
 use Rattle.ffc_cert.specs.declared.progress.Place.TheVariants.{Header, Between, Assignment, Refutation}
 use Rattle.ffc_cert.specs.declared.progress.Progress.{Progress}
 use Rattle.ffc_cert.specs.Lines.{line_at, value_at, opening_at}
-use Rattle.ffc_cert.specs.Reading.{Next, Halt, Move, Give, awaited_after, is_whole, fault_at, moved, completed, numbered, given, begun, with_value, with_line, limited, after, opening_line, assignment_line, refutation_line, next_in, next_at}
+use Rattle.ffc_cert.specs.Reading.{Next, Halt, Move, Give, awaited_after, is_whole, fault_at, moved, given, begun, with_value, with_line, limited, after, opening_line, assignment_line, refutation_line, next_in, next_at}
 use Rattle.ffc_cert.specs.Spelling.{number, line_items, line_text, value_line, clauses, entry_text}
 use Rattle.ffc_cert.specs.Ranges.{IsNarrow, IsLine, IsValue}
 use Rattle.ffc_cert.specs.Grammar.{no_clauses}

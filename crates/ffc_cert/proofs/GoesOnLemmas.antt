@@ -7,7 +7,7 @@ use Rattle.ffc_cert.specs.declared.TheConstants.{MAX_BYTES}
 use Rattle.ffc_cert.specs.declared.entries.CertFault.{CertFault}
 use Rattle.ffc_cert.specs.declared.entries.Numbered.{Numbered}
 use Rattle.ffc_cert.specs.declared.progress.Progress.{Progress}
-use Rattle.ffc_cert.specs.Reading.{Reading, End, Complete, Open, Stopped, Next, Halt, Move, Give, ending, with_entry, end_at, end_behind, cut_end, is_behind, next_at, read, read_text, reading_of, origin, is_line_end, fault_at}
+use Rattle.ffc_cert.specs.Reading.{Reading, End, Complete, Open, Stopped, Next, Halt, Move, Give, ending, with_entry, end_at, end_behind, cut_end, is_behind, next_at, read, read_text, origin, is_line_end, fault_at}
 use Rattle.ffc_cert.specs.Laws.{IsFront, GoesOn}
 use Rattle.ffc_cert.proofs.ReadLemmas.{after_next, read_line}
 use Rattle.ffc_cert.proofs.RestLemmas.{split_alone, rest_halts, cut_halts, behind_halts}

@@ -1,5 +1,5 @@
 -- Digits, and places of bytes.
-use Rattle.std.proofs.Common.{◌≡◌, ℕ, ◌<◌, ◌≤◌, ◌==◌, ◌^◌, ◌&&◌, Bool, true, false, zero, suc, ◌+◌, ◌*◌, ◌-◌, leb, ◌∷◌, [], List, length, get_or, take, refl, sym, ap, ◌∙◌, rules, arith, Option, Some, None, Result, Ok, Err}
+use Rattle.std.proofs.Common.{◌≡◌, ℕ, ◌<◌, ◌≤◌, ◌==◌, ◌^◌, ◌&&◌, Bool, true, false, zero, suc, ◌+◌, ◌*◌, ◌-◌, leb, ◌∷◌, [], List, length, get_or, take, refl, sym, ap, ◌∙◌, rules, arith, Option, Some, None}
 use Rattle.std.specs.Prelude.{unwrap_or}
 use Rattle.std.specs.Char.{is_ascii_digit, digit_value}
 use Rattle.std.proofs.lemmas.Str.{digit_value_digit}

@@ -1,5 +1,5 @@
 -- What is read of a text is its own text.
-use Rattle.std.proofs.Common.{◌≡◌, ℕ, zero, suc, ◌+◌, ◌<◌, ◌≤◌, ◌==◌, ◌⊎◌, Bool, true, false, List, [], ◌∷◌, ◌++◌, length, take, drop, min, Option, Some, None, inl, inr, refl, sym, ap, ◌∙◌, subst, arith, append_assoc, length-append}
+use Rattle.std.proofs.Common.{◌≡◌, ℕ, zero, suc, ◌+◌, ◌<◌, ◌≤◌, Bool, true, false, List, [], ◌∷◌, ◌++◌, length, take, drop, min, Option, Some, None, inl, inr, refl, sym, ap, ◌∙◌, subst, arith, append_assoc, length-append}
 use Rattle.std.specs.Prelude.{codes, decimal, nat_lt, nat_eq, slice_get, if◌then◌else◌}
 use Rattle.std.specs.List.{AllByRecursion, flat_map, slice_split, onto_first, starts_with}
 use Rattle.std.specs.Str.{bytes_eq}
@@ -9,7 +9,6 @@ use Rattle.std.proofs.lemmas.List.Splits.{slice_split-cons_yes, slice_split-cons
 use Rattle.std.proofs.lemmas.Bool.Decides.{Decides-eqb}
 use Rattle.std.proofs.lemmas.Slice.Eq.{bytes_eq-Decides, starts_is}
 use Rattle.ffc_cert.specs.declared.TheConstants.{MAX_BYTES}
-use Rattle.ffc_cert.specs.declared.entries.CertLine.{CertLine}
 use Rattle.ffc_cert.specs.declared.entries.Entry.{Entry}
 use Rattle.ffc_cert.specs.declared.entries.Entry.TheVariants.{Sat, UnsatCases, UnsatSteps, Unknown}
 use Rattle.ffc_cert.specs.declared.entries.Numbered.{Numbered}
@@ -26,7 +25,7 @@ use Rattle.ffc_cert.proofs.OpeningCodes.{value_items}
 use Rattle.ffc_cert.proofs.PrefixLemmas.{body_of}
 use Rattle.ffc_cert.proofs.ReadLemmas.{after_next, read_next}
 use Rattle.ffc_cert.proofs.SplitLemmas.{parts_of}
-use Rattle.ffc_cert.proofs.GivenLemmas.{with_end, IsInside, At, IsBetween, IsGood, IsMoved, IsGiven, inside_few, next_good, entry_length}
+use Rattle.ffc_cert.proofs.GivenLemmas.{with_end, IsInside, At, IsGood, IsMoved, IsGiven, inside_few, next_good, entry_length}
 use Rattle.ffc_cert.proofs.BackLemmas.{header_read, between, reads_back}
 
 -- parts with an LF between each two
@@ -418,8 +417,7 @@ lines_below [] number line = tt
 lines_below (e ∷ entries) number line =
     let size : length (entry_text e ++ flat_map entry_text entries) ≡ length (entry_text e) + length (flat_map entry_text entries) = length-append (entry_text e) (flat_map entry_text entries) in
     let own = entry_size e in
-    let some = line_positive e in
-    (
+    let some = line_positive e in (
       omega (arith, size, own, some),
       all_weaker (λ (x : Numbered). x.first_line < (line + line_count e) + length (flat_map entry_text entries)) (λ (x : Numbered). x.first_line < line + length (entry_text e ++ flat_map entry_text entries))
           (λ x h. omega (arith, h, size, own)) (numbered_from (number + 1) (line + line_count e) entries) (lines_below entries (number + 1) (line + line_count e)),

@@ -1,4 +1,4 @@
-use Rattle.std.proofs.Common.{◌≡◌, ℕ, List, Option, ◌∙◌, ap, sym, Some, Ok, Err, true}
+use Rattle.std.proofs.Common.{◌≡◌, Option, ◌∙◌, ap, sym, Some, Ok, Err, true}
 use Rattle.ffc_cert.specs.declared.entries.CertFault.{CertFault}
 use Rattle.ffc_cert.specs.Reading.{reading_of, stop_fault, open_fault}
 use Rattle.ffc_cert.specs.Scan.{AfterEnd}

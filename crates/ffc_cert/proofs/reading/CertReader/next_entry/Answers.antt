@@ -1,5 +1,5 @@
 use Rattle.std.proofs.Common.{◌+◌, ◌∙◌, sym, refl, ap, Some, None, Ok, arith}
-use Rattle.ffc_cert.specs.Scan.{IsWindow, AfterScan, AfterStop}
+use Rattle.ffc_cert.specs.Scan.{AfterScan, AfterStop}
 use Rattle.ffc_cert.proofs.TextLemmas.{given_readable, given_number, given_line}
 use Rattle.ffc_cert.proofs.KeptLemmas.{entry_due, done_due, stopped_due, entry_no_fault, end_fault_due, kept_on}
 use Rattle.ffc_cert.proofs.reading.CertReader.next_entry.Goals as goal
