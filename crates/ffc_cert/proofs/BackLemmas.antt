@@ -2,7 +2,7 @@
 use Rattle.std.proofs.Common.{◌≡◌, ℕ, ◌+◌, ◌-◌, ◌<◌, ◌≤◌, ◌==◌, true, false, List, [], ◌∷◌, ◌++◌, length, take, Result, Ok, inl, inr, refl, sym, ap, ◌∙◌, subst, arith, append_assoc, length-append}
 use Rattle.std.specs.Prelude.{codes, nat_lt}
 use Rattle.std.specs.List.{AllByRecursion, flat_map, slice_split, onto_first}
-use Rattle.std.proofs.lemmas.List.{append-nil}
+use Rattle.std.proofs.lemmas.List.{append-nil, take_all}
 use Rattle.std.proofs.lemmas.List.Splits.{slice_split-cons_yes, slice_split-cons_no}
 use Rattle.std.proofs.lemmas.Bool.Decides.{nat_tests}
 use Rattle.std.proofs.lemmas.Fmt.{decimal_digit}
@@ -28,7 +28,7 @@ use Rattle.ffc_cert.proofs.OpeningCodes.{value_items, value_plain, value_reads}
 use Rattle.ffc_cert.proofs.PrefixLemmas.{AreLines, first_of, body_of, opening_of, entry_is, first_plain, first_reads, regroup}
 use Rattle.ffc_cert.proofs.ReadLemmas.{after_next, through}
 use Rattle.ffc_cert.proofs.SplitLemmas.{parts_of}
-use Rattle.ffc_cert.proofs.GivenLemmas.{take_all, entry_length}
+use Rattle.ffc_cert.proofs.GivenLemmas.{entry_length}
 
 split_line : (line rest : List ℕ) → IsPlain line → slice_split is_line_end (line ++ (10 ∷ rest)) ≡ line ∷ slice_split is_line_end rest
 split_line [] rest h = slice_split-cons_yes is_line_end 10 rest refl
@@ -47,7 +47,7 @@ judged : {A : Type 0} (line : List ℕ) (p : Progress) (r : Result A Flaw) (x : 
 unfolding limited
 judged line p r x next h fits = let short : nat_lt MAX_BYTES (p.bytes + (length line + 1)) ≡ false = grind (arith, nat_tests, fits) in rw (h, short) refl
 
-abbrev between : ℕ → ℕ → ℕ → Progress
+abbrev pub between : ℕ → ℕ → ℕ → Progress
 between version complete line = record { version = version; place = Between; complete = complete; line = line; first_line = line; bytes = 0; values = []; lines = [] }
 
 some_test : (n m : ℕ) → (n ≡ m → ⊥) → (n == m) ≡ false
@@ -223,7 +223,7 @@ entries_read version known wanted (e ∷ entries) complete line rest few h =
     ∙ ap (with_entry x) (entries_read version known wanted entries (complete + 1) (line + line_count e) rest (omega arith) h.1)
     ∙ ap (λ (n : ℕ). with_entry x (with_entries (numbered_from ((complete + 1) + 1) (line + line_count e) entries) (read_text wanted (between version n (line_after (line + line_count e) entries)) rest))) (omega arith)
 
-header_read : (version : ℕ) → IsVersion version → (wanted : ℕ) (rest : List ℕ) → read_text wanted origin (header version ++ rest) ≡ read_text wanted (between version 0 2) rest
+pub header_read : (version : ℕ) → IsVersion version → (wanted : ℕ) (rest : List ℕ) → read_text wanted origin (header version ++ rest) ≡ read_text wanted (between version 0 2) rest
 unfolding next_in header_line
 header_read version (inl one) wanted rest =
     let text : header version ≡ codes "ffcert 1" ++ (10 ∷ []) = ap header one ∙ ap (λ (ds : List ℕ). codes "ffcert " ++ ds ++ (10 ∷ [])) (decimal_digit 1 (omega arith)) in

@@ -1,15 +1,19 @@
 -- What a reader keeps, and what follows for its answers.
-use Rattle.std.proofs.Common.{◌≡◌, ℕ, zero, suc, ◌≤◌, List, [], ◌∷◌, ◌++◌, drop, Option, Some, None, refl, sym, ap, ◌∙◌, subst, arith, length-append, append_assoc}
+use Rattle.std.proofs.Common.{◌≡◌, ℕ, zero, suc, ◌+◌, ◌-◌, ◌^◌, ◌<◌, ◌≤◌, List, [], ◌∷◌, ◌++◌, length, take, drop, Option, Some, None, refl, sym, ap, ◌∙◌, subst, arith, length-append, append_assoc}
 use Rattle.std.specs.Prelude.{slice_get, if◌then◌else◌, Bool, true, false, MatchOption}
-use Rattle.std.specs.List.{position_or_len}
-use Rattle.std.proofs.lemmas.List.{append-nil, drop-append-le}
+use Rattle.std.specs.List.{position_or_len, copy_within}
+use Rattle.std.proofs.lemmas.List.{append-nil, drop-append-le, length-drop, take_all}
+use Rattle.std.proofs.lemmas.List.Edits.{take-paste}
+use Rattle.ffc_cert.specs.Kept.{IsKept}
 use Rattle.ffc_cert.specs.declared.entries.CertFault.{CertFault}
 use Rattle.ffc_cert.specs.declared.entries.Numbered.{Numbered}
 use Rattle.ffc_cert.specs.declared.progress.Progress.{Progress}
 use Rattle.ffc_cert.specs.declared.scanning.Scanner.{Scanner}
 use Rattle.ffc_cert.specs.Reading.{Reading, Complete, Open, Stopped, ending, fault_at, is_behind, read_text, reading_of, stop_fault, is_line_end}
-use Rattle.ffc_cert.specs.Scan.{IsReady, IsStopped, IsEntry, IsDone, ahead, without, end_here}
-use Rattle.ffc_cert.specs.Certificate.{Certificate, IsRead, next_entry_of, fault_behind, due_fault}
+use Rattle.ffc_cert.specs.Scan.{IsWindow, IsReady, IsStopped, IsEntry, IsDone, ahead, without, end_here}
+use Rattle.ffc_cert.specs.Certificate.{Certificate, IsRead, next_entry_of, fault_behind, due_fault, version_of}
+use Rattle.ffc_cert.proofs.ScanLemmas.{window_rest}
+use Rattle.ffc_cert.proofs.TextLemmas.{version_stays}
 
 longer : (xs ys : List ℕ) → position_or_len is_line_end xs ≤ position_or_len is_line_end (xs ++ ys)
 longer [] ys = omega arith
@@ -18,6 +22,7 @@ longer (x ∷ xs) ys = grind (arith, longer xs ys)
 pub fed : (wanted : ℕ) (text piece : List ℕ) (s : Scanner) → IsReady wanted text s → IsReady wanted (text ++ piece) s
 fed wanted text piece s r =
     let behind : drop s.start (text ++ piece) ≡ drop s.start text ++ piece = drop-append-le s.start text piece (omega (arith, r.within, r.limit)) in record {
+      kept = r.kept;
       within = r.within;
       limit = omega (arith, r.limit, length-append text piece);
       unended = rw behind (omega (arith, r.unended, longer (drop s.start text) piece));
@@ -89,3 +94,94 @@ no_fault wanted n text fault h none =
 pub read_out : (c : Certificate) → IsRead c → c.fault ≡ None → (next_entry_of c.wanted c.text c.given ≡ None) × (stop_fault (reading_of c.wanted c.text).end ≡ None)
 read_out c read none =
     subst (λ o. MatchOption o ((next_entry_of c.wanted c.text c.given ≡ None) × (stop_fault (reading_of c.wanted c.text).end ≡ None)) (λ _. Unit {0})) none read
+
+-- the window goes on as the text does
+window_fed : (gone : ℕ) (text window piece : List ℕ) → IsWindow gone text window → IsWindow gone (text ++ piece) (window ++ piece)
+window_fed gone text window piece w = record {
+  bytes = ap (λ (xs : List ℕ). xs ++ piece) w.bytes ∙ sym (drop-append-le gone text piece (omega (arith, w.size)));
+  size = omega (arith, w.size, length-append text piece, length-append window piece);
+}
+
+drop_none : (gone : ℕ) (text : List ℕ) → gone ≡ 0 → drop gone text ≡ text
+drop_none gone text h = ap (λ (n : ℕ). drop n text) h
+
+-- what line 1 names behind a piece
+version_fed : (gone : ℕ) (text window piece : List ℕ) (old new : Option ℕ) → IsWindow gone text window → old ≡ version_of text → (old ≡ None → gone ≡ 0)
+    → MatchOption old (new ≡ version_of (window ++ piece)) (λ v. new ≡ Some v) → new ≡ version_of (text ++ piece)
+version_fed gone text window piece None new w is front h =
+    h ∙ ap (λ (xs : List ℕ). version_of (xs ++ piece)) (w.bytes ∙ drop_none gone text (front refl))
+version_fed gone text window piece (Some v) new w is front h = h ∙ sym (version_stays text piece v (sym is))
+
+front_fed : (gone : ℕ) (x : Option ℕ) (old new : Option ℕ) → (old ≡ None → gone ≡ 0) → MatchOption old (new ≡ x) (λ v. new ≡ Some v) → new ≡ None → gone ≡ 0
+front_fed gone x None new front h none = front refl
+front_fed gone x (Some v) new front h none = absurd (let clash : Some v ≡ None = sym h ∙ none in cc)
+
+pub kept_fed : (wanted given : ℕ) (text piece window : List ℕ) (fault : Option CertFault) (s : Scanner) (old new : Option ℕ) → IsKept wanted text given fault s window old
+    → length text + length piece < 2 ^ 63 → MatchOption old (new ≡ version_of (window ++ piece)) (λ v. new ≡ Some v)
+    → IsKept wanted (text ++ piece) given fault s (window ++ piece) new
+kept_fed wanted given text piece window fault s old new k room h = record {
+  ready = λ none. fed wanted text piece s (k.ready none);
+  count = k.count;
+  size = omega (arith, room, length-append text piece);
+  window = window_fed s.gone text window piece k.window;
+  version = version_fed s.gone text window piece old new k.window k.version k.front h;
+  front = front_fed s.gone (version_of (window ++ piece)) old new k.front h;
+}
+
+-- the bytes that were read are let go
+pub moved_down : (xs : List ℕ) (n : ℕ) → n ≤ length xs → take (length xs - n) (copy_within xs n (length xs) 0) ≡ drop n xs
+moved_down xs n le =
+    let size : length (drop n xs) ≡ length xs - n = length-drop n xs in
+    ap (λ (k : ℕ). take k (copy_within xs n (length xs) 0)) (omega arith) ∙ take-paste xs 0 (drop n xs) (length xs - n) (omega arith) (omega (arith, size))
+    ∙ take_all (length xs - n) (drop n xs) (omega (arith, size))
+
+pub ready_shorter : (wanted : ℕ) (text : List ℕ) (s : Scanner) → IsReady wanted text s → IsReady wanted text (record s { gone = s.start })
+ready_shorter wanted text s r = record {
+  kept = omega arith;
+  within = r.within;
+  limit = r.limit;
+  unended = r.unended;
+  line = r.line;
+  complete = r.complete;
+  bounded = r.bounded;
+  reads = r.reads;
+}
+
+pub kept_shorter : (wanted given : ℕ) (text window shorter : List ℕ) (fault : Option CertFault) (s : Scanner) (version : Option ℕ) → IsKept wanted text given fault s window version
+    → fault ≡ None → (version ≡ None → ⊥) → shorter ≡ drop (s.start - s.gone) window → IsKept wanted text given fault (record s { gone = s.start }) shorter version
+kept_shorter wanted given text window shorter fault s version k none some h =
+    let r = k.ready none in
+    let rest : shorter ≡ drop s.start text = h ∙ window_rest s.gone s.start text window k.window r.kept in
+    let size : length (drop s.start text) ≡ length text - s.start = length-drop s.start text in
+    record {
+      ready = λ e. ready_shorter wanted text s r;
+      count = k.count;
+      size = k.size;
+      window = record { bytes = rest; size = omega (arith, ap (λ (xs : List ℕ). length xs) rest, size, r.within, r.limit) };
+      version = k.version;
+      front = λ e. absurd (some e);
+    }
+
+-- the scanner goes on
+pub kept_on : (wanted given more : ℕ) (text window : List ℕ) (old new : Option CertFault) (s t : Scanner) (version : Option ℕ) → IsKept wanted text given old s window version
+    → t.gone ≡ s.gone → (new ≡ None → IsReady wanted text t) → (new ≡ None → t.progress.complete ≡ more) → IsKept wanted text more new t window version
+kept_on wanted given more text window old new s t version k gone ready count = record {
+  ready = ready;
+  count = count;
+  size = k.size;
+  window = subst (λ (n : ℕ). IsWindow n text window) (sym gone) k.window;
+  version = k.version;
+  front = λ e. gone ∙ k.front e;
+}
+
+-- before the first byte
+pub kept_first : (wanted : ℕ) (text window : List ℕ) (s : Scanner) → text ≡ [] → window ≡ [] → IsReady wanted [] s → s.progress.complete ≡ 0 → s.gone ≡ 0 → IsKept wanted text 0 None s window None
+kept_first wanted text window s none empty ready complete gone =
+    rw (none, empty) (record {
+      ready = λ _. ready;
+      count = λ _. complete;
+      size = omega arith;
+      window = record { bytes = ap (λ (n : ℕ). drop n []) (sym gone); size = omega (arith, gone) };
+      version = refl;
+      front = λ _. gone;
+    })

@@ -19,3 +19,5 @@ pub mod OpeningCodes
 pub mod PrefixLemmas
 pub mod GivenLemmas
 pub mod BackLemmas
+pub mod TextLemmas
+pub mod GoesOnLemmas

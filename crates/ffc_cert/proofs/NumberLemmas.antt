@@ -1,17 +1,14 @@
 -- Digits, and places of bytes.
-use Rattle.std.proofs.Common.{◌≡◌, ℕ, ◌<◌, ◌≤◌, ◌==◌, ◌^◌, ◌&&◌, Bool, true, false, List, length, get_or, refl, sym, rules, arith, Option, Some, None, Result, Ok, Err}
-use Rattle.std.specs.Prelude.{SomeIff}
-use Rattle.std.specs.Result.{OkIff, result_ok}
-use Rattle.std.specs.Str.{IsUtf8}
-use Rattle.std.specs.Str.Parse.{ParsesUnsigned}
-use Rattle.std.proofs.lemmas.Str.{IsUtf8-from_ascii}
-use Rattle.std.proofs.lemmas.Fmt.{IsAscii-from_digits}
+use Rattle.std.proofs.Common.{◌≡◌, ℕ, ◌<◌, ◌≤◌, ◌==◌, ◌^◌, ◌&&◌, Bool, true, false, zero, suc, ◌+◌, ◌*◌, ◌-◌, leb, ◌∷◌, [], List, length, get_or, take, refl, sym, ap, ◌∙◌, rules, arith, Option, Some, None}
 use Rattle.std.specs.Prelude.{unwrap_or}
-use Rattle.std.specs.Char.{is_ascii_digit}
+use Rattle.std.specs.Char.{is_ascii_digit, digit_value}
+use Rattle.std.proofs.lemmas.Str.{digit_value_digit}
+use Rattle.std.proofs.lemmas.Bool.{leb-true}
+use Rattle.std.proofs.lemmas.Int.Digits.{digits_value_more}
 use Rattle.std.specs.List.{position_or_len, list_all}
 use Rattle.std.specs.Str.Parse.{digits_value}
 use Rattle.std.proofs.lemmas.List.Sums.{position_or_len_is}
-use Rattle.std.proofs.lemmas.Str.Parse.{IsNumeralModel, numerals_by_value, parse_digits}
+use Rattle.std.proofs.lemmas.Str.Parse.{IsNumeralModel, numerals_by_value, digits_value-take-le}
 use borrow.Author.Tests.{ltb-true}
 use Rattle.ffc_cert.specs.Items.{is_digits}
 use Rattle.memchr.specs.Find.{IsFirstByte, is_byte}
@@ -36,18 +33,6 @@ pub place_within : (bytes : List ℕ) (r : Option ℕ) (c : ℕ) → IsFirstByte
 place_within bytes None c h = omega arith
 place_within bytes (Some k) c h = omega (arith, h.0.high)
 
-pub ascii_digits : (ds : List ℕ) → AreDigits ds → IsUtf8 ds
-ascii_digits ds h = IsUtf8-from_ascii ds (IsAscii-from_digits ds (own.to ds h))
-
-pub some_from_ok : {E : Type 0} (r : Result ℕ E) (P Q : Type 0) (v : ℕ) → Q → OkIff r (Q × P) v → SomeIff (result_ok r) P v
-some_from_ok (Ok x) P Q v q h = (h.0.1, h.1)
-some_from_ok (Err e) P Q v q h = λ p. h (q, p)
-
--- what parsing digits gives
-pub parsed : {E : Type 0} (ds : List ℕ) (r : Result ℕ E) → 0 < length ds → AreDigits ds → ParsesUnsigned 64 10 ds r
-    → SomeIff (result_ok r) (digits_value 10 ds < 2 ^ 64) (digits_value 10 ds)
-parsed ds r some digits h = some_from_ok r _ _ _ some (parse_digits own 64 ds r h digits)
-
 pub both : (a b : Bool) → (a && b) ≡ true → (a ≡ true) × (b ≡ true)
 both true b h = (refl, h)
 both false b h = absurd (cc)
@@ -55,3 +40,29 @@ both false b h = absurd (cc)
 pub digits_parts : (ds : List ℕ) → is_digits ds ≡ true → (0 < length ds) × AreDigits ds
 unfolding is_digits
 digits_parts ds h = let p = both _ _ h in (ltb-true 0 (length ds) p.0, p.1)
+
+digit_range : (c : ℕ) → is_ascii_digit c ≡ true → (48 ≤ c) × (c < 58)
+digit_range c h = let p = both (leb 48 c) (leb c 57) h in (leb-true 48 c p.0, let le = leb-true c 57 p.1 in omega arith)
+
+-- each digit of digits
+pub digit_at : (ds : List ℕ) (i : ℕ) → AreDigits ds → i < length ds → (48 ≤ get_or ds i 0) × (get_or ds i 0 < 58)
+digit_at [] i h lt = absurd (omega arith)
+digit_at (d ∷ ds) zero h lt = digit_range d (both (is_ascii_digit d) (list_all is_ascii_digit ds) h).0
+digit_at (d ∷ ds) (suc i) h lt = digit_at ds i (both (is_ascii_digit d) (list_all is_ascii_digit ds) h).1 (omega arith)
+
+digit_is : (c : ℕ) → 48 ≤ c → c < 58 → digit_value c ≡ c - 48
+digit_is c low high = let e = digit_value_digit c (low, omega (arith, high)) in omega (arith, e)
+
+-- one more digit
+pub value_more : (ds : List ℕ) (i : ℕ) → AreDigits ds → i < length ds → digits_value 10 (take (i + 1) ds) ≡ digits_value 10 (take i ds) * 10 + (get_or ds i 0 - 48)
+value_more ds i h lt =
+    let d = digit_at ds i h lt in
+    digits_value_more 10 ds i lt ∙ ap (λ (n : ℕ). digits_value 10 (take i ds) * 10 + n) (digit_is (get_or ds i 0) d.0 d.1)
+
+-- a number that the first digits write, with one more
+pub value_next : (ds : List ℕ) (i n : ℕ) → AreDigits ds → i < length ds → n ≡ digits_value 10 (take i ds) → n * 10 + (get_or ds i 0 - 48) ≡ digits_value 10 (take (i + 1) ds)
+value_next ds i n h lt same = ap (λ (m : ℕ). m * 10 + (get_or ds i 0 - 48)) same ∙ sym (value_more ds i h lt)
+
+-- it is below a limit where that of all digits is
+pub value_small : (ds : List ℕ) (i n : ℕ) → AreDigits ds → i < length ds → n ≡ digits_value 10 (take i ds) → digits_value 10 ds < 2 ^ 64 → n * 10 + (get_or ds i 0 - 48) < 2 ^ 64
+value_small ds i n h lt same small = omega (arith, value_next ds i n h lt same, digits_value-take-le 10 ds (i + 1) (omega arith), small)

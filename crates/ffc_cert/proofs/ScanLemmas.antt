@@ -12,7 +12,7 @@ use Rattle.ffc_cert.specs.declared.scanning.Scanner.{Scanner}
 use Rattle.ffc_cert.specs.Bounds.{Follows}
 use Rattle.ffc_cert.specs.Reading.{Reading, End, Next, Halt, Move, Give, Stopped, next_at, read_text, reading_of, is_line_end}
 use Rattle.ffc_cert.specs.Taking.{MatchStop}
-use Rattle.ffc_cert.specs.Scan.{IsReady, IsStopped, IsEntry, AfterStop, ahead, without}
+use Rattle.ffc_cert.specs.Scan.{IsWindow, IsReady, IsStopped, IsEntry, AfterStop, ahead, without}
 use Rattle.std.specs.Prelude.{nat_lt, ◌&&◌}
 use Rattle.ffc_cert.specs.declared.TheConstants.{MAX_BYTES}
 use Rattle.ffc_cert.specs.Reading.{end_at, fault_at, is_behind}
@@ -29,6 +29,16 @@ front_of zero [] x ys h = absurd (cc)
 front_of zero (z ∷ zs) x ys h = record { first = cc; others = cc }
 front_of (suc n) [] x ys h = absurd (cc)
 front_of (suc n) (z ∷ zs) x ys h = let r = front_of n zs x ys h in record { first = r.first; others = r.others }
+
+-- the bytes of a window from a place of the text on, and those of a line
+pub window_rest : (gone start : ℕ) (text window : List ℕ) → IsWindow gone text window → gone ≤ start → drop (start - gone) window ≡ drop start text
+window_rest gone start text window w le =
+    ap (λ (xs : List ℕ). drop (start - gone) xs) w.bytes ∙ drop-drop (start - gone) gone text ∙ ap (λ (n : ℕ). drop n text) (omega arith)
+
+pub window_line : (gone start end : ℕ) (text window : List ℕ) → IsWindow gone text window → gone ≤ start → start ≤ end
+    → take ((end - gone) - (start - gone)) (drop (start - gone) window) ≡ take (end - start) (drop start text)
+window_line gone start end text window w le further =
+    ap (λ (xs : List ℕ). take ((end - gone) - (start - gone)) xs) (window_rest gone start text window w le) ∙ ap (λ (n : ℕ). take n (drop start text)) (omega arith)
 
 same_reading : (a b : Reading) → a.entries ≡ b.entries → a.end ≡ b.end → a ≡ b
 same_reading a b e f =
@@ -57,8 +67,9 @@ module _ (wanted : ℕ) (text : List ℕ) (s : Scanner) (end : ℕ) (ready : IsR
   halts fault h more = leads (Halt fault) more h
 
   pub goes : (q : Progress) → next_at wanted s.progress (take (end - s.start) (drop s.start text)) ≡ Move q → Follows s.progress q
-      → q.complete ≡ s.progress.complete → IsReady wanted text (record { progress = q; start = end + 1; scanned = end + 1 })
+      → q.complete ≡ s.progress.complete → IsReady wanted text (record { progress = q; gone = s.gone; start = end + 1; scanned = end + 1 })
   goes q h follows same = record {
+    kept = omega (arith, ready.kept);
     within = omega arith;
     limit = omega arith;
     unended = omega arith;
@@ -73,8 +84,9 @@ module _ (wanted : ℕ) (text : List ℕ) (s : Scanner) (end : ℕ) (ready : IsR
   gave_front entry q more h = front_of _ _ _ _ (ap (λ (r : Reading). r.entries) (leads (Give entry q) more h))
 
   pub gives : (entry : Numbered) (q : Progress) → next_at wanted s.progress (take (end - s.start) (drop s.start text)) ≡ Give entry q → Follows s.progress q
-      → q.complete ≡ s.progress.complete + 1 → IsReady wanted text (record { progress = q; start = end + 1; scanned = end + 1 })
+      → q.complete ≡ s.progress.complete + 1 → IsReady wanted text (record { progress = q; gone = s.gone; start = end + 1; scanned = end + 1 })
   gives entry q h follows more_by_one = record {
+    kept = omega (arith, ready.kept);
     within = omega arith;
     limit = omega arith;
     unended = omega arith;
@@ -120,6 +132,7 @@ module _ (wanted : ℕ) (text : List ℕ) (s : Scanner) (ready : IsReady wanted 
       → IsReady wanted text (record s { scanned = length text }) × IsDone wanted text (record s { scanned = length text })
   waits few h = (
     record {
+      kept = ready.kept;
       within = omega (arith, ready.within, ready.limit);
       limit = omega arith;
       unended = none;

@@ -1,6 +1,6 @@
 -- What keeps the counters of a reader in their range.
 use Rattle.std.specs.Prelude.{ℕ, ◌+◌, ◌*◌, ◌^◌, ◌<◌, ◌≤◌}
-use Rattle.ffc_cert.specs.declared.TheConstants.{MAX_BYTES}
+use Rattle.ffc_cert.specs.Limits.{max_bytes}
 use Rattle.ffc_cert.specs.declared.progress.Place.{Place}
 use Rattle.ffc_cert.specs.declared.progress.Place.TheVariants.{Header, Between, Assignment, Refutation}
 use Rattle.ffc_cert.specs.declared.progress.Progress.{Progress}
@@ -13,7 +13,7 @@ FewTrees (Assignment left) bytes = Unit {0}
 FewTrees (Refutation awaited) bytes = awaited.trees ≤ 2 ^ 32 * bytes
 
 pub record IsBounded (p : Progress) : Type 0 where
-  pub bytes : p.bytes ≤ MAX_BYTES
+  pub bytes : p.bytes ≤ max_bytes
   pub trees : FewTrees p.place p.bytes
 
 -- there is room for another line

@@ -1,9 +1,15 @@
--- What a reader keeps true of its fields.
-use Rattle.std.specs.Prelude.{◌≡◌, ℕ, List, Option, None}
+-- What a reader keeps true of its fields: of the text it holds a window, which are the bytes behind those that were let go.
+-- None was before line 1 was found to name a version.
+use Rattle.std.specs.Prelude.{◌≡◌, ℕ, ◌<◌, ◌^◌, List, length, Option, None}
 use Rattle.ffc_cert.specs.declared.entries.CertFault.{CertFault}
 use Rattle.ffc_cert.specs.declared.scanning.Scanner.{Scanner}
-use Rattle.ffc_cert.specs.Scan.{IsReady}
+use Rattle.ffc_cert.specs.Scan.{IsReady, IsWindow}
+use Rattle.ffc_cert.specs.Certificate.{version_of}
 
-pub record IsKept (wanted : ℕ) (text : List ℕ) (given : ℕ) (fault : Option CertFault) (scanner : Scanner) : Type 0 where
+pub record IsKept (wanted : ℕ) (text : List ℕ) (given : ℕ) (fault : Option CertFault) (scanner : Scanner) (held : List ℕ) (known : Option ℕ) : Type 0 where
   pub ready : fault ≡ None → IsReady wanted text scanner
   pub count : fault ≡ None → scanner.progress.complete ≡ given
+  pub size : length text < 2 ^ 63
+  pub window : IsWindow scanner.gone text held
+  pub version : known ≡ version_of text
+  pub front : known ≡ None → scanner.gone ≡ 0

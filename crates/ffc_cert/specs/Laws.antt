@@ -1,12 +1,15 @@
--- Two laws of the text: what was written is read back, and in one version no entry's text stands at the front of another's.
-use Rattle.std.specs.Prelude.{◌≡◌, ℕ, ◌+◌, ◌≤◌, ◌⊎◌, List, [], ◌∷◌, ◌++◌, length, take}
+-- Laws of the text: what was written is read back, what was read is its own text and no other spelling of it, in one version
+-- no entry's text stands at the front of another's, and reading goes on as it began.
+use Rattle.std.specs.Prelude.{◌≡◌, ℕ, ◌+◌, ◌<◌, ◌≤◌, ◌⊎◌, ◌↔◌, List, [], ◌∷◌, ◌++◌, length, take, Some, None}
 use Rattle.std.specs.List.{AllByRecursion}
 use Rattle.ffc_cert.specs.declared.entries.Entry.{Entry}
 use Rattle.ffc_cert.specs.declared.entries.Entry.TheVariants.{Sat, UnsatCases, UnsatSteps, Unknown}
+use Rattle.ffc_cert.specs.declared.entries.CertFault.{CertFault}
 use Rattle.ffc_cert.specs.declared.entries.Numbered.{Numbered}
+use Rattle.ffc_cert.specs.Certificate.{version_of}
 use Rattle.ffc_cert.specs.Spelling.{entry_text, text_of}
 use Rattle.ffc_cert.specs.WellFormed.{FitsVersion, IsWellFormed, IsReadable}
-use Rattle.ffc_cert.specs.Reading.{Complete, reading_of}
+use Rattle.ffc_cert.specs.Reading.{Reading, Complete, Stopped, reading_of}
 
 -- how many lines an entry has
 abbrev pub line_count : Entry → ℕ
@@ -41,3 +44,53 @@ BeginsNoOther = (version : ℕ) (first second : Entry) (more : List ℕ) → IsV
 -- an entry that is well formed can be written
 abbrev pub IsWritten : Type 0
 IsWritten = (version : ℕ) (entry : Entry) → IsWellFormed version entry → FitsVersion version entry
+
+-- the entries without their numbers
+abbrev pub entries_of : List Numbered → List Entry
+entries_of [] = []
+entries_of (x ∷ xs) = x.entry ∷ entries_of xs
+
+-- What a reading of a text in a version says of the text: it is the one text of the entries, and then more. It is nothing
+-- more where the reading is complete.
+pub record IsOfText (wanted version : ℕ) (text : List ℕ) (r : Reading) : Type 0 where
+  pub more : List ℕ
+  pub text_is : text ≡ text_of version (entries_of r.entries) ++ more
+  pub numbers : r.entries ≡ numbered_from 1 2 (entries_of r.entries)
+  pub readable : AllByRecursion (IsReadable version) (entries_of r.entries)
+  pub few : length r.entries ≤ wanted
+  pub whole : r.end ≡ Complete → (more ≡ []) × (length r.entries ≡ wanted)
+
+-- a text is read only as it is written
+abbrev pub ReadsItsText : Type 0
+ReadsItsText = (wanted version : ℕ) (text : List ℕ) → version_of text ≡ Some version → IsOfText wanted version text (reading_of wanted text)
+
+-- where line 1 names no version, there is no entry, and the text is not complete
+abbrev pub ReadsNoOther : Type 0
+ReadsNoOther = (wanted : ℕ) (text : List ℕ) → version_of text ≡ None → ((reading_of wanted text).entries ≡ []) × ((reading_of wanted text).end ≡ Complete → ⊥)
+
+-- the text of so many entries in one of the versions
+pub record IsText (wanted : ℕ) (text : List ℕ) : Type 0 where
+  pub version : ℕ
+  pub entries : List Entry
+  pub known : IsVersion version
+  pub readable : AllByRecursion (IsReadable version) entries
+  pub count : length entries ≡ wanted
+  pub text_is : text ≡ text_of version entries
+
+-- the texts that are read without a fault up to their end
+abbrev pub AcceptsTexts : Type 0
+AcceptsTexts = (wanted : ℕ) (text : List ℕ) → ((reading_of wanted text).end ≡ Complete) ↔ IsText wanted text
+
+-- each entry's first line is within the text: its number is at most the number of the bytes
+abbrev pub LinesAreInside : Type 0
+LinesAreInside = (wanted : ℕ) (text : List ℕ) → AllByRecursion (λ x. x.first_line < length text) (reading_of wanted text).entries
+
+-- a reading of the front of a text, and one of the whole
+pub record IsFront (front whole : Reading) : Type 0 where
+  pub rest : List Numbered
+  pub entries : whole.entries ≡ front.entries ++ rest
+  pub stopped : (fault : CertFault) → front.end ≡ Stopped fault → whole ≡ front
+
+-- the entries of a text are the first ones however it goes on, and a fault stays the fault
+abbrev pub GoesOn : Type 0
+GoesOn = (wanted : ℕ) (text more : List ℕ) → IsFront (reading_of wanted text) (reading_of wanted (text ++ more))

@@ -5,6 +5,7 @@ pub mod Grammar
 pub mod Items
 pub mod Kept
 pub mod Laws
+pub mod Limits
 pub mod Lines
 pub mod Ranges
 pub mod Reading

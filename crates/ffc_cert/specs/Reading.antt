@@ -4,7 +4,7 @@
 use Rattle.std.specs.Prelude.{ℕ, ◌+◌, ◌-◌, Bool, false, ◌==◌, ◌&&◌, nat_lt, List, [], ◌∷◌, ◌++◌, length, take, codes, if◌then◌else◌, Option, Some, None, Result, Ok, Err}
 use Rattle.std.specs.List.{slice_split}
 use Rattle.std.specs.Str.{bytes_eq}
-use Rattle.ffc_cert.specs.declared.TheConstants.{MAX_BYTES}
+use Rattle.ffc_cert.specs.Limits.{max_bytes}
 use Rattle.ffc_cert.specs.declared.flaws.Flaw.{Flaw}
 use Rattle.ffc_cert.specs.declared.flaws.Flaw.TheVariants.{Form, Number, Missing}
 use Rattle.ffc_cert.specs.declared.entries.Entry.{Entry}
@@ -106,8 +106,8 @@ with_line awaited size p line =
 
 -- What a line of an entry says, or its fault. Where it has no other fault, the entry may be too long with it.
 unfoldable pub limited : {A : Type 0} → List ℕ → Progress → Result A Flaw → Result A CertFault
-limited line p (Err flaw) = Err (fault_at (code_of (nat_lt MAX_BYTES (length line)) flaw) p)
-limited line p (Ok read) = if nat_lt MAX_BYTES (p.bytes + (length line + 1)) then Err (fault_at 5 p) else Ok read
+limited line p (Err flaw) = Err (fault_at (code_of (nat_lt max_bytes (length line)) flaw) p)
+limited line p (Ok read) = if nat_lt max_bytes (p.bytes + (length line + 1)) then Err (fault_at 5 p) else Ok read
 
 abbrev pub after : {A : Type 0} → Result A CertFault → (A → Next) → Next
 after (Err fault) next = Halt fault
@@ -140,7 +140,7 @@ next_in (Refutation awaited) wanted p line = refutation_line awaited p line
 
 -- the same, where no byte past the limit is looked at
 unfoldable pub next_at : ℕ → Progress → List ℕ → Next
-next_at wanted p line = next_in p.place wanted p (take (MAX_BYTES + 1) line)
+next_at wanted p line = next_in p.place wanted p (take (max_bytes + 1) line)
 
 -- how a text ends
 pub data End : Type 0 where
@@ -181,7 +181,7 @@ is_behind (Refutation awaited) complete wanted = false
 
 unfoldable pub end_at : ℕ → Progress → List ℕ → End
 end_at wanted p rest =
-    if nat_lt MAX_BYTES (length rest) then cut_end (next_at wanted p rest) p else
+    if nat_lt max_bytes (length rest) then cut_end (next_at wanted p rest) p else
     if is_behind p.place p.complete wanted then end_behind rest p else Open (fault_at 4 p)
 
 -- A part of the text, and the parts behind it: all but the last are lines.

@@ -21,8 +21,15 @@ without n r = record { entries = drop n r.entries; end = r.end }
 abbrev pub ahead : List ℕ → Scanner → List ℕ
 ahead text s = drop s.start text
 
--- However the text goes on, it is read by giving its first entries and then reading on from here.
+-- what is held of a text of which so many bytes were let go
+pub record IsWindow (gone : ℕ) (text window : List ℕ) : Type 0 where
+  pub bytes : window ≡ drop gone text
+  pub size : gone + length window ≡ length text
+
+-- However the text goes on, it is read by giving its first entries and then reading on from here. No byte that is still to
+-- be read was let go.
 pub record IsReady (wanted : ℕ) (text : List ℕ) (s : Scanner) : Type 0 where
+  pub kept : s.gone ≤ s.start
   pub within : s.start ≤ s.scanned
   pub limit : s.scanned ≤ length text
   pub unended : s.scanned ≤ s.start + position_or_len is_line_end (ahead text s)

@@ -5,7 +5,7 @@ use Rattle.ffc_cert.specs.declared.entries.Entry.{Entry}
 use Rattle.ffc_cert.specs.declared.entries.Entry.TheVariants.{Sat, UnsatCases, UnsatSteps, Unknown}
 use Rattle.ffc_cert.specs.declared.entries.CertLine.{CertLine}
 use Rattle.ffc_cert.specs.declared.entries.CertLine.TheVariants.{Lemma}
-use Rattle.ffc_cert.specs.declared.TheConstants.{MAX_BYTES}
+use Rattle.ffc_cert.specs.Limits.{max_bytes}
 use Rattle.ffc_cert.specs.Spelling.{clauses, entry_text}
 use Rattle.ffc_cert.specs.Ranges.{IsCounted, IsValue, IsCause, IsLine}
 use Rattle.ffc_cert.specs.Grammar.{AreClauses}
@@ -39,7 +39,7 @@ IsWellFormed version (Unknown cause) = IsCause cause
 -- a well-formed entry whose text is not too long
 pub record IsReadable (version : ℕ) (entry : Entry) : Type 0 where
   pub well_formed : IsWellFormed version entry
-  pub short : length (entry_text entry) ≤ MAX_BYTES
+  pub short : length (entry_text entry) ≤ max_bytes
 
 -- the same in a version that is known
 abbrev pub IsReadableIn : Option ℕ → Entry → Type 0

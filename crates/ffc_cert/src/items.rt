@@ -1,5 +1,5 @@
 //! Items of a line, and how they are read.
-ghost use Rattle.std.specs.Prelude.{◌≡◌, ℕ, ◌+◌, ◌-◌, ◌^◌, ◌<◌, ◌≤◌, ◌==◌, ◌↔◌, List, [], length, Result, IfOk, IsTrue, MatchResult, SomeIff, Ok};
+ghost use Rattle.std.specs.Prelude.{◌≡◌, ℕ, ◌+◌, ◌-◌, ◌*◌, ◌^◌, ◌<◌, ◌≤◌, ◌==◌, ◌↔◌, List, [], length, Result, IfOk, IsTrue, MatchResult, SomeIff, Ok};
 ghost use Rattle.std.specs.Char.{is_ascii_digit};
 ghost use Rattle.std.specs.List.{position_or_len, list_all};
 ghost use Rattle.std.specs.Str.Parse.{digits_value};
@@ -42,16 +42,28 @@ fn is_canonical(item: &[u8]) -> bool
     }
 }
 
+/// A number with one more digit, if that is below 2^64.
+fn with_digit(number: u64, digit: u8) -> Option<u64>
+    requires low { 48 ≤ digit }
+    requires high { digit < 58 }
+    ensures { SomeIff result (number * 10 + (digit - 48) < 2 ^ 64) (number * 10 + (digit - 48)) }
+{
+    number.checked_mul(10)?.checked_add(u64::from(digit - b'0'))
+}
+
 /// The number that the digits write, if it is below 2^64.
-#[tactic(auto, unfolding(crate::specs::Items::is_digits))]
 fn value_of(digits: &[u8]) -> Option<u64>
     requires { IsTrue (is_digits digits.now) }
     ensures { SomeIff result (digits_value 10 digits.now < 2 ^ 64) (digits_value 10 digits.now) }
 {
-    match str::from_utf8(digits) {
-        Ok(text) => text.parse().ok(),
-        Err(_) => None,
+    let mut number = 0;
+    for digit in digits {
+        match with_digit(number, *digit) {
+            Some(longer) => number = longer,
+            None => return None,
+        }
     }
+    Some(number)
 }
 
 /// An item as a number that is at most this one.
@@ -144,6 +156,13 @@ impl<'a> Items<'a> {
             }
             [_, ..] => Err(LineStop::Flaw(Flaw::Form)),
         }
+    }
+
+    /// How many bytes are left.
+    pub fn len(&self) -> usize
+        ensures { result ≡ length self.now }
+    {
+        self.rest.len()
     }
 
     /// Whether no item is left.

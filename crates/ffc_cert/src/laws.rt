@@ -1,5 +1,5 @@
 //! What holds of the text of certificates, from its definitions alone.
-ghost use Rattle.ffc_cert.specs.Laws.{IsWritten, ReadsBack, ReadsBackFirst, BeginsNoOther};
+ghost use Rattle.ffc_cert.specs.Laws.{IsWritten, ReadsBack, ReadsBackFirst, ReadsItsText, ReadsNoOther, AcceptsTexts, LinesAreInside, BeginsNoOther, GoesOn};
 
 /// An entry that is well formed may be written, as the writer and its measure of length require.
 pub fn is_written()
@@ -16,4 +16,26 @@ pub fn reads_back()
 /// In one version no text of an entry that is well formed is a proper prefix of another's.
 pub fn begins_no_other()
     ensures { BeginsNoOther }
+{}
+
+/// What is read is its own text: where a text names a version, it is the one text of its entries, and then more, and the
+/// entries are numbered from 1 with their first lines. A text that names none has no entry.
+pub fn reads_its_text()
+    ensures named { ReadsItsText }
+    ensures unnamed { ReadsNoOther }
+{}
+
+/// The texts without a fault are those of as many entries as are wanted, each well formed and not too long.
+pub fn accepts_texts()
+    ensures { AcceptsTexts }
+{}
+
+/// Each entry begins at a line of the text.
+pub fn lines_are_inside()
+    ensures { LinesAreInside }
+{}
+
+/// The entries of a text are the first ones of each longer text, and a fault stays the fault.
+pub fn reading_goes_on()
+    ensures { GoesOn }
 {}

@@ -1,5 +1,5 @@
 //! Numbers of items, and items that are made of others.
-ghost use Rattle.std.specs.Prelude.{◌≡◌, ◌<◌, ◌^◌, ℕ, List, Result, IfOk, length};
+ghost use Rattle.std.specs.Prelude.{◌≡◌, ◌<◌, ◌^◌, ℕ, List, [], Result, IfOk, length};
 ghost use Rattle.ffc_cert.specs.declared.flaws.Flaw.{Flaw};
 ghost use Rattle.ffc_cert.specs.Items.{Reads, narrow_at, wide_at, literal_at, many_at, counted_at, powers_at, term_at, multiple_at};
 
@@ -7,7 +7,7 @@ use crate::entries::{Literal, Multiple, Power, Term};
 use crate::flaws::LineStop;
 use crate::items::Items;
 use crate::sequences::Sequence;
-use std::alloc::Global;
+use std::alloc::{AllocError, Global};
 
 /// What stands in a line behind its first item.
 pub trait Readable: Drop {
@@ -42,6 +42,14 @@ impl Readable for Literal {
     }
 }
 
+/// An empty list with room for so many items, or for those that the bytes left could hold, each with its space, if they are
+/// fewer. So no memory is taken by a count alone.
+fn with_room<T>(alloc: Global, count: u32, items: &Items<'_>) -> Result<Vec<T>, AllocError>
+    ensures { IfOk result (λ read. read.items ≡ []) }
+{
+    Vec::with_capacity(alloc, (count as usize).min(items.len() / 2))
+}
+
 /// So many of a kind.
 fn many<T: Readable>(
     alloc: Global,
@@ -51,7 +59,7 @@ fn many<T: Readable>(
     ensures reads { Reads result items.new (many_at T.at count items.old) }
     ensures count { IfOk result (λ read. length read ≡ count) }
 {
-    let mut read = Vec::new(alloc);
+    let mut read = with_room(alloc, count, items)?;
     for _ in 0..count {
         let item = T::read(alloc, items)?;
         read.push(item)?;
@@ -77,7 +85,7 @@ impl<T: Readable> Readable for Sequence<T> {
 fn powers(alloc: Global, count: u32, items: &mut Items<'_>) -> Result<Sequence<Power>, LineStop>
     ensures { Reads result items.new (powers_at 0 count items.old) }
 {
-    let mut read = Vec::new(alloc);
+    let mut read = with_room(alloc, count, items)?;
     let mut least = 0u64;
     for _ in 0..count {
         let power = items.power(least)?;

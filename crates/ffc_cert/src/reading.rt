@@ -1,22 +1,57 @@
 //! The reader: bytes in any pieces to entries and faults.
-ghost use Rattle.std.specs.Prelude.{◌≡◌, ◌+◌, ◌<◌, ◌^◌, ◌++◌, [], false, true, Some, None, IfOk, IfErr, IfSome, IfNone, OnOk};
+ghost use Rattle.std.specs.Prelude.{◌≡◌, ◌+◌, ◌<◌, ◌^◌, ◌++◌, [], false, true, Some, None, Err, IfOk, IfErr, IfSome, IfNone, OnOk, MatchOption};
 ghost use Rattle.ffc_cert.specs.Certificate.{IsRead, due_entry, due_fault, end_fault, version_of};
 ghost use Rattle.ffc_cert.specs.Taking.{MatchStop};
 ghost use Rattle.ffc_cert.specs.WellFormed.{IsReadableIn};
 
 use crate::entries::{CertFault, CertStop, Numbered};
 use crate::scanning::Scanner;
+use ffc_ghost::GhostText;
 use std::alloc::Global;
 use std::marker::Model;
 
+/// How many bytes a text has at most. A longer one is answered as want of memory.
+const MAX_TEXT: u64 = 9_223_372_036_854_775_807;
+
+/// The version that line 1 of a text names, and `None` until line 1 is whole.
+fn named_version(text: &[u8]) -> Option<u8>
+    ensures { result ≡ version_of text.now }
+{
+    if text.starts_with(b"ffcert 1\n") {
+        Some(1)
+    } else if text.starts_with(b"ffcert 2\n") {
+        Some(2)
+    } else {
+        None
+    }
+}
+
+/// The version behind a piece: the one that is known, or what line 1 of the text names now.
+fn version_after(version: Option<u8>, text: &[u8]) -> Option<u8>
+    ensures { MatchOption version (result ≡ version_of text.now) (λ known. result ≡ Some known) }
+{
+    match version {
+        Some(known) => Some(known),
+        None => named_version(text),
+    }
+}
+
 /// Reads a certificate that comes in pieces. Clauses see the text so far, from how many entries it is to be, how many were
-/// given, and the fault that is kept: from the first fault on, each call answers that fault. Each byte is looked at a few
-/// times, so the time is linear in the text, whatever the pieces are, and memory is taken by the bytes that came.
+/// given, and the fault that is kept: from the first fault on, each call answers that fault.
+///
+/// Each byte is looked at a few times, so the time is linear in the text, whatever the pieces are. Of the text it holds the
+/// line that is not whole and what was fed since the last call of `next_entry` found nothing more: its memory is at most a
+/// constant times the longest line and these bytes, and the entry that is being read.
 #[derive(Drop)]
 pub struct CertReader {
     alloc: Global,
     wanted: u64,
-    text: Vec<u8>,
+    /// The text so far.
+    told: GhostText,
+    /// The text without the bytes that were let go.
+    window: Vec<u8>,
+    /// What line 1 names, once it is whole.
+    version: Option<u8>,
     scanner: Scanner,
     given: u64,
     fault: Option<CertFault>,
@@ -29,9 +64,9 @@ impl Model for CertReader {
 
     ghost Value = { Certificate };
 
-    ghost view = { λ r. record { wanted = r.wanted; text = r.text.items; given = r.given; fault = r.fault; finished = r.finished } };
+    ghost view = { λ r. record { wanted = r.wanted; text = r.told.bytes; given = r.given; fault = r.fault; finished = r.finished } };
 
-    ghost invariant = { λ r. IsKept r.wanted r.text.items r.given r.fault r.scanner };
+    ghost invariant = { λ r. IsKept r.wanted r.told.bytes r.given r.fault r.scanner r.window.items r.version };
 }
 
 impl CertReader {
@@ -43,7 +78,9 @@ impl CertReader {
         CertReader {
             alloc,
             wanted: entries,
-            text: Vec::new(alloc),
+            told: GhostText::new(),
+            window: Vec::new(alloc),
+            version: None,
             scanner: Scanner::new(alloc),
             given: 0,
             fault: None,
@@ -61,8 +98,31 @@ impl CertReader {
             Some(fault) => return Err(CertStop::Fault(fault)),
             None => {}
         }
-        self.text.extend_from_slice(piece)?;
+        self.let_go();
+        let length = self.scanner.gone + self.window.len() as u64;
+        if piece.len() as u64 > MAX_TEXT - length {
+            return Err(CertStop::Memory);
+        }
+        self.window.extend_from_slice(piece)?;
+        self.told.append(piece);
+        self.version = version_after(self.version, &self.window);
         Ok(())
+    }
+
+    /// Lets go of the lines that were read, once they have more bytes than the rest: so over a run the cost is constant a
+    /// byte.
+    fn let_go(&mut self)
+        requires { self.old.fault ≡ None }
+        ensures { self.new ≡ self.old }
+    {
+        let dead = (self.scanner.start - self.scanner.gone) as usize;
+        let live = self.window.len() - dead;
+        if self.version.is_none() || dead <= live {
+            return;
+        }
+        self.window.copy_within(dead.., 0);
+        self.window.truncate(live);
+        self.scanner.gone = self.scanner.start;
     }
 
     /// Gives the next entry. `None` says that it isn't whole in the text so far, or that all were given, and that nothing
@@ -71,6 +131,9 @@ impl CertReader {
     pub fn next_entry(&mut self) -> Result<Option<Numbered>, CertStop>
         ensures entry { IfOk result (λ found. found ≡ due_entry self.old.fault self.old.wanted self.old.text self.old.given) }
         ensures readable { IfOk result (λ found. IfSome found (λ entry. IsReadableIn (version_of self.old.text) entry.entry)) }
+        ensures number { IfOk result (λ found. IfSome found (λ entry. entry.number ≡ self.old.given + 1)) }
+        ensures first_line { IfOk result (λ found. IfSome found (λ entry. entry.first_line < 2 ^ 63)) }
+        ensures kept { IfSome self.old.fault (λ fault. result ≡ Err (CertStop.Fault fault)) }
         ensures given { IfOk result (λ found. IfSome found (λ entry. self.new ≡ record self.old { given = self.old.given + 1 })) }
         ensures none { IfOk result (λ found. IfNone found (self.new ≡ self.old)) }
         ensures no_fault { OnOk result (due_fault self.old.fault self.old.wanted self.old.text self.old.given ≡ None) }
@@ -82,7 +145,10 @@ impl CertReader {
             Some(fault) => return Err(CertStop::Fault(fault)),
             None => {}
         }
-        match self.scanner.scan(self.alloc, self.wanted, &self.text) {
+        match self
+            .scanner
+            .scan(self.alloc, self.wanted, &self.told, &self.window)
+        {
             Ok(Some(entry)) => {
                 self.given += 1;
                 Ok(Some(entry))
@@ -105,6 +171,7 @@ impl CertReader {
         ensures stop { IfErr result (λ stop. MatchStop stop
             (λ fault. (end_fault self.old.fault self.old.wanted self.old.text ≡ Some fault) × (self.new ≡ record self.old { fault = Some fault; finished = true }))
             (self.new ≡ self.old)) }
+        ensures kept { IfSome self.old.fault (λ fault. result ≡ Err (CertStop.Fault fault)) }
     {
         match self.fault {
             Some(fault) => {
@@ -113,7 +180,10 @@ impl CertReader {
             }
             None => {}
         }
-        match self.scanner.end(self.alloc, self.wanted, &self.text) {
+        match self
+            .scanner
+            .end(self.alloc, self.wanted, &self.told, &self.window)
+        {
             Ok(None) => {
                 self.finished = true;
                 Ok(())
@@ -131,13 +201,6 @@ impl CertReader {
     pub fn version(&self) -> Option<u8>
         ensures { result ≡ version_of self.now.text }
     {
-        let text = self.text.as_slice();
-        if text.starts_with(b"ffcert 1\n") {
-            Some(1)
-        } else if text.starts_with(b"ffcert 2\n") {
-            Some(2)
-        } else {
-            None
-        }
+        self.version
     }
 }

@@ -2,13 +2,14 @@
 ghost use Rattle.std.specs.Prelude.{◌≡◌, ℕ, [], ◌+◌, ◌<◌, ◌≤◌, ◌^◌, ◌==◌, length, drop, None, IfOk, OnOk};
 ghost use Rattle.std.specs.List.{position_or_len};
 ghost use Rattle.ffc_cert.specs.Reading.{is_line_end, reading_of, stop_fault};
-ghost use Rattle.ffc_cert.specs.Scan.{IsReady, AfterStep, AfterScan, AfterEnd, GoesFurther};
+ghost use Rattle.ffc_cert.specs.Scan.{IsReady, IsWindow, AfterStep, AfterScan, AfterEnd, GoesFurther};
 ghost use Rattle.ffc_cert.specs.Certificate.{next_entry_of};
 
 use crate::MAX_BYTES;
 use crate::entries::{CertFault, CertStop, Numbered};
 use crate::items::place_of;
-use crate::progress::{Place, Progress};
+use crate::progress::Progress;
+use ffc_ghost::GhostText;
 use std::alloc::Global;
 
 /// What a step found.
@@ -22,14 +23,16 @@ pub enum Found {
     Nothing,
 }
 
-/// How far a text is read.
+/// How far a text is read. Of the text a window is there, without the bytes in front that were let go.
 #[derive(Debug, Drop)]
 pub struct Scanner {
     pub progress: Progress,
-    /// Where the next line begins.
-    pub start: usize,
+    /// How many bytes of the text were let go.
+    pub gone: u64,
+    /// Where in the text the next line begins.
+    pub start: u64,
     /// Up to where no LF was found behind that.
-    pub scanned: usize,
+    pub scanned: u64,
 }
 
 impl Scanner {
@@ -37,23 +40,29 @@ impl Scanner {
     pub fn new(alloc: Global) -> Scanner
         ensures ready { (wanted : ℕ) → IsReady wanted [] result }
         ensures start { result.progress.complete ≡ 0 }
+        ensures gone { result.gone ≡ 0 }
     {
         Scanner {
             progress: Progress::new(alloc),
+            gone: 0,
             start: 0,
             scanned: 0,
         }
     }
 
-    /// The place of the LF that ends the next line, or the length of the text.
-    fn line_end(&self, text: &[u8]) -> usize
+    /// The place in the text of the LF that ends the next line, or the length of the text.
+    fn line_end(&self, _told: &GhostText, window: &[u8]) -> u64
+        requires kept { self.now.gone ≤ self.now.start }
         requires within { self.now.start ≤ self.now.scanned }
-        requires limit { self.now.scanned ≤ length text.now }
-        requires unended { self.now.scanned ≤ self.now.start + position_or_len is_line_end (drop self.now.start text.now) }
-        ensures end { result ≡ self.now.start + position_or_len is_line_end (drop self.now.start text.now) }
-        ensures within { result ≤ length text.now }
+        requires limit { self.now.scanned ≤ length _told.now.bytes }
+        requires unended { self.now.scanned ≤ self.now.start + position_or_len is_line_end (drop self.now.start _told.now.bytes) }
+        requires size { length _told.now.bytes < 2 ^ 63 }
+        requires window { IsWindow self.now.gone _told.now.bytes window.now }
+        ensures end { result ≡ self.now.start + position_or_len is_line_end (drop self.now.start _told.now.bytes) }
+        ensures within { result ≤ length _told.now.bytes }
     {
-        self.scanned + place_of(b'\n', &text[self.scanned..])
+        let behind = &window[(self.scanned - self.gone) as usize..];
+        self.scanned + place_of(b'\n', behind) as u64
     }
 
     /// Takes a line that is whole, and its LF.
@@ -61,17 +70,20 @@ impl Scanner {
         &mut self,
         alloc: Global,
         wanted: u64,
-        text: &[u8],
-        end: usize,
+        _told: &GhostText,
+        window: &[u8],
+        end: u64,
     ) -> Result<Found, CertStop>
-        requires ready { IsReady wanted text.now self.old }
-        requires size { length text.now < 2 ^ 63 }
-        requires end { end ≡ self.old.start + position_or_len is_line_end (drop self.old.start text.now) }
-        requires whole { end < length text.now }
-        ensures after { AfterStep result wanted self.old.progress.complete text.now self.new }
+        requires ready { IsReady wanted _told.now.bytes self.old }
+        requires size { length _told.now.bytes < 2 ^ 63 }
+        requires window { IsWindow self.old.gone _told.now.bytes window.now }
+        requires end { end ≡ self.old.start + position_or_len is_line_end (drop self.old.start _told.now.bytes) }
+        requires whole { end < length _told.now.bytes }
+        ensures after { AfterStep result wanted self.old.progress.complete _told.now.bytes self.new }
         ensures further { OnOk result (self.old.start < self.new.start) }
+        ensures gone { self.new.gone ≡ self.old.gone }
     {
-        let line = &text[self.start..end];
+        let line = &window[(self.start - self.gone) as usize..(end - self.gone) as usize];
         let taken = self.progress.take_line(alloc, wanted, line)?;
         self.start = end + 1;
         self.scanned = end + 1;
@@ -82,14 +94,22 @@ impl Scanner {
     }
 
     /// Judges what has come of a line that is not whole.
-    fn judge_rest(&mut self, alloc: Global, wanted: u64, text: &[u8]) -> Result<Found, CertStop>
-        requires ready { IsReady wanted text.now self.old }
-        requires size { length text.now < 2 ^ 63 }
-        requires unended { length text.now ≤ self.old.start + position_or_len is_line_end (drop self.old.start text.now) }
-        ensures after { AfterStep result wanted self.old.progress.complete text.now self.new }
+    fn judge_rest(
+        &mut self,
+        alloc: Global,
+        wanted: u64,
+        _told: &GhostText,
+        window: &[u8],
+    ) -> Result<Found, CertStop>
+        requires ready { IsReady wanted _told.now.bytes self.old }
+        requires size { length _told.now.bytes < 2 ^ 63 }
+        requires window { IsWindow self.old.gone _told.now.bytes window.now }
+        requires unended { length _told.now.bytes ≤ self.old.start + position_or_len is_line_end (drop self.old.start _told.now.bytes) }
+        ensures after { AfterStep result wanted self.old.progress.complete _told.now.bytes self.new }
         ensures nothing { IfOk result (λ found. found ≡ Found.Nothing) }
+        ensures gone { self.new.gone ≡ self.old.gone }
     {
-        let rest = &text[self.start..];
+        let rest = &window[(self.start - self.gone) as usize..];
         if rest.len() as u64 > MAX_BYTES {
             return match self.progress.take_line(alloc, wanted, rest) {
                 Ok(_) => unreachable!(),
@@ -99,22 +119,30 @@ impl Scanner {
         if self.progress.is_over(wanted, rest) {
             return Err(CertStop::Fault(self.progress.fault(2)));
         }
-        self.scanned = text.len();
+        self.scanned = self.gone + window.len() as u64;
         Ok(Found::Nothing)
     }
 
     /// Takes the next line, or judges what has come of it.
-    pub fn step(&mut self, alloc: Global, wanted: u64, text: &[u8]) -> Result<Found, CertStop>
-        requires ready { IsReady wanted text.now self.old }
-        requires size { length text.now < 2 ^ 63 }
-        ensures after { AfterStep result wanted self.old.progress.complete text.now self.new }
+    pub fn step(
+        &mut self,
+        alloc: Global,
+        wanted: u64,
+        told: &GhostText,
+        window: &[u8],
+    ) -> Result<Found, CertStop>
+        requires ready { IsReady wanted told.now.bytes self.old }
+        requires size { length told.now.bytes < 2 ^ 63 }
+        requires window { IsWindow self.old.gone told.now.bytes window.now }
+        ensures after { AfterStep result wanted self.old.progress.complete told.now.bytes self.new }
         ensures further { IfOk result (λ found. GoesFurther found self.old self.new) }
+        ensures gone { self.new.gone ≡ self.old.gone }
     {
-        let end = self.line_end(text);
-        if end < text.len() {
-            self.take_whole(alloc, wanted, text, end)
+        let end = self.line_end(told, window);
+        if end < self.gone + window.len() as u64 {
+            self.take_whole(alloc, wanted, told, window, end)
         } else {
-            self.judge_rest(alloc, wanted, text)
+            self.judge_rest(alloc, wanted, told, window)
         }
     }
 
@@ -123,14 +151,17 @@ impl Scanner {
         &mut self,
         alloc: Global,
         wanted: u64,
-        text: &[u8],
+        told: &GhostText,
+        window: &[u8],
     ) -> Result<Option<Numbered>, CertStop>
-        requires ready { IsReady wanted text.now self.old }
-        requires size { length text.now < 2 ^ 63 }
-        ensures { AfterScan result wanted self.old.progress.complete text.now self.new }
+        requires ready { IsReady wanted told.now.bytes self.old }
+        requires size { length told.now.bytes < 2 ^ 63 }
+        requires window { IsWindow self.old.gone told.now.bytes window.now }
+        ensures after { AfterScan result wanted self.old.progress.complete told.now.bytes self.new }
+        ensures gone { self.new.gone ≡ self.old.gone }
     {
         'lines: loop {
-            match self.step(alloc, wanted, text)? {
+            match self.step(alloc, wanted, told, window)? {
                 Found::Line => {}
                 Found::Whole(entry) => return Ok(Some(entry)),
                 Found::Nothing => return Ok(None),
@@ -143,17 +174,20 @@ impl Scanner {
         &mut self,
         alloc: Global,
         wanted: u64,
-        text: &[u8],
+        told: &GhostText,
+        window: &[u8],
     ) -> Result<Option<CertFault>, CertStop>
-        requires ready { IsReady wanted text.now self.old }
-        requires size { length text.now < 2 ^ 63 }
-        requires given { next_entry_of wanted text.now self.old.progress.complete ≡ None }
-        requires faultless { stop_fault (reading_of wanted text.now).end ≡ None }
-        ensures after { AfterEnd result wanted text.now }
-        ensures ready { IsReady wanted text.now self.new }
+        requires ready { IsReady wanted told.now.bytes self.old }
+        requires size { length told.now.bytes < 2 ^ 63 }
+        requires window { IsWindow self.old.gone told.now.bytes window.now }
+        requires given { next_entry_of wanted told.now.bytes self.old.progress.complete ≡ None }
+        requires faultless { stop_fault (reading_of wanted told.now.bytes).end ≡ None }
+        ensures after { AfterEnd result wanted told.now.bytes }
+        ensures ready { IsReady wanted told.now.bytes self.new }
         ensures complete { self.new.progress.complete ≡ self.old.progress.complete }
+        ensures gone { self.new.gone ≡ self.old.gone }
     {
-        match self.scan(alloc, wanted, text) {
+        match self.scan(alloc, wanted, told, window) {
             Ok(None) => {}
             Ok(Some(_)) => unreachable!(),
             Err(CertStop::Fault(_)) => unreachable!(),

@@ -7,7 +7,7 @@ use Rattle.ffc_cert.proofs.readable.many.Goals as goal
 
 pub returns-in_err-item-clause-reads : goal.returns-in_err-item-clause-reads
 returns-in_err-item-clause-reads g c =
-    let p = err_from_is_err_and c.from_residual.result c.from_residual.ensures.1 in
+    let p = err_from_is_err_and c.from_residual-in_err-item.result c.from_residual-in_err-item.ensures.1 in
     rw (p.1, p.2) (ends g.T.Readable.at c.loop.read.items c.args.count c.loop.counter c.loop.items (many_at g.T.Readable.at c.args.count c.args.items.now) c.in_err-item.field-0.0 c.loop-test.true c.in_err-item.ensures c.loop.invariant.0)
 
 pub loop-preserved : goal.loop-preserved

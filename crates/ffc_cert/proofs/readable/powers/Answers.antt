@@ -5,7 +5,7 @@ use Rattle.ffc_cert.proofs.readable.powers.Goals as goal
 
 pub returns-in_err-power : goal.returns-in_err-power
 returns-in_err-power c =
-    let p = err_from_is_err_and c.from_residual.result c.from_residual.ensures.1 in
+    let p = err_from_is_err_and c.from_residual-in_err-power.result c.from_residual-in_err-power.ensures.1 in
     rw (p.1, p.2) (power_ends c.loop.least c.loop.read.items c.args.count c.loop.counter c.loop.items (powers_at 0 c.args.count c.args.items.now) c.in_err-power.field-0.0 c.loop-test.true c.in_err-power.ensures c.loop.invariant)
 
 pub loop-preserved : goal.loop-preserved
