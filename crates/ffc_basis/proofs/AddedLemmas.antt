@@ -20,7 +20,7 @@ use Rattle.ffc_basis.specs.Outcomes.{ArePartsOf, IsMonic}
 use Rattle.ffc_basis.specs.PairTable.{AreBothClosed, IsState, ArePairs, forgotten, with_state}
 use Rattle.ffc_basis.specs.declared.pair.PairRecord.{PairRecord}
 use Rattle.ffc_basis.specs.declared.pair.PairState.TheVariants.{Closed, Over}
-use Rattle.ffc_basis.proofs.OrderedTerms.{coefficient-none, coefficient-other}
+use Rattle.ffc_basis.proofs.OrderedTerms.{coefficient-none, coefficient-other, lists_of_polynomials}
 use Rattle.ffc_basis.proofs.LineLemmas.{AreLinesFrom-alike, polys-append, take_front}
 use Rattle.ffc_basis.proofs.Lists.{length-polys}
 use Rattle.ffc_basis.proofs.PairLemmas.{whole_times, combination-grown, AreBefore-grown, part_is_before, leading_of_scaled, leading_same, one_s_polynomial_closes, symmetric_pairs_close}
@@ -215,6 +215,7 @@ module _ (p : ℕ) (prime : IsPrime p) (cmp : Monomial → Monomial → Ordering
     (omega (arith, longer), AreBefore-grown (length gs) (length all) parts (omega (arith, longer)) reduction.before),
     at_most,
     s_from_all,
+    ((tt, tt), lists_of_polynomials p cmp parts reduction.polynomials),
   )
 
   pub closed_with_rest : (i j : ℕ) → i < length gs → j < length gs → AreTerms (get_or gs i []) → AreTerms (get_or gs j []) → IsSPolynomial p cmp (get_or gs i []) (get_or gs j []) s → AreBothClosed p cmp all i j
@@ -243,7 +244,7 @@ pub closed_by_reduction : (p : ℕ) → IsPrime p → (cmp : Monomial → Monomi
     → IsSPolynomial p cmp (get_or gs i []) (get_or gs j []) s → IsReduction p cmp gs s rest parts → rest ≡ [] → AreBothClosed p cmp gs i j
 closed_by_reduction p prime cmp laws gs i j s rest parts x y is reduction none =
     let zero : ReducesToZero p cmp gs s =
-    (parts, reduction.before, reduction.at_most, λ m. reduction.whole m ∙ ap (λ ts. coefficient p (ts ++ combination gs parts) m) none) in
+    (parts, reduction.before, reduction.at_most, (λ m. reduction.whole m ∙ ap (λ ts. coefficient p (ts ++ combination gs parts) m) none), lists_of_polynomials p cmp parts reduction.polynomials) in
     let closed : IsPairClosed p cmp gs i j = one_s_polynomial_closes p cmp laws gs i j s is zero in
     (closed, symmetric_pairs_close p cmp (omega (arith, prime.least)) gs i j x y closed)
 

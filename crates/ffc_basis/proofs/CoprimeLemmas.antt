@@ -17,7 +17,7 @@ use Rattle.ffc_mono.specs.MonomialOrder.{IsMonomialOrder}
 use Rattle.ffc_mono.specs.Leading.{IsLeading}
 use Rattle.ffc_mono.proofs.LeadingLemmas.{turned, greater_trans, not_itself, leading_at_most, one_leading, leading_of_product, leading_of_multiple, leading_of_sum, divisor_is_no_greater}
 use Rattle.ffc_poly.specs.Ordered.{IsOrdered}
-use Rattle.ffc_basis.proofs.OrderedTerms.{AreTerms-ordered, coefficient-none, IsLeading-first}
+use Rattle.ffc_basis.proofs.OrderedTerms.{AreTerms-ordered, coefficient-none, IsLeading-first, AreTerms-scaled}
 use Rattle.ffc_basis.proofs.PairLemmas.{dropped_mod, some_of_scaled, at_most_same, nothing_leads_none}
 use Rattle.ffc_basis.specs.Completion.{ReducesToZero, IsPairClosed}
 use Rattle.ffc_basis.specs.Lines.{Parts, combination}
@@ -200,10 +200,6 @@ module _ (p : ℕ) (prime : IsPrime p) (cmp : Monomial → Monomial → Ordering
   scaled_leads q h g t a o =
       leading_of_multiple cmp laws p prime (t ∷ a) (AreTerms-ordered p cmp limit (t ∷ a) o) q t.0 [] t.1 tt h g (IsLeading-first p cmp laws limit t a o)
 
-  AreTerms-scaled : (q : ℕ) (a : Terms) → AreTerms a → AreTerms (scaled q a)
-  AreTerms-scaled q [] v = tt
-  AreTerms-scaled q (t ∷ a) v = (v.0, AreTerms-scaled q a v.1)
-
   -- the leading term of a product of q times terms in order with a line
   multiple_leads : (q : ℕ) → 0 < q → q < p → (t s : ℕ × Monomial) (a b : Terms) → IsOrdered p cmp limit (t ∷ a) → IsOrdered p cmp limit (s ∷ b) → IsLeading p cmp (product (scaled q (s ∷ b)) (t ∷ a)) (mul_mod p (mul_mod p q s.0) t.0) (mono_mul s.1 t.1)
   multiple_leads q h g t s a b o w =
@@ -276,7 +272,8 @@ module _ (p : ℕ) (prime : IsPrime p) (cmp : Monomial → Monomial → Ordering
                     )
                 | inr (inr none) ↦ absurd none
               ]),
-          λ m. sum m ∙ ap (λ x. coefficient p x m) (sym whole),
+          (λ m. sum m ∙ ap (λ x. coefficient p x m) (sym whole)),
+          (AreTerms-scaled (p - e) b (AreTerms-ordered p cmp limit b w.5), (AreTerms-scaled e a (AreTerms-ordered p cmp limit a o.5), tt)),
         )
 
     crossed_pair_closes : IsPairClosed p cmp gs i j

@@ -1,5 +1,7 @@
 pub mod AddedLemmas
+pub mod BoundLemmas
 pub mod CoprimeLemmas
+pub mod FewLemmas
 pub mod LineLemmas
 pub mod Lists
 pub mod Mapped

@@ -4,16 +4,26 @@ use Rattle.std.proofs.Math.Nat.{zero-mod}
 use Rattle.std.specs.declared.cmp.Ordering.{Ordering}
 use Rattle.std.specs.declared.cmp.Ordering.TheVariants.{Greater}
 use Rattle.ffc_ring.specs.Monomial.{Monomial}
-use Rattle.ffc_ring.specs.Polynomial.{Terms, AreTerms, written, coefficient, SamePolynomial, AreItsMonomials, PassesTerms}
+use Rattle.ffc_ring.specs.Polynomial.{Terms, AreTerms, written, coefficient, SamePolynomial, scaled, AreItsMonomials, PassesTerms}
 use Rattle.ffc_ring.proofs.PolynomialLemmas.{written-at, written-off, cases_monomial}
 use Rattle.ffc_mono.specs.MonomialOrder.{IsMonomialOrder}
 use Rattle.ffc_mono.specs.Leading.{IsLeading}
 use Rattle.ffc_mono.proofs.LeadingLemmas.{not_itself}
 use Rattle.ffc_poly.specs.Ordered.{IsAbove, IsOrdered}
+use Rattle.ffc_basis.specs.Lines.{Parts, AreTermLists, ArePolynomials}
 
 pub AreTerms-ordered : (p : ℕ) (cmp : Monomial → Monomial → Ordering) (limit : ℕ) (ts : Terms) → IsOrdered p cmp limit ts → AreTerms ts
 AreTerms-ordered p cmp limit [] h = tt
 AreTerms-ordered p cmp limit (t ∷ ts) h = (h.2, AreTerms-ordered p cmp limit ts h.5)
+
+pub AreTerms-scaled : (c : ℕ) (ts : Terms) → AreTerms ts → AreTerms (scaled c ts)
+AreTerms-scaled c [] v = tt
+AreTerms-scaled c (t ∷ ts) v = (v.0, AreTerms-scaled c ts v.1)
+
+-- polynomials are lists of terms
+pub lists_of_polynomials : (p : ℕ) (cmp : Monomial → Monomial → Ordering) (ts : Parts) → ArePolynomials p cmp ts → AreTermLists ts
+lists_of_polynomials p cmp [] v = tt
+lists_of_polynomials p cmp (t ∷ ts) v = (AreTerms-ordered p cmp 1024 t.1 v.0.0, lists_of_polynomials p cmp ts v.2)
 
 pub coefficient-none : (p : ℕ) (m : Monomial) → coefficient p [] m ≡ 0
 coefficient-none p m = zero-mod p

@@ -15,9 +15,9 @@ use Rattle.ffc_mono.specs.MonomialOrder.{IsMonomialOrder}
 use Rattle.ffc_mono.specs.Leading.{IsLeading}
 use Rattle.ffc_mono.proofs.LeadingLemmas.{one_leading}
 use Rattle.ffc_poly.specs.Ordered.{IsOrdered}
-use Rattle.ffc_basis.proofs.OrderedTerms.{AreTerms-ordered}
+use Rattle.ffc_basis.proofs.OrderedTerms.{AreTerms-ordered, AreTerms-scaled}
 use Rattle.ffc_basis.specs.Completion.{IsSPolynomial, ReducesToZero, IsPairClosed}
-use Rattle.ffc_basis.specs.Lines.{Parts, combination, AreBefore, HasMonomial}
+use Rattle.ffc_basis.specs.Lines.{Parts, combination, AreBefore, AreTermLists, HasMonomial}
 use Rattle.ffc_basis.specs.Reduction.{IsAtMostLead}
 
 -- ---- numbers modulo p
@@ -127,6 +127,10 @@ AreBefore-scaled : (n c : ℕ) (ts : Parts) → AreBefore n ts → AreBefore n (
 AreBefore-scaled n c [] v = tt
 AreBefore-scaled n c (t ∷ ts) v = (v.0, AreBefore-scaled n c ts v.1)
 
+AreTermLists-scaled : (c : ℕ) (ts : Parts) → AreTermLists ts → AreTermLists (scaled_parts c ts)
+AreTermLists-scaled c [] v = tt
+AreTermLists-scaled c (t ∷ ts) v = (AreTerms-scaled c t.1 v.0, AreTermLists-scaled c ts v.1)
+
 HasMonomial-scaled : (p c : ℕ) (ts : Parts) (i : ℕ) (m : Monomial) → HasMonomial p (scaled_parts c ts) i m → HasMonomial p ts i m
 HasMonomial-scaled p c [] i m has = absurd has
 HasMonomial-scaled p c (t ∷ ts) i m (inl (here, some)) = inl (here, some_of_scaled p c t.1 m some)
@@ -142,22 +146,24 @@ part_is_before p n (t ∷ ts) i m v (inr there) = part_is_before p n ts i m v.1 
 
 -- what reduces to zero does so however its terms are written
 pub reduces_same : (p : ℕ) (cmp : Monomial → Monomial → Ordering) (gs : List Terms) (a b : Terms) → SamePolynomial p a b → ReducesToZero p cmp gs a → ReducesToZero p cmp gs b
-reduces_same p cmp gs a b same (parts, before, at_most, whole) = (
+reduces_same p cmp gs a b same (parts, before, at_most, whole, lists) = (
   parts,
   before,
   (λ i m has. let there = at_most i m has in (there.0, there.1, there.2, at_most_same p cmp a b same (mono_mul m there.1) there.3)),
-  λ m. sym (same m) ∙ whole m,
+  (λ m. sym (same m) ∙ whole m),
+  lists,
 )
 
 -- so does its negation
 reduces_negated : (p : ℕ) (cmp : Monomial → Monomial → Ordering) → 0 < p → (gs : List Terms) (a : Terms) → ReducesToZero p cmp gs a → ReducesToZero p cmp gs (scaled (p - 1) a)
-reduces_negated p cmp h gs a (parts, before, at_most, whole) = (
+reduces_negated p cmp h gs a (parts, before, at_most, whole, lists) = (
   scaled_parts (p - 1) parts,
   AreBefore-scaled (length gs) (p - 1) parts before,
   (λ i m has.
       let there = at_most i m (HasMonomial-scaled p (p - 1) parts i m has) in
       (there.0, there.1, there.2, at_most_negated p cmp h a (mono_mul m there.1) there.3)),
-  λ m. same_term_products p (p - 1) [] a (combination gs parts) whole m ∙ sym (combination-scaled p (p - 1) gs parts m),
+  (λ m. same_term_products p (p - 1) [] a (combination gs parts) whole m ∙ sym (combination-scaled p (p - 1) gs parts m)),
+  AreTermLists-scaled (p - 1) parts lists,
 )
 
 pub combination-grown : (gs more : List Terms) (ts : Parts) → AreBefore (length gs) ts → combination gs ts ≡ combination (gs ++ more) ts
@@ -174,14 +180,15 @@ length-more (g ∷ gs) more = omega (arith, length-more gs more)
 
 -- what reduces to zero by some lines does so by these and more
 pub grown_lines_reduce : (p : ℕ) (cmp : Monomial → Monomial → Ordering) (gs more : List Terms) (ts : Terms) → ReducesToZero p cmp gs ts → ReducesToZero p cmp (gs ++ more) ts
-grown_lines_reduce p cmp gs more ts (parts, before, at_most, whole) = (
+grown_lines_reduce p cmp gs more ts (parts, before, at_most, whole, lists) = (
   parts,
   AreBefore-grown (length gs) (length (gs ++ more)) parts (length-more gs more) before,
   (λ i m has.
       let there = at_most i m has in
       let within : i < length gs = part_is_before p (length gs) parts i m before has in
       (there.0, there.1, subst (λ b. IsLeading p cmp b there.0 there.1) (sym (get_or-append gs more [] i within)) there.2, there.3)),
-  λ m. whole m ∙ ap (λ l. coefficient p l m) (combination-grown gs more parts before),
+  (λ m. whole m ∙ ap (λ l. coefficient p l m) (combination-grown gs more parts before)),
+  lists,
 )
 
 -- ---- pairs
@@ -261,7 +268,7 @@ same_line_closes p cmp laws h gs i s (c, m, d, n, first, second, k, l, kc, ld, i
     let lc : mul_mod p l c ≡ 1 = ap (mul_mod p l) one.0 ∙ ld in
     let alike : SamePolynomial p s (difference p (term_product k (mono_quotient (mono_lcm m n) m) a) (term_product l (mono_quotient (mono_lcm m n) m) a)) =
     subst (λ x. SamePolynomial p s (difference p (term_product k (mono_quotient (mono_lcm m n) m) a) (term_product l (mono_quotient (mono_lcm m n) x) a))) (sym one.1) is in
-    ([], tt, (λ _ _ has. absurd has), same_s_polynomial_is_zero p h a s k l c (mono_quotient (mono_lcm m n) m) kc lc alike)
+    ([], tt, (λ _ _ has. absurd has), same_s_polynomial_is_zero p h a s k l c (mono_quotient (mono_lcm m n) m) kc lc alike, tt)
 
 -- two S-polynomials of the same polynomials are the same polynomial
 pub one_s_polynomial : (p : ℕ) (cmp : Monomial → Monomial → Ordering) → IsMonomialOrder cmp → (a b s t : Terms) → IsSPolynomial p cmp a b s → IsSPolynomial p cmp a b t → SamePolynomial p s t

@@ -1,5 +1,5 @@
 -- A multiple recorded in a part.
-use Rattle.std.proofs.Common.{◌≡◌, ◌≢◌, ◌⊎◌, ℕ, zero, suc, ◌+◌, ◌%◌, ◌<◌, List, [], ◌∷◌, ◌++◌, length, get_or, set, refl, sym, ap, ap₂, ◌∙◌, subst, inl, inr, arith, append_assoc, append-nil}
+use Rattle.std.proofs.Common.{◌≡◌, ◌≢◌, ◌⊎◌, ℕ, zero, suc, ◌+◌, ◌%◌, ◌<◌, ◌≤◌, List, [], ◌∷◌, ◌++◌, length, get_or, set, take, refl, sym, ap, ap₂, ◌∙◌, subst, inl, inr, arith, append_assoc, append-nil}
 use Rattle.std.proofs.Math.Nat.{zero-mod}
 use Rattle.std.proofs.lemmas.Bool.{cases_eq}
 use Rattle.ffc_field.specs.Modular.{add_mod}
@@ -7,7 +7,8 @@ use Rattle.ffc_ring.specs.Monomial.{Monomial}
 use Rattle.ffc_ring.specs.Polynomial.{Terms, written, coefficient, SamePolynomial, product, term_product}
 use Rattle.ffc_ring.proofs.PolynomialLemmas.{cases_monomial, written-append, coefficient-append, sum_alike, same_sums, same_products, product-append}
 use Rattle.ffc_basis.proofs.OrderedTerms.{coefficient-none, coefficient-other}
-use Rattle.ffc_basis.specs.Lines.{Parts, combination, AreBefore, HasMonomial}
+use Rattle.std.specs.declared.cmp.Ordering.{Ordering}
+use Rattle.ffc_basis.specs.Lines.{Parts, combination, AreBefore, IsPolynomial, IsLineOfNone, ArePolynomials, HasMonomial}
 use Rattle.ffc_basis.specs.Reduction.{IsRecorded, IsAddedAt}
 
 pub some_of_sum : (p : ℕ) (a b : Terms) (n : Monomial) → coefficient p (a ++ b) n ≢ 0 → (coefficient p a n ≢ 0) ⊎ (coefficient p b n ≢ 0)
@@ -116,3 +117,35 @@ recorded_add p i k q single xs ys j same h e (s, is, sum) =
       before = λ n _ v. AreBefore-set n j s xs v;
       monomials = HasMonomial-set p i k q single s same xs j e sum;
     }
+
+-- ---- one part of a line
+
+pub no_line_next : (line : ℕ) (ts : Parts) (i : ℕ) (d : ℕ × Terms) → i < length ts → IsLineOfNone line (take i ts) → (get_or ts i d).0 ≢ line → IsLineOfNone line (take (suc i) ts)
+no_line_next line [] i d h v other = absurd (omega arith)
+no_line_next line (t ∷ ts) zero d h v other = (other, tt)
+no_line_next line (t ∷ ts) (suc i) d h v other = (v.0, no_line_next line ts i d (omega arith) v.1 other)
+
+pub no_line_all : (line : ℕ) (ts : Parts) (i : ℕ) → length ts ≤ i → IsLineOfNone line (take i ts) → IsLineOfNone line ts
+no_line_all line [] zero h v = tt
+no_line_all line [] (suc i) h v = tt
+no_line_all line (t ∷ ts) zero h v = absurd (omega arith)
+no_line_all line (t ∷ ts) (suc i) h v = (v.0, no_line_all line ts i (omega arith) v.1)
+
+no_line_push : (i line : ℕ) (t : Terms) (xs : Parts) → IsLineOfNone i xs → line ≢ i → IsLineOfNone i (xs ++ (line, t) ∷ [])
+no_line_push i line t [] v other = (other, tt)
+no_line_push i line t (x ∷ xs) v other = (v.0, no_line_push i line t xs v.1 other)
+
+pub polynomials_push : (p : ℕ) (cmp : Monomial → Monomial → Ordering) (line : ℕ) (t : Terms) (xs : Parts) → IsPolynomial p cmp t → IsLineOfNone line xs → ArePolynomials p cmp xs → ArePolynomials p cmp (xs ++ (line, t) ∷ [])
+polynomials_push p cmp line t [] is none v = (is, tt, tt)
+polynomials_push p cmp line t (x ∷ xs) is none v =
+    (v.0, no_line_push x.0 line t xs v.1 (λ e. none.0 (sym e)), polynomials_push p cmp line t xs is none.1 v.2)
+
+no_line_set : (i : ℕ) (s : Terms) (xs : Parts) (j : ℕ) → IsLineOfNone i xs → IsLineOfNone i (set xs j ((get_or xs j (0, [])).0, s))
+no_line_set i s [] j v = tt
+no_line_set i s (x ∷ xs) zero v = (v.0, v.1)
+no_line_set i s (x ∷ xs) (suc j) v = (v.0, no_line_set i s xs j v.1)
+
+pub polynomials_set : (p : ℕ) (cmp : Monomial → Monomial → Ordering) (s : Terms) (xs : Parts) (j : ℕ) → IsPolynomial p cmp s → ArePolynomials p cmp xs → ArePolynomials p cmp (set xs j ((get_or xs j (0, [])).0, s))
+polynomials_set p cmp s [] j is v = tt
+polynomials_set p cmp s (x ∷ xs) zero is v = (is, v.1, v.2)
+polynomials_set p cmp s (x ∷ xs) (suc j) is v = (v.0, no_line_set x.0 s xs j v.1, polynomials_set p cmp s xs j is v.2)

@@ -2,22 +2,25 @@
 use Rattle.std.proofs.Common.{◌≡◌, ◌≢◌, ◌⊎◌, ℕ, zero, suc, ◌+◌, ◌-◌, ◌*◌, ◌%◌, ◌<◌, ◌≤◌, List, [], ◌∷◌, ◌++◌, length, get_or, refl, sym, ap, ap₂, ◌∙◌, subst, inl, inr, arith, append-nil, add-mul, one-mul, mod-lt}
 use Rattle.std.proofs.Math.Nat.{zero-mod, add-mod_right}
 use Rattle.std.proofs.lemmas.Nat.{mul-mod_first}
-use Rattle.std.proofs.lemmas.Bool.{cases_eq}
+use Rattle.std.proofs.lemmas.Bool.{cases_eq, cases_order}
 use Rattle.std.specs.declared.cmp.Ordering.{Ordering}
 use Rattle.std.specs.declared.cmp.Ordering.TheVariants.{Greater}
 use Rattle.ffc_field.specs.Modular.{IsPrime, sub_mod, mul_mod}
 use Rattle.ffc_field.proofs.ModularLaws.{sub_mod-zero, mul_mod-zero_first, sub_mod-self}
-use Rattle.ffc_ring.specs.Monomial.{Monomial, IsMonomial, mono_mul}
+use Rattle.ffc_ring.specs.Monomial.{Monomial, IsMonomial, exponent, degree, mono_mul}
+use Rattle.ffc_ring.specs.Counting.{IsIn}
 use Rattle.ffc_ring.specs.Polynomial.{Terms, AreTerms, written, coefficient, SamePolynomial, term_product, scaled, difference, PassesDegree, PassesTerms}
-use Rattle.ffc_ring.proofs.MonomialLemmas.{mono_mul_comm}
-use Rattle.ffc_ring.proofs.PolynomialLemmas.{cases_monomial, written-append, written-scaled, coefficient-difference, sum_alike, monomial_of_coefficient}
+use Rattle.ffc_ring.proofs.MonomialLemmas.{mono_mul_comm, IsMonomial-mono_mul, exponent-mono_mul, degree-mono_mul}
+use Rattle.ffc_ring.proofs.PolynomialLemmas.{cases_monomial, written-append, written-scaled, coefficient-difference, sum_alike, monomial_of_coefficient, shifted_monomial}
 use Rattle.ffc_mono.specs.MonomialOrder.{IsMonomialOrder}
 use Rattle.ffc_mono.specs.Leading.{IsLeading}
+use Rattle.ffc_mono.specs.Graded.{IsGradedIn}
 use Rattle.ffc_mono.proofs.LeadingLemmas.{greater_trans, not_itself, leading_at_most, leading_of_multiple}
 use Rattle.ffc_poly.specs.Ordered.{IsAbove, IsOrdered}
 use Rattle.ffc_basis.proofs.OrderedTerms.{AreTerms-ordered, IsOrdered-at, coefficient-none, coefficient-other, coefficient-above, coefficient-first, first_nonzero, IsLeading-first}
-use Rattle.ffc_basis.specs.Lines.{Parts, combination}
-use Rattle.ffc_basis.specs.Reduction.{IsIrreducible, IsReduced, IsAtMostLead, IsStep, IsReduction, AreIrreducible, SameFirst, IsRecorded, IsStopped, PassesLimit}
+use Rattle.ffc_basis.specs.Lines.{Parts, combination, IsPolynomial, ArePolynomials}
+use Rattle.ffc_basis.specs.Units.{AreInVariables, IsUpTo}
+use Rattle.ffc_basis.specs.Reduction.{IsIrreducible, IsReduced, IsAtMostLead, IsStep, IsReduction, AreIrreducible, SameFirst, IsCancelled, IsRecorded, IsStopped, PassesLimit}
 
 -- ---- sums modulo p
 
@@ -114,13 +117,15 @@ module _ (p : ℕ) (prime : IsPrime p) (cmp : Monomial → Monomial → Ordering
       (t.0, t.1, lead, at_most_lead (t ∷ ts) t.0 t.1 m lead some)
 
   -- nothing is subtracted yet
-  pub reduction_begins : (gs : List Terms) (poly rest : Terms) (parts : Parts) → IsOrdered p cmp limit poly → rest ≡ poly → parts ≡ [] → IsReduction p cmp gs poly rest parts
-  reduction_begins gs poly rest parts o is none =
+  pub reduction_begins : (gs : List Terms) (poly rest : Terms) (parts : Parts) → IsOrdered p cmp limit poly → IsPolynomial p cmp poly → rest ≡ poly → parts ≡ [] → IsReduction p cmp gs poly rest parts
+  reduction_begins gs poly rest parts o within is none =
       subst (λ r. IsReduction p cmp gs poly r parts) (sym is) (subst (IsReduction p cmp gs poly poly) (sym none) record {
         whole = λ m. ap (λ l. coefficient p l m) (sym (append-nil poly));
         before = tt;
         at_most = λ i m has. absurd has;
         lower = lead_of_ordered poly o;
+        left = within;
+        polynomials = tt;
       })
 
   -- ---- a step
@@ -183,8 +188,9 @@ module _ (p : ℕ) (prime : IsPrime p) (cmp : Monomial → Monomial → Ordering
               ]
         ]
 
-    pub step_keeps : (next : Terms) (old new : Parts) → SamePolynomial p next (difference p rest multiple) → IsRecorded p old new i k q → (poly : Terms) → IsReduction p cmp gs poly rest old → IsReduction p cmp gs poly next new
-    step_keeps next old new left recorded poly so_far = record {
+    pub step_keeps : (next : Terms) (old new : Parts) → SamePolynomial p next (difference p rest multiple) → IsRecorded p old new i k q → IsPolynomial p cmp next → (ArePolynomials p cmp old → ArePolynomials p cmp new)
+        → (poly : Terms) → IsReduction p cmp gs poly rest old → IsReduction p cmp gs poly next new
+    step_keeps next old new left recorded is_polynomial are_polynomials poly so_far = record {
       whole = whole_after p positive poly rest next (combination gs old) (combination gs new) multiple so_far.whole left (recorded.sum gs);
       before = recorded.before (length gs) step.within so_far.before;
       at_most = λ j x has.
@@ -196,7 +202,62 @@ module _ (p : ℕ) (prime : IsPrime p) (cmp : Monomial → Monomial → Ordering
                 (step.leading.0, step.leading.1, step.leading.2, subst (IsAtMostLead p cmp poly) (sym product_is) (so_far.lower m (some_at rest place o within))))
           ];
       lower = next_is_lower poly next left so_far.lower;
+      left = is_polynomial;
+      polynomials = are_polynomials so_far.polynomials;
     }
+
+    -- each monomial of what is left was there and is another one, or is below the cancelled one
+    next_is_below : (next : Terms) → SamePolynomial p next (difference p rest multiple) → (x : Monomial) → coefficient p next x ≢ 0 → ((coefficient p rest x ≢ 0) × (x ≢ m)) ⊎ (cmp m x ≡ Greater)
+    next_is_below next left x some =
+        elim (cases_monomial x m) [
+          | inl same ↦
+              let gone : coefficient p next m ≡ 0 =
+              left m ∙ coefficient-difference p positive rest multiple m ∙ ap₂ (sub_mod p) (coefficient-at rest place o within) multiple_leads.0
+              ∙ sub_mod-self p c (let low : c < p = (IsOrdered-at p cmp limit rest place o within).1 in omega arith) in
+              absurd (some (ap (coefficient p next) same ∙ gone))
+          | inr other ↦
+              elim (some_of_next next left x some) [
+                | inl old ↦ inl (old, other)
+                | inr new ↦
+                    elim (leading_at_most cmp laws p multiple c m multiple_leads x new) [ inl same ↦ absurd (other same) | inr under ↦ inr under ]
+              ]
+        ]
+
+    m_monomial : IsMonomial m
+    m_monomial = monomial_of_coefficient p rest m (AreTerms-ordered p cmp limit rest o) (some_at rest place o within)
+
+    -- the variables of the factor are those of the cancelled monomial
+    factor_in : (vs : List ℕ) → IsIn vs m → IsIn vs q
+    factor_in vs in_m z some =
+        in_m z (λ none. let sum : exponent m z ≡ exponent step.leading.1 z + exponent q z = ap (λ y. exponent y z) (sym step.leading.3) ∙ exponent-mono_mul step.leading.1 q n_monomial u z in omega arith)
+
+    product_in : (vs : List ℕ) (y : Monomial) → IsMonomial y → IsIn vs q → IsIn vs y → IsIn vs (mono_mul q y)
+    product_in vs y w in_q in_y z some =
+        elim (cases_eq (exponent y z) 0) [
+          | inl none ↦ in_q z (λ nothing. some (exponent-mono_mul q y u w z ∙ ap₂ ◌+◌ nothing none ∙ omega arith))
+          | inr found ↦ in_y z found
+        ]
+
+    -- no variable and no higher degree comes in
+    next_up_to : (next : Terms) → SamePolynomial p next (difference p rest multiple) → (vs : List ℕ) (d : ℕ) → IsGradedIn vs cmp → AreInVariables p vs gs → IsUpTo p vs d rest → IsUpTo p vs d next
+    next_up_to next left vs d graded in_lines up x some =
+        elim (some_of_next next left x some) [
+          | inl old ↦ up x old
+          | inr new ↦
+              let shifted = shifted_monomial p k q x g u v new in
+              let top = up m (some_at rest place o within) in
+              let in_x : IsIn vs x = subst (IsIn vs) (sym shifted.3) (product_in vs shifted.0 shifted.1 (factor_in vs top.0) (in_lines i shifted.0 shifted.2)) in
+              let x_monomial : IsMonomial x = subst IsMonomial (sym shifted.3) (IsMonomial-mono_mul q shifted.0 u shifted.1) in
+              elim (leading_at_most cmp laws p multiple c m multiple_leads x new) [
+                | inl same ↦ (in_x, omega (arith, ap degree same, top.1))
+                | inr under ↦
+                    elim (cases_order (degree m) (degree x)) [
+                      | inl alike ↦ (in_x, omega (arith, top.1))
+                      | inr (inl less) ↦ absurd (no_circle m x under (graded x m x_monomial m_monomial in_x top.0 less))
+                      | inr (inr more) ↦ (in_x, omega (arith, top.1))
+                    ]
+              ]
+        ]
 
     -- a monomial above the cancelled one keeps its coefficient
     kept_above : (next : Terms) → SamePolynomial p next (difference p rest multiple) → (x : Monomial) → cmp x m ≡ Greater → coefficient p rest x ≡ coefficient p next x
@@ -246,6 +307,40 @@ module _ (p : ℕ) (prime : IsPrime p) (cmp : Monomial → Monomial → Ordering
   first_same (t ∷ a) (s ∷ b) (suc i) o w h alike j low =
       first_same_from t s a b i o w alike (heads_same t s a b i o w (omega arith) alike) (first_same a b i o.5 w.5 (omega arith)) j low
 
+  -- of two terms in order the later one is below
+  later_below : (ts : Terms) (i j : ℕ) → IsOrdered p cmp limit ts → i < j → j < length ts → cmp (get_or ts i (0, [])).1 (get_or ts j (0, [])).1 ≡ Greater
+  later_below [] i j o l h = absurd (omega arith)
+  later_below (t ∷ ts) i zero o l h = absurd (omega arith)
+  later_below (t ∷ ts) zero (suc j) o l h = above_at t.1 ts j o.4 (omega arith)
+  later_below (t ∷ ts) (suc i) (suc j) o l h = later_below ts i j o.5 (omega arith) (omega arith)
+
+  -- a monomial that is left is below the cancelled one, where it does not stand before it
+  below_cancelled : (rest next : Terms) (place j : ℕ) → IsOrdered p cmp limit rest → IsOrdered p cmp limit next → SameFirst rest next place → place ≤ j → j < length next
+      → coefficient p rest (get_or next j (0, [])).1 ≢ 0 → (get_or next j (0, [])).1 ≢ (get_or rest place (0, [])).1 → cmp (get_or rest place (0, [])).1 (get_or next j (0, [])).1 ≡ Greater
+  below_cancelled rest next place j o w first behind h some other =
+      let x = (get_or next j (0, [])).1 in
+      let there = place_of_monomial p rest x some in
+      elim (cases_order there.0 place) [
+        | inl same ↦ absurd (other (sym there.2 ∙ ap (λ i. (get_or rest i (0, [])).1) same))
+        | inr (inl before) ↦
+            let kept = first there.0 before in
+            absurd (not_itself cmp laws (get_or next there.0 (0, [])).1 x (later_below next there.0 j w (omega arith) h) (sym (ap (λ t. t.1) kept.1) ∙ there.2))
+        | inr (inr after) ↦ subst (λ y. cmp (get_or rest place (0, [])).1 y ≡ Greater) there.2 (later_below rest place there.0 o after there.1)
+      ]
+
+  pub step_cancels : (gs : List Terms) (i k : ℕ) (q : Monomial) (rest next : Terms) (place : ℕ) → IsOrdered p cmp limit rest → IsOrdered p cmp limit next → place < length rest → IsMonomial q → k < p → AreTerms (get_or gs i [])
+      → IsStep p cmp gs (get_or rest place (0, [])).0 (get_or rest place (0, [])).1 i k q → SamePolynomial p next (difference p rest (term_product k q (get_or gs i []))) → SameFirst rest next place → IsCancelled p cmp gs rest next place
+  step_cancels gs i k q rest next place o w within u below v step left first = record {
+    monomial = m_monomial gs i k q rest place o within u below v step;
+    some = some_at rest place o within;
+    below = λ j behind h.
+        elim (next_is_below gs i k q rest place o within u below v step next left (get_or next j (0, [])).1 (some_at next j w h)) [
+          | inl (old, other) ↦ below_cancelled rest next place j o w first behind h old other
+          | inr under ↦ under
+        ];
+    up_to = next_up_to gs i k q rest place o within u below v step next left;
+  }
+
   pub step_first : (gs : List Terms) (i k : ℕ) (q : Monomial) (rest next : Terms) (place : ℕ) → IsOrdered p cmp limit rest → IsOrdered p cmp limit next → place < length rest → IsMonomial q → k < p → AreTerms (get_or gs i [])
       → IsStep p cmp gs (get_or rest place (0, [])).0 (get_or rest place (0, [])).1 i k q → SamePolynomial p next (difference p rest (term_product k q (get_or gs i []))) → SameFirst rest next place
   step_first gs i k q rest next place o w within u below v step left =
@@ -260,11 +355,11 @@ module _ (p : ℕ) (prime : IsPrime p) (cmp : Monomial → Monomial → Ordering
   -- a step by a line's polynomial and a monomial that are written otherwise
   pub line_step : (gs : List Terms) (i k : ℕ) (q q' : Monomial) (line rest next : Terms) (place : ℕ) (old new : Parts) → get_or gs i [] ≡ line → q' ≡ q → IsOrdered p cmp limit rest → place < length rest → IsMonomial q' → k < p → IsOrdered p cmp limit line
       → IsStep p cmp gs (get_or rest place (0, [])).0 (get_or rest place (0, [])).1 i k q → SamePolynomial p next (difference p rest (term_product k q' line)) → IsRecorded p old new i k q
-      → (poly : Terms) → IsReduction p cmp gs poly rest old → IsReduction p cmp gs poly next new
-  line_step gs i k q q' line rest next place old new is same o within u below v step left recorded =
+      → IsPolynomial p cmp next → (ArePolynomials p cmp old → ArePolynomials p cmp new) → (poly : Terms) → IsReduction p cmp gs poly rest old → IsReduction p cmp gs poly next new
+  line_step gs i k q q' line rest next place old new is same o within u below v step left recorded is_polynomial are_polynomials =
       step_keeps gs i k q rest place o within (subst IsMonomial same u) below (subst AreTerms (sym is) (AreTerms-ordered p cmp limit line v)) step next old new
       (subst (λ x. SamePolynomial p next (difference p rest (term_product k x (get_or gs i [])))) same
-      (subst (λ ts. SamePolynomial p next (difference p rest (term_product k q' ts))) (sym is) left)) recorded
+      (subst (λ ts. SamePolynomial p next (difference p rest (term_product k q' ts))) (sym is) left)) recorded is_polynomial are_polynomials
 
   pub line_first : (gs : List Terms) (i k : ℕ) (q q' : Monomial) (line rest next : Terms) (place : ℕ) → get_or gs i [] ≡ line → q' ≡ q → IsOrdered p cmp limit rest → IsOrdered p cmp limit next → place < length rest → IsMonomial q' → k < p → IsOrdered p cmp limit line
       → IsStep p cmp gs (get_or rest place (0, [])).0 (get_or rest place (0, [])).1 i k q → SamePolynomial p next (difference p rest (term_product k q' line)) → SameFirst rest next place
@@ -272,6 +367,14 @@ module _ (p : ℕ) (prime : IsPrime p) (cmp : Monomial → Monomial → Ordering
       step_first gs i k q rest next place o w within (subst IsMonomial same u) below (subst AreTerms (sym is) (AreTerms-ordered p cmp limit line v)) step
       (subst (λ x. SamePolynomial p next (difference p rest (term_product k x (get_or gs i [])))) same
       (subst (λ ts. SamePolynomial p next (difference p rest (term_product k q' ts))) (sym is) left))
+
+  pub line_cancels : (gs : List Terms) (i k : ℕ) (q q' : Monomial) (line rest next : Terms) (place : ℕ) → get_or gs i [] ≡ line → q' ≡ q → IsOrdered p cmp limit rest → IsOrdered p cmp limit next → place < length rest → IsMonomial q' → k < p → IsOrdered p cmp limit line
+      → IsStep p cmp gs (get_or rest place (0, [])).0 (get_or rest place (0, [])).1 i k q → SamePolynomial p next (difference p rest (term_product k q' line)) → IsCancelled p cmp gs rest next place
+  line_cancels gs i k q q' line rest next place is same o w within u below v step left =
+      step_cancels gs i k q rest next place o w within (subst IsMonomial same u) below (subst AreTerms (sym is) (AreTerms-ordered p cmp limit line v)) step
+      (subst (λ x. SamePolynomial p next (difference p rest (term_product k x (get_or gs i [])))) same
+      (subst (λ ts. SamePolynomial p next (difference p rest (term_product k q' ts))) (sym is) left))
+      (line_first gs i k q q' line rest next place is same o w within u below v step left)
 
 -- a multiple of a line that passes a limit
 pub line_passes : (p : ℕ) (gs : List Terms) (i k : ℕ) (q q' : Monomial) (line rest : Terms) (parts : Parts) → get_or gs i [] ≡ line → q' ≡ q

@@ -7,7 +7,7 @@ use Rattle.ffc_ring.specs.Monomial.{Monomial, mono_lcm, mono_quotient}
 use Rattle.ffc_ring.specs.Polynomial.{Terms, SamePolynomial, term_product, difference, PassesDegree, PassesTerms}
 use Rattle.ffc_mono.specs.Leading.{IsLeading}
 use Rattle.ffc_poly.specs.Ordered.{IsConstant}
-use Rattle.ffc_basis.specs.Lines.{Parts, combination, AreBefore}
+use Rattle.ffc_basis.specs.Lines.{Parts, combination, AreBefore, AreTermLists}
 use Rattle.ffc_basis.specs.Reduction.{ArePartsAtMost, IsReduction, IsStopped}
 
 -- Both polynomials are multiplied by terms so that their leading monomials become their least common multiple with the
@@ -22,6 +22,7 @@ IsSPolynomial p cmp a b s =
 abbrev pub ReducesToZero : ℕ → (Monomial → Monomial → Ordering) → List Terms → Terms → Type 0
 ReducesToZero p cmp gs ts =
     (parts : Parts) × AreBefore (length gs) parts × ArePartsAtMost p cmp gs ts parts × SamePolynomial p ts (combination gs parts)
+    × AreTermLists parts
 
 -- each S-polynomial of these two lines reduces to zero
 abbrev pub IsPairClosed : ℕ → (Monomial → Monomial → Ordering) → List Terms → ℕ → ℕ → Type 0

@@ -2,9 +2,11 @@
 -- 2, section 7).
 --
 -- Lines are numbered from 0. What is said of a line's polynomial is said of the list of the lines' polynomials.
-use Rattle.std.specs.Prelude.{◌≡◌, ◌≢◌, ℕ, suc, ◌<◌, ◌⊎◌, List, [], ◌∷◌, ◌++◌, length, map, get_or}
+use Rattle.std.specs.Prelude.{◌≡◌, ◌≢◌, ℕ, suc, ◌<◌, ◌≤◌, ◌⊎◌, List, [], ◌∷◌, ◌++◌, length, map, get_or}
+use Rattle.std.specs.declared.cmp.Ordering.{Ordering}
 use Rattle.ffc_ring.specs.Monomial.{Monomial}
-use Rattle.ffc_ring.specs.Polynomial.{Terms, coefficient, SamePolynomial, product}
+use Rattle.ffc_ring.specs.Polynomial.{Terms, AreTerms, coefficient, SamePolynomial, product}
+use Rattle.ffc_poly.specs.Ordered.{IsOrdered}
 use Rattle.ffc_basis.specs.declared.line.Line.{Line}
 
 -- the numbers of lines, and the polynomials that these are multiplied by
@@ -24,6 +26,25 @@ combination gs (t ∷ ts) = product t.1 (get_or gs t.0 []) ++ combination gs ts
 abbrev pub AreBefore : ℕ → Parts → Type 0
 AreBefore n [] = Unit {0}
 AreBefore n (t ∷ ts) = (t.0 < n) × AreBefore n ts
+
+-- each part is a list of terms
+abbrev pub AreTermLists : Parts → Type 0
+AreTermLists [] = Unit {0}
+AreTermLists (t ∷ ts) = AreTerms t.1 × AreTermLists ts
+
+-- the terms of a polynomial within the limits, in strictly decreasing order
+abbrev pub IsPolynomial : ℕ → (Monomial → Monomial → Ordering) → Terms → Type 0
+IsPolynomial p cmp ts = IsOrdered p cmp 1024 ts × (length ts ≤ 131072)
+
+-- no part is of this line
+abbrev pub IsLineOfNone : ℕ → Parts → Type 0
+IsLineOfNone i [] = Unit {0}
+IsLineOfNone i (t ∷ ts) = (t.0 ≢ i) × IsLineOfNone i ts
+
+-- each part is a polynomial within the limits, and there is one part of a line at most
+abbrev pub ArePolynomials : ℕ → (Monomial → Monomial → Ordering) → Parts → Type 0
+ArePolynomials p cmp [] = Unit {0}
+ArePolynomials p cmp (t ∷ ts) = IsPolynomial p cmp t.1 × IsLineOfNone t.0 ts × ArePolynomials p cmp ts
 
 -- the monomial occurs in a part of this line
 abbrev pub HasMonomial : ℕ → Parts → ℕ → Monomial → Type 0

@@ -1,5 +1,5 @@
 -- What is known of the pairs of lines while a basis is completed.
-use Rattle.std.specs.Prelude.{◌≡◌, ◌≢◌, ℕ, ◌<◌, ◌≤◌, ◌⊎◌, List, [], ◌∷◌, length, get_or, take, nat_le, if◌then◌else◌}
+use Rattle.std.specs.Prelude.{◌≡◌, ◌≢◌, ℕ, zero, suc, ◌+◌, ◌*◌, ◌<◌, ◌≤◌, ◌⊎◌, List, [], ◌∷◌, ◌++◌, length, get_or, map, take, nat_le, nat_lt, if◌then◌else◌}
 use Rattle.std.specs.declared.cmp.Ordering.{Ordering}
 use Rattle.ffc_ring.specs.Monomial.{Monomial}
 use Rattle.ffc_ring.specs.Polynomial.{Terms}
@@ -49,6 +49,45 @@ pub record ArePairs (p : ℕ) (cmp : Monomial → Monomial → Ordering) (gs : L
   pub joined_within : joined ≤ length gs
   pub records : AreRecords p cmp gs rs
   pub covered : IsCovered p cmp gs rs joined
+
+-- how many of these numbers are below n
+abbrev pub count_below : ℕ → List ℕ → ℕ
+count_below n [] = 0
+count_below n (k ∷ ks) = (if nat_lt k n then 1 else 0) + count_below n ks
+
+-- the second lines of the pairs
+abbrev pub seconds : List PairRecord → List ℕ
+seconds rs = map (λ r. r.second) rs
+
+-- of the first n lines there are at most n*n pairs, and of all joined lines
+pub record AreFew (ks : List ℕ) (joined : ℕ) : Type 0 where
+  pub all : length ks ≤ joined * joined
+  pub first : (n : ℕ) → n ≤ joined → count_below n ks ≤ n * n
+
+-- pending pairs of one line with others
+abbrev pub ArePendingOf : ℕ → List PairRecord → Type 0
+ArePendingOf line [] = Unit {0}
+ArePendingOf line (r ∷ rs) = (r.second ≡ line) × (r.state ≡ Pending) × ArePendingOf line rs
+
+-- at most so many pending pairs of the line are appended
+abbrev pub IsJoined : ℕ → ℕ → List PairRecord → List PairRecord → Type 0
+IsJoined line most old new = (more : List PairRecord) × (new ≡ old ++ more) × ArePendingOf line more × (length more ≤ most)
+
+-- the pair at this place is pending
+abbrev pub IsPendingAt : List PairRecord → ℕ → Type 0
+IsPendingAt [] place = ⊥
+IsPendingAt (r ∷ rs) zero = r.state ≡ Pending
+IsPendingAt (r ∷ rs) (suc place) = IsPendingAt rs place
+
+-- how many pairs are not pending
+abbrev pub settled_one : PairState → ℕ
+settled_one Pending = 0
+settled_one (Closed n) = 1
+settled_one (Over n) = 1
+
+abbrev pub settled_count : List PairRecord → ℕ
+settled_count [] = 0
+settled_count (r ∷ rs) = settled_one r.state + settled_count rs
 
 -- no pair is pending
 abbrev pub AreSettled : List PairRecord → Type 0

@@ -1,13 +1,15 @@
 -- Reduction of a polynomial by the lines of a basis (Cox, Little and O'Shea, chapter 2, section 3, theorem 3): what is left is
 -- the polynomial minus multiples of lines, none above its leading monomial.
-use Rattle.std.specs.Prelude.{◌≡◌, ◌≢◌, ℕ, ◌<◌, ◌⊎◌, List, [], ◌∷◌, ◌++◌, length, get_or, set}
+use Rattle.std.specs.Prelude.{◌≡◌, ◌≢◌, ℕ, ◌<◌, ◌≤◌, ◌⊎◌, List, [], ◌∷◌, ◌++◌, length, get_or, set}
 use Rattle.std.specs.declared.cmp.Ordering.{Ordering}
 use Rattle.std.specs.declared.cmp.Ordering.TheVariants.{Greater}
 use Rattle.ffc_field.specs.Modular.{mul_mod}
-use Rattle.ffc_ring.specs.Monomial.{Monomial, Divides, mono_mul}
+use Rattle.ffc_ring.specs.Monomial.{Monomial, IsMonomial, Divides, mono_mul}
 use Rattle.ffc_ring.specs.Polynomial.{Terms, coefficient, SamePolynomial, term_product, difference, PassesDegree, PassesTerms}
 use Rattle.ffc_mono.specs.Leading.{IsLeading}
-use Rattle.ffc_basis.specs.Lines.{Parts, combination, AreBefore, HasMonomial, HasPart}
+use Rattle.ffc_mono.specs.Graded.{IsGradedIn}
+use Rattle.ffc_basis.specs.Units.{AreInVariables, IsUpTo}
+use Rattle.ffc_basis.specs.Lines.{Parts, combination, AreBefore, IsPolynomial, ArePolynomials, HasMonomial, HasPart}
 
 -- no leading monomial of the first k lines divides the monomial
 abbrev pub IsIrreducibleBefore : ℕ → (Monomial → Monomial → Ordering) → List Terms → Monomial → ℕ → Type 0
@@ -49,12 +51,14 @@ abbrev pub IsStopped : ℕ → (Monomial → Monomial → Ordering) → List Ter
 IsStopped p cmp gs rest parts i q =
     (m : Monomial) × (k : ℕ) × (coefficient p rest m ≢ 0) × IsStep p cmp gs (coefficient p rest m) m i k q × PassesLimit p gs rest parts i k q
 
--- what is left of a polynomial, and what was subtracted
+-- what is left of a polynomial, and what was subtracted: polynomials within the limits, one for a line at most
 pub record IsReduction (p : ℕ) (cmp : Monomial → Monomial → Ordering) (gs : List Terms) (poly rest : Terms) (parts : Parts) : Type 0 where
   pub whole : SamePolynomial p poly (rest ++ combination gs parts)
   pub before : AreBefore (length gs) parts
   pub at_most : ArePartsAtMost p cmp gs poly parts
   pub lower : (m : Monomial) → coefficient p rest m ≢ 0 → IsAtMostLead p cmp poly m
+  pub left : IsPolynomial p cmp rest
+  pub polynomials : ArePolynomials p cmp parts
 
 -- the first terms are irreducible
 abbrev pub AreIrreducible : ℕ → (Monomial → Monomial → Ordering) → List Terms → Terms → ℕ → Type 0
@@ -63,6 +67,14 @@ AreIrreducible p cmp gs ts place = (j : ℕ) → j < place → IsIrreducible p c
 -- the first terms of both are the same
 abbrev pub SameFirst : Terms → Terms → ℕ → Type 0
 SameFirst a b place = (j : ℕ) → j < place → (j < length b) × (get_or a j (0, []) ≡ get_or b j (0, []))
+
+-- A step cancelled the monomial at a place: from there on all are below it, and none has another variable or a higher degree
+-- where the order is graded.
+pub record IsCancelled (p : ℕ) (cmp : Monomial → Monomial → Ordering) (gs : List Terms) (old new : Terms) (place : ℕ) : Type 0 where
+  pub monomial : IsMonomial (get_or old place (0, [])).1
+  pub some : coefficient p old (get_or old place (0, [])).1 ≢ 0
+  pub below : (j : ℕ) → place ≤ j → j < length new → cmp (get_or old place (0, [])).1 (get_or new j (0, [])).1 ≡ Greater
+  pub up_to : (vs : List ℕ) (d : ℕ) → IsGradedIn vs cmp → AreInVariables p vs gs → IsUpTo p vs d old → IsUpTo p vs d new
 
 -- k*q is recorded for line i
 pub record IsRecorded (p : ℕ) (old new : Parts) (i k : ℕ) (q : Monomial) : Type 0 where

@@ -4,8 +4,8 @@ ghost use Rattle.ffc_base.specs.Metering.{total};
 ghost use Rattle.ffc_ring.specs.Polynomial.{SamePolynomial, difference};
 ghost use Rattle.ffc_basis.specs.Completion.{ReducesToZero};
 ghost use Rattle.ffc_basis.specs.Completed.{IsFront, IsCompletion, IsProgress, HasTaken};
-ghost use Rattle.ffc_basis.specs.Units.{Takes};
-ghost use Rattle.ffc_basis.specs.Lines.{polys_of, combination, AreBefore, AreLines, AreGenerators, IsAddedTo};
+ghost use Rattle.ffc_basis.specs.Units.{Takes, TakesReductions, IsReductionBound, IsCompletionBound};
+ghost use Rattle.ffc_basis.specs.Lines.{polys_of, combination, AreBefore, AreLines, ArePolynomials, AreGenerators, IsAddedTo};
 ghost use Rattle.ffc_basis.specs.Reduction.{ArePartsAtMost, IsReduced, IsStopped};
 ghost use Rattle.ffc_basis.specs.declared.stop.BasisStop.TheVariants as stops;
 
@@ -40,7 +40,7 @@ impl<F: Field, O: MonoOrder> Drop for Basis<F, O> {
 impl<F: Field, O: MonoOrder> Model for Basis<F, O> {
     ghost use Rattle.std.specs.Prelude.{List};
     ghost use Rattle.ffc_basis.specs.Lines.{AreLines, polys_of};
-    ghost use Rattle.ffc_basis.specs.PairTable.{ArePairs};
+    ghost use Rattle.ffc_basis.specs.PairTable.{ArePairs, AreFew, seconds};
     ghost use Rattle.ffc_basis.specs.declared.line.Line.{Line};
 
     ghost Value = { List (Line F O) };
@@ -48,7 +48,8 @@ impl<F: Field, O: MonoOrder> Model for Basis<F, O> {
     ghost view = { λ b. b.lines.items };
 
     ghost invariant = { λ b. AreLines F.ORDER b.lines.items
-        × ArePairs F.ORDER O.cmp (polys_of b.lines.items) b.pairing.records.items b.pairing.joined };
+        × ArePairs F.ORDER O.cmp (polys_of b.lines.items) b.pairing.records.items b.pairing.joined
+        × AreFew (seconds b.pairing.records.items) b.pairing.joined };
 }
 
 impl<F: Field, O: MonoOrder> Basis<F, O> {
@@ -114,6 +115,8 @@ impl<F: Field, O: MonoOrder> Basis<F, O> {
         ensures found { IfOk result (IsCompletion F.ORDER O.cmp (polys_of self.new)) }
         ensures spent { IsErrOf result stops.Spent → total meter.new ≡ meter.new.budget }
         ensures takes { Takes meter.old meter.new }
+        ensures reductions { TakesReductions meter.old meter.new }
+        ensures bound { (IsErrOf result stops.Memory → ⊥) → IsCompletionBound F.ORDER O.cmp (polys_of self.new) meter.old meter.new }
         ensures unchanged { IsErrOf result stops.Memory → self.new ≡ self.old }
     {
         match self.complete_within(u64::MAX, meter) {
@@ -127,13 +130,15 @@ impl<F: Field, O: MonoOrder> Basis<F, O> {
     }
 
     /// Does a part of that work: pairs are left only where at least so many units were taken. It looks at the units between
-    /// two pairs, so that each call goes on by at least one.
+    /// two pairs, so a call with at least one unit goes on by at least one pair. With none it looks for a constant line alone.
     pub fn complete_within(&mut self, units: u64, meter: &mut Meter) -> Result<Progress, BasisStop>
         ensures stays { IsFront F.ORDER O.cmp self.old self.new }
         ensures found { IfOk result (IsProgress F.ORDER O.cmp (polys_of self.new)) }
         ensures left { IfOk result (HasTaken meter.old meter.new units) }
         ensures spent { IsErrOf result stops.Spent → total meter.new ≡ meter.new.budget }
         ensures takes { Takes meter.old meter.new }
+        ensures reductions { TakesReductions meter.old meter.new }
+        ensures bound { (IsErrOf result stops.Memory → ⊥) → IsCompletionBound F.ORDER O.cmp (polys_of self.new) meter.old meter.new }
         ensures unchanged { IsErrOf result stops.Memory → self.new ≡ self.old }
     {
         let count = self.lines.len();
@@ -158,6 +163,7 @@ impl<F: Field, O: MonoOrder> Basis<F, O> {
         ensures difference { IfOk result (λ r. SamePolynomial F.ORDER r.rest
             (difference F.ORDER poly.now (combination (polys_of self.old) r.parts.items))) }
         ensures lines_exist { IfOk result (λ r. AreBefore (length self.old) r.parts.items) }
+        ensures polynomials { IfOk result (λ r. ArePolynomials F.ORDER O.cmp r.parts.items) }
         ensures at_most { IfOk result (λ r. ArePartsAtMost F.ORDER O.cmp (polys_of self.old) poly.now r.parts.items) }
         ensures zero { IfOk result (λ r. r.rest ≡ [] → ReducesToZero F.ORDER O.cmp (polys_of self.old) poly.now) }
         ensures reduced { IfOk result (λ r. IfNone r.over (IsReduced F.ORDER O.cmp (polys_of self.old) r.rest)) }
@@ -165,6 +171,8 @@ impl<F: Field, O: MonoOrder> Basis<F, O> {
             IsStopped F.ORDER O.cmp (polys_of self.old) r.rest r.parts.items t.0 t.1)) }
         ensures spent { IsErrOf result stops.Spent → total meter.new ≡ meter.new.budget }
         ensures takes { Takes meter.old meter.new }
+        ensures reductions { TakesReductions meter.old meter.new }
+        ensures bound { IsReductionBound F.ORDER O.cmp (polys_of self.old) poly.now meter.old meter.new }
         ensures unchanged { self.new ≡ self.old }
     {
         reduce_by(*self.lines.allocator(), self.lines(), poly, meter)

@@ -6,8 +6,8 @@ use ffc_poly::Poly;
 use std::alloc::Global;
 use std::test::Fail;
 
-/// The exponents of four variables.
-type Exponents = [u32; 4];
+/// The exponents of five variables.
+type Exponents = [u32; 5];
 
 /// A term by its coefficient and its exponents.
 type Row = (u64, Exponents);
@@ -16,12 +16,12 @@ type Row = (u64, Exponents);
 const MINUS: u64 = 2_013_265_920;
 
 /// The most units that a test takes.
-const UNITS: u64 = 10_000;
+const UNITS: u64 = 1_000_000;
 
 /// The monomial with these exponents.
 fn monomial(alloc: Global, exponents: &Exponents) -> Result<Mono, MonoStop> {
     let mut product = Mono::from_pairs(alloc, &[])?;
-    for variable in 0..4u32 {
+    for variable in 0..5u32 {
         let factor = Mono::from_pairs(alloc, &[(variable, 1)])?;
         for _ in 0..exponents[variable as usize] {
             product = product.mul(&factor)?;
@@ -130,59 +130,157 @@ fn completes<O: MonoOrder>(
 
 /// The three cyclic sums of three variables.
 const CYCLIC: [&[Row]; 3] = [
-    &[(1, [1, 0, 0, 0]), (1, [0, 1, 0, 0]), (1, [0, 0, 1, 0])],
-    &[(1, [1, 1, 0, 0]), (1, [0, 1, 1, 0]), (1, [1, 0, 1, 0])],
-    &[(1, [1, 1, 1, 0]), (MINUS, [0, 0, 0, 0])],
+    &[(1, [1, 0, 0, 0, 0]), (1, [0, 1, 0, 0, 0]), (1, [0, 0, 1, 0, 0])],
+    &[(1, [1, 1, 0, 0, 0]), (1, [0, 1, 1, 0, 0]), (1, [1, 0, 1, 0, 0])],
+    &[(1, [1, 1, 1, 0, 0]), (MINUS, [0, 0, 0, 0, 0])],
+];
+
+/// The four cyclic sums of four variables.
+const CYCLIC_4: [&[Row]; 4] = [
+    &[
+        (1, [1, 0, 0, 0, 0]),
+        (1, [0, 1, 0, 0, 0]),
+        (1, [0, 0, 1, 0, 0]),
+        (1, [0, 0, 0, 1, 0]),
+    ],
+    &[
+        (1, [1, 1, 0, 0, 0]),
+        (1, [0, 1, 1, 0, 0]),
+        (1, [0, 0, 1, 1, 0]),
+        (1, [1, 0, 0, 1, 0]),
+    ],
+    &[
+        (1, [1, 1, 1, 0, 0]),
+        (1, [0, 1, 1, 1, 0]),
+        (1, [1, 0, 1, 1, 0]),
+        (1, [1, 1, 0, 1, 0]),
+    ],
+    &[(1, [1, 1, 1, 1, 0]), (MINUS, [0, 0, 0, 0, 0])],
+];
+
+/// Katsura's sums of five variables.
+const KATSURA_4: [&[Row]; 5] = [
+    &[
+        (1, [1, 0, 0, 0, 0]),
+        (2, [0, 1, 0, 0, 0]),
+        (2, [0, 0, 1, 0, 0]),
+        (2, [0, 0, 0, 1, 0]),
+        (2, [0, 0, 0, 0, 1]),
+        (MINUS, [0, 0, 0, 0, 0]),
+    ],
+    &[
+        (1, [2, 0, 0, 0, 0]),
+        (2, [0, 2, 0, 0, 0]),
+        (2, [0, 0, 2, 0, 0]),
+        (2, [0, 0, 0, 2, 0]),
+        (2, [0, 0, 0, 0, 2]),
+        (MINUS, [1, 0, 0, 0, 0]),
+    ],
+    &[
+        (2, [1, 1, 0, 0, 0]),
+        (2, [0, 1, 1, 0, 0]),
+        (2, [0, 0, 1, 1, 0]),
+        (2, [0, 0, 0, 1, 1]),
+        (MINUS, [0, 1, 0, 0, 0]),
+    ],
+    &[
+        (1, [0, 2, 0, 0, 0]),
+        (2, [1, 0, 1, 0, 0]),
+        (2, [0, 1, 0, 1, 0]),
+        (2, [0, 0, 1, 0, 1]),
+        (MINUS, [0, 0, 1, 0, 0]),
+    ],
+    &[
+        (2, [0, 1, 1, 0, 0]),
+        (2, [1, 0, 0, 1, 0]),
+        (2, [0, 1, 0, 0, 1]),
+        (MINUS, [0, 0, 0, 1, 0]),
+    ],
+];
+
+/// Leading monomials of these two in graded reverse lexicographic order, by Singular 4.3.
+const CYCLIC_4_LEADS: [Exponents; 7] = [
+    [1, 0, 0, 0, 0],
+    [0, 2, 0, 0, 0],
+    [0, 1, 2, 0, 0],
+    [0, 1, 1, 2, 0],
+    [0, 1, 0, 4, 0],
+    [0, 0, 3, 2, 0],
+    [0, 0, 2, 4, 0],
+];
+
+const KATSURA_4_LEADS: [Exponents; 13] = [
+    [1, 0, 0, 0, 0],
+    [0, 0, 1, 1, 0],
+    [0, 0, 2, 0, 0],
+    [0, 1, 1, 0, 0],
+    [0, 2, 0, 0, 0],
+    [0, 0, 0, 2, 1],
+    [0, 1, 0, 1, 1],
+    [0, 0, 0, 3, 0],
+    [0, 1, 0, 2, 0],
+    [0, 0, 0, 1, 3],
+    [0, 0, 1, 0, 3],
+    [0, 1, 0, 0, 3],
+    [0, 0, 0, 0, 5],
 ];
 
 /// Katsura's sums of four variables.
 const KATSURA: [&[Row]; 4] = [
     &[
-        (1, [1, 0, 0, 0]),
-        (2, [0, 1, 0, 0]),
-        (2, [0, 0, 1, 0]),
-        (2, [0, 0, 0, 1]),
-        (MINUS, [0, 0, 0, 0]),
+        (1, [1, 0, 0, 0, 0]),
+        (2, [0, 1, 0, 0, 0]),
+        (2, [0, 0, 1, 0, 0]),
+        (2, [0, 0, 0, 1, 0]),
+        (MINUS, [0, 0, 0, 0, 0]),
     ],
     &[
-        (1, [2, 0, 0, 0]),
-        (2, [0, 2, 0, 0]),
-        (2, [0, 0, 2, 0]),
-        (2, [0, 0, 0, 2]),
-        (MINUS, [1, 0, 0, 0]),
+        (1, [2, 0, 0, 0, 0]),
+        (2, [0, 2, 0, 0, 0]),
+        (2, [0, 0, 2, 0, 0]),
+        (2, [0, 0, 0, 2, 0]),
+        (MINUS, [1, 0, 0, 0, 0]),
     ],
     &[
-        (2, [1, 1, 0, 0]),
-        (2, [0, 1, 1, 0]),
-        (2, [0, 0, 1, 1]),
-        (MINUS, [0, 1, 0, 0]),
+        (2, [1, 1, 0, 0, 0]),
+        (2, [0, 1, 1, 0, 0]),
+        (2, [0, 0, 1, 1, 0]),
+        (MINUS, [0, 1, 0, 0, 0]),
     ],
     &[
-        (1, [0, 2, 0, 0]),
-        (2, [1, 0, 1, 0]),
-        (2, [0, 1, 0, 1]),
-        (MINUS, [0, 0, 1, 0]),
+        (1, [0, 2, 0, 0, 0]),
+        (2, [1, 0, 1, 0, 0]),
+        (2, [0, 1, 0, 1, 0]),
+        (MINUS, [0, 0, 1, 0, 0]),
     ],
 ];
 
 #[test]
 fn closed(rt: HostRuntime) -> Result<(), Fail> {
     let alloc = rt.alloc();
-    let cyclic = [[1, 0, 0, 0], [0, 2, 0, 0], [0, 0, 3, 0]];
+    let cyclic = [[1, 0, 0, 0, 0], [0, 2, 0, 0, 0], [0, 0, 3, 0, 0]];
     assert!(rt; completes::<GradedReverseLex>(alloc, &CYCLIC, &cyclic)?);
     assert!(rt; completes::<Lex>(alloc, &CYCLIC, &cyclic)?);
     let katsura = [
-        [1, 0, 0, 0],
-        [0, 2, 0, 0],
-        [0, 1, 1, 0],
-        [0, 0, 2, 0],
-        [0, 1, 0, 2],
-        [0, 0, 1, 2],
-        [0, 0, 0, 4],
+        [1, 0, 0, 0, 0],
+        [0, 2, 0, 0, 0],
+        [0, 1, 1, 0, 0],
+        [0, 0, 2, 0, 0],
+        [0, 1, 0, 2, 0],
+        [0, 0, 1, 2, 0],
+        [0, 0, 0, 4, 0],
     ];
     assert!(rt; completes::<GradedReverseLex>(alloc, &KATSURA, &katsura)?);
-    let triangle = [[1, 0, 0, 0], [0, 1, 0, 0], [0, 0, 1, 0], [0, 0, 0, 8]];
+    let triangle = [[1, 0, 0, 0, 0], [0, 1, 0, 0, 0], [0, 0, 1, 0, 0], [0, 0, 0, 8, 0]];
     assert!(rt; completes::<Lex>(alloc, &KATSURA, &triangle)?);
+    Ok(())
+}
+
+#[test]
+fn closed_by_singular(rt: HostRuntime) -> Result<(), Fail> {
+    let alloc = rt.alloc();
+    assert!(rt; completes::<GradedReverseLex>(alloc, &CYCLIC_4, &CYCLIC_4_LEADS)?);
+    assert!(rt; completes::<GradedReverseLex>(alloc, &KATSURA_4, &KATSURA_4_LEADS)?);
     Ok(())
 }
 
@@ -201,7 +299,7 @@ fn in_parts(rt: HostRuntime) -> Result<(), Fail> {
     assert!(rt; is_left);
     let answer = basis.complete(&mut meter).map_err(|_| "stopped")?;
     assert!(rt; matches!(answer, Completion::Closed));
-    assert!(rt; has_lead(&basis, &monomial(alloc, &[0, 0, 0, 4])?));
+    assert!(rt; has_lead(&basis, &monomial(alloc, &[0, 0, 0, 4, 0])?));
     Ok(())
 }
 
@@ -209,8 +307,8 @@ fn in_parts(rt: HostRuntime) -> Result<(), Fail> {
 fn constants_and_limits(rt: HostRuntime) -> Result<(), Fail> {
     let alloc = rt.alloc();
     let unit: [&[Row]; 2] = [
-        &[(1, [1, 1, 0, 0]), (MINUS, [0, 0, 0, 0])],
-        &[(1, [1, 0, 0, 0])],
+        &[(1, [1, 1, 0, 0, 0]), (MINUS, [0, 0, 0, 0, 0])],
+        &[(1, [1, 0, 0, 0, 0])],
     ];
     let mut basis = basis_of::<Lex>(alloc, &unit)?;
     let stop = basis.complete(&mut Meter::new(0)).err();
@@ -220,8 +318,8 @@ fn constants_and_limits(rt: HostRuntime) -> Result<(), Fail> {
         .map_err(|_| "stopped")?;
     assert!(rt; matches!(answer, Completion::Constant(2)));
     let high: [&[Row]; 2] = [
-        &[(1, [1000, 1, 0, 0]), (1, [0, 0, 0, 0])],
-        &[(1, [0, 1, 1000, 0]), (2, [0, 0, 0, 0])],
+        &[(1, [1000, 1, 0, 0, 0]), (1, [0, 0, 0, 0, 0])],
+        &[(1, [0, 1, 1000, 0, 0]), (2, [0, 0, 0, 0, 0])],
     ];
     let mut basis = basis_of::<Lex>(alloc, &high)?;
     let answer = basis

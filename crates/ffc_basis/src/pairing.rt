@@ -6,8 +6,8 @@ ghost use Rattle.ffc_basis.specs.Lines.{polys_of, AreLines};
 ghost use Rattle.ffc_basis.specs.Completion.{IsConstantLine};
 ghost use Rattle.ffc_basis.specs.Completed.{IsFront, IsProgress, HasTaken};
 ghost use Rattle.ffc_basis.specs.Outcomes.{IsOutcome};
-ghost use Rattle.ffc_basis.specs.PairTable.{AreNeedless, ArePairs, AreSettled, known_by, forgotten, with_state, over_of, answer_of};
-ghost use Rattle.ffc_basis.specs.Units.{TakesReductions};
+ghost use Rattle.ffc_basis.specs.PairTable.{AreNeedless, ArePairs, AreFew, AreSettled, IsJoined, IsPendingAt, seconds, settled_count, known_by, forgotten, with_state, over_of, answer_of};
+ghost use Rattle.ffc_basis.specs.Units.{TakesReductions, IsPairsBound, IsCompletionBound};
 ghost use Rattle.ffc_basis.specs.declared.stop.BasisStop.TheVariants as stops;
 
 use crate::completion::{Completion, Progress};
@@ -125,7 +125,7 @@ fn join_line<F: Field, O: MonoOrder>(
 ) -> Result<(), AllocError>
     requires within { second < length lines.now }
     requires pairs { ArePairs F.ORDER O.cmp (polys_of lines.now) records.old.items second }
-    ensures kept { ArePairs F.ORDER O.cmp (polys_of lines.now) records.new.items second }
+    ensures more { IsJoined second second records.old.items records.new.items }
     ensures joined { OnOk result (ArePairs F.ORDER O.cmp (polys_of lines.now) records.new.items (second + 1)) }
 {
     for first in 0..second {
@@ -142,33 +142,62 @@ fn join_line<F: Field, O: MonoOrder>(
     Ok(())
 }
 
+/// Makes the pairs of the first line that has none yet. Without memory it has none still.
+fn join_next<F: Field, O: MonoOrder>(
+    alloc: Global,
+    lines: &[Line<F, O>],
+    pairing: &mut Pairing,
+) -> Result<(), AllocError>
+    requires within { pairing.old.joined < length lines.now }
+    requires pairs { ArePairs F.ORDER O.cmp (polys_of lines.now) pairing.old.records.items pairing.old.joined }
+    requires few { AreFew (seconds pairing.old.records.items) pairing.old.joined }
+    ensures pairs { ArePairs F.ORDER O.cmp (polys_of lines.now) pairing.new.records.items pairing.new.joined }
+    ensures few { AreFew (seconds pairing.new.records.items) pairing.new.joined }
+    ensures settled { settled_count pairing.new.records.items ≡ settled_count pairing.old.records.items }
+    ensures joined { OnOk result (pairing.new.joined ≡ pairing.old.joined + 1) }
+{
+    let second = pairing.joined;
+    let count = pairing.records.len();
+    match join_line(
+        alloc,
+        lines,
+        &mut pairing.records,
+        &mut pairing.queue,
+        second,
+    ) {
+        Ok(()) => {
+            pairing.joined = second + 1;
+            Ok(())
+        }
+        Err(stop) => {
+            pairing.records.truncate(count);
+            Err(stop)
+        }
+    }
+}
+
 /// Makes the pairs of the lines that have none yet.
 fn join<F: Field, O: MonoOrder>(
     alloc: Global,
     lines: &[Line<F, O>],
     pairing: &mut Pairing,
 ) -> Result<(), AllocError>
-    requires { ArePairs F.ORDER O.cmp (polys_of lines.now) pairing.old.records.items pairing.old.joined }
+    requires pairs { ArePairs F.ORDER O.cmp (polys_of lines.now) pairing.old.records.items pairing.old.joined }
+    requires few { AreFew (seconds pairing.old.records.items) pairing.old.joined }
     ensures pairs { ArePairs F.ORDER O.cmp (polys_of lines.now) pairing.new.records.items pairing.new.joined }
+    ensures few { AreFew (seconds pairing.new.records.items) pairing.new.joined }
+    ensures settled { settled_count pairing.new.records.items ≡ settled_count pairing.old.records.items }
     ensures joined { OnOk result (pairing.new.joined ≡ length lines.now) }
 {
     while pairing.joined < lines.len() {
-        let second = pairing.joined;
-        join_line(
-            alloc,
-            lines,
-            &mut pairing.records,
-            &mut pairing.queue,
-            second,
-        )?;
-        pairing.joined = second + 1;
+        join_next(alloc, lines, pairing)?;
     }
     Ok(())
 }
 
 /// The place of the first pending pair.
 fn first_pending(records: &[PairRecord]) -> Option<usize>
-    ensures some { IfSome result (λ place. place < length records.now) }
+    ensures some { IfSome result (IsPendingAt records.now) }
     ensures none { IfNone result (AreSettled records.now) }
 {
     for place in 0..records.len() {
@@ -186,7 +215,7 @@ fn next_place<F: Field, O: MonoOrder>(
     records: &[PairRecord],
     queue: &mut Queue,
 ) -> Result<Option<usize>, AllocError>
-    ensures some { IfOk result (λ o. IfSome o (λ place. place < length records.now)) }
+    ensures some { IfOk result (λ o. IfSome o (IsPendingAt records.now)) }
     ensures none { IfOk result (λ o. IfNone o (AreSettled records.now)) }
 {
     queue.refresh(alloc, lines, records)?;
@@ -258,6 +287,7 @@ fn settle<F: Field, O: MonoOrder>(
     outcome: Outcome<F, O>,
 ) -> Result<(), AllocError>
     requires within { place < vec_len pairing.old.records }
+    requires pending { IsPendingAt pairing.old.records.items place }
     requires pair { get_or pairing.old.records.items place pair ≡ pair }
     requires lines { AreLines F.ORDER lines.old.items }
     requires pairs { ArePairs F.ORDER O.cmp (polys_of lines.old.items) pairing.old.records.items pairing.old.joined }
@@ -265,6 +295,9 @@ fn settle<F: Field, O: MonoOrder>(
     ensures front { IsFront F.ORDER O.cmp lines.old.items lines.new.items }
     ensures lines { AreLines F.ORDER lines.new.items }
     ensures pairs { ArePairs F.ORDER O.cmp (polys_of lines.new.items) pairing.new.records.items pairing.new.joined }
+    ensures seconds { seconds pairing.new.records.items ≡ seconds pairing.old.records.items }
+    ensures joined { pairing.new.joined ≡ pairing.old.joined }
+    ensures settled { OnOk result (settled_count pairing.new.records.items ≡ settled_count pairing.old.records.items + 1) }
 {
     let count = lines.len();
     match outcome {
@@ -296,14 +329,18 @@ fn treat<F: Field, O: MonoOrder>(
     place: usize,
     meter: &mut Meter,
 ) -> Result<(), BasisStop>
-    requires within { place < vec_len pairing.old.records }
+    requires pending { IsPendingAt pairing.old.records.items place }
     requires lines { AreLines F.ORDER lines.old.items }
     requires pairs { ArePairs F.ORDER O.cmp (polys_of lines.old.items) pairing.old.records.items pairing.old.joined }
     ensures front { IsFront F.ORDER O.cmp lines.old.items lines.new.items }
     ensures lines { AreLines F.ORDER lines.new.items }
     ensures pairs { ArePairs F.ORDER O.cmp (polys_of lines.new.items) pairing.new.records.items pairing.new.joined }
+    ensures seconds { seconds pairing.new.records.items ≡ seconds pairing.old.records.items }
+    ensures joined { pairing.new.joined ≡ pairing.old.joined }
+    ensures settled { OnOk result (settled_count pairing.new.records.items ≡ settled_count pairing.old.records.items + 1) }
     ensures spent { IsErrOf result stops.Spent → total meter.new ≡ meter.new.budget }
     ensures takes { TakesReductions meter.old meter.new }
+    ensures bound { IsPairsBound F.ORDER O.cmp (polys_of lines.old.items) 1 meter.old meter.new }
     ensures forward { OnOk result (meter.old.reductions < meter.new.reductions) }
 {
     let pair = pairing.records[place];
@@ -335,9 +372,12 @@ pub(crate) fn advance<F: Field, O: MonoOrder>(
 ) -> Result<Progress, BasisStop>
     requires lines { AreLines F.ORDER lines.old.items }
     requires pairs { ArePairs F.ORDER O.cmp (polys_of lines.old.items) pairing.old.records.items pairing.old.joined }
+    requires few { AreFew (seconds pairing.old.records.items) pairing.old.joined }
     ensures front { IsFront F.ORDER O.cmp lines.old.items lines.new.items }
     ensures lines { AreLines F.ORDER lines.new.items }
     ensures pairs { ArePairs F.ORDER O.cmp (polys_of lines.new.items) pairing.new.records.items pairing.new.joined }
+    ensures few { AreFew (seconds pairing.new.records.items) pairing.new.joined }
+    ensures bound { IsCompletionBound F.ORDER O.cmp (polys_of lines.new.items) meter.old meter.new }
     ensures found { IfOk result (IsProgress F.ORDER O.cmp (polys_of lines.new.items)) }
     ensures left { IfOk result (HasTaken meter.old meter.new units) }
     ensures spent { IsErrOf result stops.Spent → total meter.new ≡ meter.new.budget }

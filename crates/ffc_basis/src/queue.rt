@@ -3,7 +3,8 @@
 //! comes after all others.
 //!
 //! The order is a cache. No answer depends on it but by how soon it comes.
-ghost use Rattle.std.specs.Prelude.{◌<◌, length, IfOk, IfSome};
+ghost use Rattle.std.specs.Prelude.{IfOk, IfSome};
+ghost use Rattle.ffc_basis.specs.PairTable.{IsPendingAt};
 
 use crate::line::Line;
 use crate::pair::PairRecord;
@@ -97,7 +98,7 @@ impl Queue {
         lines: &[Line<F, O>],
         pairs: &[PairRecord],
     ) -> Result<Option<usize>, AllocError>
-        ensures { IfOk result (λ o. IfSome o (λ place. place < length pairs.now)) }
+        ensures { IfOk result (λ o. IfSome o (IsPendingAt pairs.now)) }
     {
         while let Some(turn) = self.near.pop() {
             let place = turn.place();
@@ -114,7 +115,7 @@ impl Queue {
 
     /// The place of the next pair that it leaves out.
     pub fn next_late(&mut self, pairs: &[PairRecord]) -> Option<usize>
-        ensures { IfSome result (λ place. place < length pairs.now) }
+        ensures { IfSome result (IsPendingAt pairs.now) }
     {
         while let Some(turn) = self.late.pop() {
             let place = turn.place();
@@ -128,7 +129,7 @@ impl Queue {
 
 /// The pair at a place, where it is pending.
 fn pending_at(pairs: &[PairRecord], place: usize) -> Option<PairRecord>
-    ensures { IfSome result (λ _. place < length pairs.now) }
+    ensures { IfSome result (λ _. IsPendingAt pairs.now place) }
 {
     if place < pairs.len() && pairs[place].is_pending() {
         Some(pairs[place])

@@ -4,9 +4,9 @@ ghost use Rattle.ffc_base.specs.Metering.{total};
 ghost use Rattle.ffc_field.specs.Modular.{mul_mod};
 ghost use Rattle.ffc_ring.specs.Monomial.{Divides, mono_mul};
 ghost use Rattle.ffc_ring.specs.Polynomial.{Terms, SamePolynomial, PassesTerms};
-ghost use Rattle.ffc_basis.specs.Lines.{polys_of, HasPart};
-ghost use Rattle.ffc_basis.specs.Reduction.{IsIrreducible, IsStep, IsAddedAt, IsRecorded, IsReduction, IsReduced, SameFirst, IsStopped, PassesLimit};
-ghost use Rattle.ffc_basis.specs.Units.{TakesReductions};
+ghost use Rattle.ffc_basis.specs.Lines.{polys_of, HasPart, IsLineOfNone, ArePolynomials};
+ghost use Rattle.ffc_basis.specs.Reduction.{IsIrreducible, IsStep, IsAddedAt, IsRecorded, IsReduction, IsReduced, SameFirst, IsCancelled, IsStopped, PassesLimit};
+ghost use Rattle.ffc_basis.specs.Units.{TakesReductions, IsReductionBound};
 ghost use Rattle.ffc_basis.specs.declared.stop.BasisStop.TheVariants as stops;
 
 use crate::line::{Line, LineId};
@@ -120,7 +120,8 @@ pub(crate) fn term<F: Field, O: MonoOrder>(
 
 /// The place of a part of a line.
 fn place_of<F: Field, O: MonoOrder>(parts: &[(LineId, Poly<F, O>)], line: LineId) -> Option<usize>
-    ensures { IfSome result (λ i. (i < length parts.now) × ((get_or parts.now i (0, [])).0 ≡ line)) }
+    ensures some { IfSome result (λ i. (i < length parts.now) × ((get_or parts.now i (0, [])).0 ≡ line)) }
+    ensures none { IfNone result (IsLineOfNone line parts.now) }
 {
     for place in 0..parts.len() {
         if parts[place].0 == line {
@@ -138,12 +139,14 @@ fn add_at<F: Field, O: MonoOrder>(
 ) -> Result<(), PolyStop>
     requires { place < vec_len parts.old }
     ensures added { OnOk result (IsAddedAt F.ORDER parts.old.items parts.new.items place more.now) }
+    ensures polynomials { OnOk result (ArePolynomials F.ORDER O.cmp parts.old.items → ArePolynomials F.ORDER O.cmp parts.new.items) }
     ensures over { IsErrOf result PolyStop.TermsOver → PassesTerms F.ORDER 131072 ((get_or parts.old.items place (0, [])).1 ++ more.now) }
     ensures no_product { IsErrOf result PolyStop.DegreeOver → ⊥ }
     ensures unchanged { OnErr result (parts.new.items ≡ parts.old.items) }
 {
     let line = parts[place].0;
     let sum = parts[place].1.add(more)?;
+    let _length = sum.len();
     parts[place] = (line, sum);
     Ok(())
 }
@@ -171,6 +174,7 @@ pub(crate) fn record<F: Field, O: MonoOrder>(
 ) -> Result<(), PolyStop>
     ensures recorded { OnOk result
         (IsRecorded F.ORDER parts.old.items parts.new.items step.now.line (F.value step.now.coefficient) step.now.monomial) }
+    ensures polynomials { OnOk result (ArePolynomials F.ORDER O.cmp parts.old.items → ArePolynomials F.ORDER O.cmp parts.new.items) }
     ensures over { IsErrOf result PolyStop.TermsOver → (t : Terms) × HasPart parts.old.items step.now.line t
         × PassesTerms F.ORDER 131072 (t ++ (F.value step.now.coefficient, step.now.monomial) ∷ []) }
     ensures no_product { IsErrOf result PolyStop.DegreeOver → ⊥ }
@@ -178,6 +182,7 @@ pub(crate) fn record<F: Field, O: MonoOrder>(
 {
     let single = term(*parts.allocator(), step.coefficient, &step.monomial)?;
     let line = step.line as u64;
+    let _length = single.len();
     match place_of(parts.as_slice(), line) {
         Some(place) => add_at(parts, place, &single),
         None => append(parts, line, single),
@@ -198,6 +203,7 @@ fn subtract<F: Field, O: MonoOrder>(
     ensures reduction { OnOk result ((poly : Terms) → IsReduction F.ORDER O.cmp (polys_of lines.now) poly rest.old parts.old.items
         → IsReduction F.ORDER O.cmp (polys_of lines.now) poly rest.new parts.new.items) }
     ensures first { OnOk result (SameFirst rest.old rest.new place) }
+    ensures cancelled { OnOk result (IsCancelled F.ORDER O.cmp (polys_of lines.now) rest.old rest.new place) }
     ensures over { IfErr result (λ stop. stop ≢ PolyStop.Memory
         → PassesLimit F.ORDER (polys_of lines.now) rest.old parts.old.items step.now.line (F.value step.now.coefficient) step.now.monomial) }
     ensures unchanged { OnErr result ((rest.new ≡ rest.old) × (parts.new.items ≡ parts.old.items)) }
@@ -242,6 +248,7 @@ pub fn reduce_by<F: Field, O: MonoOrder>(
     ensures over { IfOk result (λ r. IfSome r.over (λ t. IsStopped F.ORDER O.cmp (polys_of lines.now) r.rest r.parts.items t.0 t.1)) }
     ensures spent { IsErrOf result stops.Spent → total meter.new ≡ meter.new.budget }
     ensures takes { TakesReductions meter.old meter.new }
+    ensures bound { IsReductionBound F.ORDER O.cmp (polys_of lines.now) poly.now meter.old meter.new }
 {
     let _length = poly.len();
     let mut rest = poly.clone()?;

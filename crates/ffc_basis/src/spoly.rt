@@ -8,7 +8,7 @@ ghost use Rattle.ffc_basis.specs.Reduction.{IsRecorded};
 ghost use Rattle.ffc_basis.specs.Completion.{PassesSPolynomial};
 ghost use Rattle.ffc_basis.specs.PairTable.{AreBothClosed};
 ghost use Rattle.ffc_basis.specs.Outcomes.{IsOutcome, IsSum, PassesDifference, AreScaled, ArePartsOf, IsMonic};
-ghost use Rattle.ffc_basis.specs.Units.{TakesReductions};
+ghost use Rattle.ffc_basis.specs.Units.{TakesReductions, IsPairBound};
 ghost use Rattle.ffc_basis.specs.declared.stop.BasisStop.TheVariants as stops;
 
 use crate::line::{Line, LineId};
@@ -225,6 +225,7 @@ pub(crate) fn reduce_pair<F: Field, O: MonoOrder>(
     ensures outcome { IfOk result (IsOutcome F.ORDER O.cmp (polys_of lines.now) i j) }
     ensures spent { IsErrOf result stops.Spent → total meter.new ≡ meter.new.budget }
     ensures takes { TakesReductions meter.old meter.new }
+    ensures bound { IsPairBound F.ORDER O.cmp (polys_of lines.now) meter.old meter.new }
 {
     let _lengths = (lines[i].poly.len(), lines[j].poly.len());
     let found = match s_polynomial(alloc, lines, i, j) {

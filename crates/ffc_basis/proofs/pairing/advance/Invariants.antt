@@ -1,8 +1,8 @@
 use Rattle.std.proofs.Common.{◌≡◌, ◌-◌}
 use Rattle.ffc_basis.specs.Lines.{polys_of, AreLines}
 use Rattle.ffc_basis.specs.Completed.{IsFront}
-use Rattle.ffc_basis.specs.PairTable.{ArePairs}
-use Rattle.ffc_basis.specs.Units.{TakesReductions}
+use Rattle.ffc_basis.specs.PairTable.{ArePairs, AreFew, seconds, settled_count}
+use Rattle.ffc_basis.specs.Units.{TakesReductions, IsPairsBound}
 use Rattle.ffc_basis.proofs.pairing.advance.Given as goal
 
 abbrev pub invariant-loop-alloc : goal.invariant-loop-alloc
@@ -10,6 +10,8 @@ invariant-loop-alloc g l = record {
   front : IsFront g.F.Field.ORDER g.O.MonoOrder.cmp l.fn.lines.items l.lines.items;
   lines : AreLines g.F.Field.ORDER l.lines.items;
   pairs : ArePairs g.F.Field.ORDER g.O.MonoOrder.cmp (polys_of l.lines.items) l.pairing.records.items l.pairing.joined;
+  few : AreFew (seconds l.pairing.records.items) l.pairing.joined;
+  bound : IsPairsBound g.F.Field.ORDER g.O.MonoOrder.cmp (polys_of l.lines.items) (settled_count l.pairing.records.items) l.fn.meter l.meter;
   takes : TakesReductions l.fn.meter l.meter;
   start : l.before ≡ l.fn.meter.reductions;
 }

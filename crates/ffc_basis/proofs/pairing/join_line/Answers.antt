@@ -2,13 +2,21 @@ use Rattle.std.proofs.Common.{◌≡◌, ◌+◌, ◌++◌, ◌∷◌, [], get_o
 use Rattle.std.specs.Bool.{OnFalse}
 use Rattle.ffc_ring.specs.Polynomial.{Terms}
 use Rattle.ffc_basis.specs.Lines.{polys_of}
-use Rattle.ffc_basis.specs.PairTable.{AreNeedless, ArePairs}
+use Rattle.ffc_basis.specs.PairTable.{AreNeedless, ArePairs, IsJoined}
 use Rattle.ffc_basis.specs.declared.pair.PairRecord.{PairRecord}
 use Rattle.ffc_basis.specs.declared.pair.PairState.TheVariants.{Pending}
 use Rattle.ffc_basis.proofs.Lists.{poly_at, length-polys}
+use Rattle.ffc_basis.proofs.FewLemmas.{joins_nothing, joins_more, joins_one}
 use Rattle.ffc_basis.proofs.PairTableLemmas.{IsColumn, pairs_push, column_push, column_needless, pairs_joined}
 use Rattle.ffc_basis.proofs.pairing.join_line.Goals as goal
 use Rattle.ffc_basis.proofs.pairing.join_line.Goals.{then-is_needed+in_ok-put+in_ok-push, else-is_needed}
+
+pub loop-first-init : goal.loop-first-init
+loop-first-init g c = record {
+  pairs = c.requires.pairs;
+  column = λ i h. absurd (omega arith);
+  more = joins_nothing c.args.second c.args.records.now.items;
+}
 
 pub loop-first-preserved : goal.loop-first-preserved
 loop-first-preserved g c =
@@ -27,6 +35,7 @@ loop-first-preserved g c =
           record {
             pairs = subst (λ rs. ArePairs p cmp gs rs second) (sym e) (pairs_push p cmp gs before second pair low (omega (arith, c.requires.within, length-polys lines)) refl c.loop-first.invariant.pairs);
             column = subst (λ rs. IsColumn p cmp gs rs second (first + 1)) (sym e) (column_push p cmp gs before second first pair refl refl c.loop-first.invariant.column);
+            more = joins_one second first c.args.records.now.items before c.if-is_needed.records.items pair refl refl e c.loop-first.invariant.more;
           }
       | else-is_needed w ↦
           let a : Terms = (get_or lines first c.index-lines-first.result).poly in
@@ -40,6 +49,7 @@ loop-first-preserved g c =
           record {
             pairs = subst (λ rs. ArePairs p cmp gs rs second) (sym e) c.loop-first.invariant.pairs;
             column = subst (λ rs. IsColumn p cmp gs rs second (first + 1)) (sym e) (column_needless p cmp gs before second first needless c.loop-first.invariant.column);
+            more = subst (IsJoined second (first + 1) c.args.records.now.items) (sym e) (joins_more second first (first + 1) c.args.records.now.items before (omega arith) c.loop-first.invariant.more);
           }
     ]
 
@@ -49,3 +59,7 @@ returns-clause-joined g c =
     let same : c.loop-first.first ≡ c.args.second = omega (arith, c.loop-first-test.false, c.loop-first.auto.first-end) in
     pairs_joined g.F.Field.ORDER g.O.MonoOrder.cmp (polys_of lines) c.loop-first.records.items c.args.second (omega (arith, c.requires.within, length-polys lines)) c.loop-first.invariant.pairs
     (subst (IsColumn g.F.Field.ORDER g.O.MonoOrder.cmp (polys_of lines) c.loop-first.records.items c.args.second) same c.loop-first.invariant.column)
+
+pub returns-clause-more : goal.returns-clause-more
+returns-clause-more g c =
+    joins_more c.args.second c.loop-first.first c.args.second c.args.records.now.items c.loop-first.records.items (omega (arith, c.loop-first.auto.first-end)) c.loop-first.invariant.more

@@ -1,5 +1,5 @@
 use Rattle.ffc_basis.specs.Lines.{polys_of}
-use Rattle.ffc_basis.specs.PairTable.{ArePairs}
+use Rattle.ffc_basis.specs.PairTable.{ArePairs, IsJoined}
 use Rattle.ffc_basis.proofs.PairTableLemmas.{IsColumn}
 use Rattle.ffc_basis.proofs.pairing.join_line.Given as goal
 
@@ -7,4 +7,5 @@ abbrev pub invariant-loop-first : goal.invariant-loop-first
 invariant-loop-first g l = record {
   pairs : ArePairs g.F.Field.ORDER g.O.MonoOrder.cmp (polys_of l.lines) l.records.items l.second;
   column : IsColumn g.F.Field.ORDER g.O.MonoOrder.cmp (polys_of l.lines) l.records.items l.second l.first;
+  more : IsJoined l.second l.first l.fn.records.items l.records.items;
 }

@@ -1,8 +1,10 @@
-use Rattle.std.proofs.Common.{refl, sym, subst, arith}
+use Rattle.std.proofs.Common.{◌+◌, refl, sym, ap, ◌∙◌, subst, arith}
 use Rattle.ffc_basis.specs.Lines.{polys_of, AreLines}
 use Rattle.ffc_basis.specs.declared.spoly.Outcome.TheVariants.{Added}
 use Rattle.ffc_basis.specs.Outcomes.{IsOutcome}
-use Rattle.ffc_basis.specs.PairTable.{ArePairs}
+use Rattle.ffc_basis.specs.PairTable.{ArePairs, seconds, settled_count, with_state}
+use Rattle.ffc_basis.specs.declared.pair.PairState.TheVariants.{Closed, Over}
+use Rattle.ffc_basis.proofs.FewLemmas.{seconds-set, settled_set, pending_within}
 use Rattle.ffc_basis.proofs.AddedLemmas.{front_same, front_one, line_added, settled_closed, settled_over, settled_added}
 use Rattle.ffc_basis.proofs.pairing.settle.Goals as goal
 
@@ -19,6 +21,9 @@ returns-in-Closed g c =
       pairs = subst (λ x. ArePairs p cmp (polys_of ls) x joined) (sym c.mark.ensures)
           (settled_closed p cmp ls rs joined c.args.place c.args.pair c.len-count.result (omega (arith, c.len-count.ensures, c.args.lines.now.ok.0)) (omega (arith, c.requires.within, c.args.pairing.now.records.ok.0)) c.requires.pair
           (subst (IsOutcome p cmp (polys_of ls) c.args.pair.first c.args.pair.second) c.in-Closed.is c.requires.outcome) c.requires.pairs);
+      seconds = ap seconds c.mark.ensures ∙ seconds-set rs c.args.place c.args.pair (with_state c.args.pair (Closed c.len-count.result)) (pending_within rs c.args.place c.requires.pending) c.requires.pair refl;
+      joined = refl;
+      settled = ap settled_count c.mark.ensures ∙ settled_set rs c.args.place (with_state c.args.pair (Closed c.len-count.result)) c.requires.pending refl;
     }
 
 pub returns-in-Over : goal.returns-in-Over
@@ -34,19 +39,22 @@ returns-in-Over g c =
       pairs = subst (λ x. ArePairs p cmp (polys_of ls) x joined) (sym c.mark-in-Over.ensures)
           (settled_over p cmp ls rs joined c.args.place c.args.pair c.len-count.result (omega (arith, c.len-count.ensures, c.args.lines.now.ok.0)) (omega (arith, c.requires.within, c.args.pairing.now.records.ok.0)) c.requires.pair
           (subst (IsOutcome p cmp (polys_of ls) c.args.pair.first c.args.pair.second) c.in-Over.is c.requires.outcome) c.requires.pairs);
+      seconds = ap seconds c.mark-in-Over.ensures ∙ seconds-set rs c.args.place c.args.pair (with_state c.args.pair (Over c.len-count.result)) (pending_within rs c.args.place c.requires.pending) c.requires.pair refl;
+      joined = refl;
+      settled = ap settled_count c.mark-in-Over.ensures ∙ settled_set rs c.args.place (with_state c.args.pair (Over c.len-count.result)) c.requires.pending refl;
     }
 
-pub returns-in_err-push-in-Added : goal.returns-in_err-push-in-Added
-returns-in_err-push-in-Added g c =
-    let p = g.F.Field.ORDER in
-    let cmp = g.O.MonoOrder.cmp in
-    let ls = c.args.lines.now.items in
-    let same = c.in_err-push-in-Added.ensures.items in
-    record {
-      front = front_same p cmp ls c.push.new.self.items same;
-      lines = subst (AreLines p) (sym same) c.requires.lines;
-      pairs = subst (λ x. ArePairs p cmp (polys_of x) c.args.pairing.now.records.items c.args.pairing.now.joined) (sym same) c.requires.pairs;
-    }
+pub returns-in_err-push-in-Added-clause-front : goal.returns-in_err-push-in-Added-clause-front
+returns-in_err-push-in-Added-clause-front g c =
+    front_same g.F.Field.ORDER g.O.MonoOrder.cmp c.args.lines.now.items c.push.new.self.items c.in_err-push-in-Added.ensures.items
+
+pub returns-in_err-push-in-Added-clause-lines : goal.returns-in_err-push-in-Added-clause-lines
+returns-in_err-push-in-Added-clause-lines g c =
+    subst (AreLines g.F.Field.ORDER) (sym c.in_err-push-in-Added.ensures.items) c.requires.lines
+
+pub returns-in_err-push-in-Added-clause-pairs : goal.returns-in_err-push-in-Added-clause-pairs
+returns-in_err-push-in-Added-clause-pairs g c =
+    subst (λ x. ArePairs g.F.Field.ORDER g.O.MonoOrder.cmp (polys_of x) c.args.pairing.now.records.items c.args.pairing.now.joined) (sym c.in_err-push-in-Added.ensures.items) c.requires.pairs
 
 pub returns-in_ok-push-in-Added : goal.returns-in_ok-push-in-Added
 returns-in_ok-push-in-Added g c =
@@ -66,4 +74,7 @@ returns-in_ok-push-in-Added g c =
       pairs = subst (λ x. ArePairs p cmp (polys_of ks) x joined) (sym c.mark-in-Added.ensures)
           (settled_added p cmp ls ks l rs joined c.args.place c.args.pair c.len-count.result is (omega (arith, c.len-count.ensures, c.args.lines.now.ok.0)) (omega (arith, c.requires.within, c.args.pairing.now.records.ok.0)) c.requires.pair
           outcome.2 c.requires.pairs);
+      seconds = ap seconds c.mark-in-Added.ensures ∙ seconds-set rs c.args.place c.args.pair (with_state c.args.pair (Closed (c.len-count.result + 1))) (pending_within rs c.args.place c.requires.pending) c.requires.pair refl;
+      joined = refl;
+      settled = ap settled_count c.mark-in-Added.ensures ∙ settled_set rs c.args.place (with_state c.args.pair (Closed (c.len-count.result + 1))) c.requires.pending refl;
     }

@@ -1,5 +1,9 @@
-use Rattle.std.proofs.Common.{length, sym, ap, arith}
+use Rattle.std.proofs.Common.{List, length, sym, ap, subst, arith}
+use Rattle.ffc_basis.specs.declared.line.Line.{Line}
+use Rattle.ffc_basis.specs.Units.{IsPairBound}
+use Rattle.ffc_basis.proofs.BoundLemmas.{one_pair, no_pairs}
 use Rattle.ffc_basis.specs.Lines.{polys_of}
+use Rattle.ffc_basis.proofs.FewLemmas.{pending_within}
 use Rattle.ffc_basis.proofs.Lists.{length-polys}
 use Rattle.ffc_basis.proofs.PairTableLemmas.{record_is}
 use Rattle.ffc_basis.proofs.pairing.treat.Goals as goal
@@ -8,12 +12,43 @@ pub reduce_pair-requires-clause-first : goal.reduce_pair-requires-clause-first
 reduce_pair-requires-clause-first g c =
     let ls = c.args.lines.now.items in
     let pairing = c.args.pairing.now in
-    let r = record_is g.F.Field.ORDER g.O.MonoOrder.cmp (polys_of ls) pairing.records.items pairing.joined c.args.place c.index-pair.result.now c.requires.pairs (omega (arith, c.requires.within, pairing.records.ok.0)) (sym c.index-pair.ensures) in
+    let r = record_is g.F.Field.ORDER g.O.MonoOrder.cmp (polys_of ls) pairing.records.items pairing.joined c.args.place c.index-pair.result.now c.requires.pairs (pending_within pairing.records.items c.args.place c.requires.pending) (sym c.index-pair.ensures) in
     omega (arith, r.ordered, r.within, length-polys ls, ap length c.as_slice.ensures.value)
 
 pub reduce_pair-requires-clause-second : goal.reduce_pair-requires-clause-second
 reduce_pair-requires-clause-second g c =
     let ls = c.args.lines.now.items in
     let pairing = c.args.pairing.now in
-    let r = record_is g.F.Field.ORDER g.O.MonoOrder.cmp (polys_of ls) pairing.records.items pairing.joined c.args.place c.index-pair.result.now c.requires.pairs (omega (arith, c.requires.within, pairing.records.ok.0)) (sym c.index-pair.ensures) in
+    let r = record_is g.F.Field.ORDER g.O.MonoOrder.cmp (polys_of ls) pairing.records.items pairing.joined c.args.place c.index-pair.result.now c.requires.pairs (pending_within pairing.records.items c.args.place c.requires.pending) (sym c.index-pair.ensures) in
     omega (arith, r.within, length-polys ls, ap length c.as_slice.ensures.value)
+
+pub index-pair-requires : goal.index-pair-requires
+index-pair-requires g c = omega (arith, pending_within c.args.pairing.now.records.items c.args.place c.requires.pending)
+
+pub settle-requires-clause-within : goal.settle-requires-clause-within
+settle-requires-clause-within g c = omega (arith, pending_within c.args.pairing.now.records.items c.args.place c.requires.pending)
+
+pub returns-in_err-take-clause-bound : goal.returns-in_err-take-clause-bound
+returns-in_err-take-clause-bound g c =
+    no_pairs g.F.Field.ORDER g.O.MonoOrder.cmp (polys_of c.args.lines.now.items) 1 c.args.meter.now c.take.new.self c.in_err-take.ensures.kept
+
+pub returns-in_err-outcome-clause-bound : goal.returns-in_err-outcome-clause-bound
+returns-in_err-outcome-clause-bound g c =
+    let p = g.F.Field.ORDER in
+    let cmp = g.O.MonoOrder.cmp in
+    one_pair p cmp (polys_of c.args.lines.now.items) c.args.meter.now c.take.new.self c.reduce_pair.new.meter c.in_ok-take.ensures.taken
+    (subst (λ (ls : List (Line g.row.F.Denot g.row.O.Denot)). IsPairBound p cmp (polys_of ls) c.take.new.self c.reduce_pair.new.meter) c.as_slice.ensures.value c.in_err-outcome.ensures.bound)
+
+pub returns-in_err-settle-clause-bound : goal.returns-in_err-settle-clause-bound
+returns-in_err-settle-clause-bound g c =
+    let p = g.F.Field.ORDER in
+    let cmp = g.O.MonoOrder.cmp in
+    one_pair p cmp (polys_of c.args.lines.now.items) c.args.meter.now c.take.new.self c.reduce_pair.new.meter c.in_ok-take.ensures.taken
+    (subst (λ (ls : List (Line g.row.F.Denot g.row.O.Denot)). IsPairBound p cmp (polys_of ls) c.take.new.self c.reduce_pair.new.meter) c.as_slice.ensures.value c.in_ok-outcome.ensures.bound)
+
+pub returns-clause-bound : goal.returns-clause-bound
+returns-clause-bound g c =
+    let p = g.F.Field.ORDER in
+    let cmp = g.O.MonoOrder.cmp in
+    one_pair p cmp (polys_of c.args.lines.now.items) c.args.meter.now c.take.new.self c.reduce_pair.new.meter c.in_ok-take.ensures.taken
+    (subst (λ (ls : List (Line g.row.F.Denot g.row.O.Denot)). IsPairBound p cmp (polys_of ls) c.take.new.self c.reduce_pair.new.meter) c.as_slice.ensures.value c.in_ok-outcome.ensures.bound)

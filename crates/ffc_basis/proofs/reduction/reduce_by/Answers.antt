@@ -1,4 +1,4 @@
-use Rattle.std.proofs.Common.{[], get_or, sym, subst, inl, inr, arith, IfNone, IfSome}
+use Rattle.std.proofs.Common.{[], get_or, refl, sym, subst, inl, inr, arith, IfNone, IfSome}
 use Rattle.std.proofs.lemmas.Bool.{cases_eq}
 use Rattle.ffc_ring.specs.Monomial.{Monomial}
 use Rattle.ffc_ring.specs.Polynomial.{Terms}
@@ -6,15 +6,17 @@ use Rattle.ffc_mono.specs.declared.mono.TheConstants.{DEGREE_LIMIT}
 use Rattle.ffc_basis.specs.Lines.{polys_of}
 use Rattle.ffc_basis.specs.Reduction.{IsIrreducible, IsStep, IsStopped}
 use Rattle.ffc_basis.proofs.ReductionLemmas.{reduction_begins, reduced_from_terms, stopped}
+use Rattle.ffc_basis.proofs.BoundLemmas.{counted_begins, counted_later, counted_next, counted_is_bounded, attempt_at}
 use Rattle.ffc_basis.proofs.UnitLemmas.{takes_nothing, takes_next}
 use Rattle.ffc_basis.proofs.reduction.reduce_by.Goals as goal
 
 pub loop-place-init : goal.loop-place-init
 loop-place-init g c = record {
   reduction = reduction_begins g.F.Field.ORDER g.met.F.Field.prime g.O.MonoOrder.cmp g.met.O.MonoOrder.laws DEGREE_LIMIT (polys_of c.args.lines.now)
-      c.args.poly.now c.in_ok-rest.rest c.new-parts.result.items c.len-length.ensures.ordered c.in_ok-rest.ensures.cases c.new-parts.ensures.items;
+      c.args.poly.now c.in_ok-rest.rest c.new-parts.result.items c.len-length.ensures.ordered (c.len-length.ensures.ordered, omega (arith, c.len-length.ensures.value, c.len-length.ensures.fits)) c.in_ok-rest.ensures.cases c.new-parts.ensures.items;
   irreducible = λ j h i w d n lead divides. absurd (omega arith);
   takes = takes_nothing c.args.meter.now;
+  counted = counted_begins g.F.Field.ORDER g.O.MonoOrder.cmp (polys_of c.args.lines.now) c.args.poly.now c.in_ok-rest.rest 0 c.args.meter.now c.in_ok-rest.ensures.cases;
 }
 
 pub loop-place-smaller-in_default : goal.loop-place-smaller-in_default
@@ -38,6 +40,7 @@ loop-place-preserved-in_default g c =
             | inr other ↦ c.loop-place.invariant.irreducible j (omega arith)
           ];
       takes = c.loop-place.invariant.takes;
+      counted = counted_later p cmp gs c.args.poly.now rest place c.args.meter.now c.loop-place.meter c.loop-place.invariant.counted;
     }
 
 pub loop-place-smaller-in-Ok : goal.loop-place-smaller-in-Ok
@@ -52,6 +55,8 @@ loop-place-preserved-in-Ok g c =
       reduction = c.in-Ok.ensures.reduction c.args.poly.now c.loop-place.invariant.reduction;
       irreducible = λ j h. subst (λ t. IsIrreducible p cmp gs t.1) (c.in-Ok.ensures.first j h).1 (c.loop-place.invariant.irreducible j h);
       takes = takes_next c.args.meter.now c.loop-place.meter c.take.new.self c.loop-place.invariant.takes c.in_ok-take.ensures.taken;
+      counted = counted_next cmp g.met.O.MonoOrder.laws p gs c.args.poly.now c.loop-place.rest c.subtract.new.rest c.loop-place.place c.args.meter.now c.loop-place.meter c.take.new.self
+          (omega (arith, c.loop-place-test.true, c.len.ensures.value)) c.in-Ok.ensures.cancelled c.in_ok-take.ensures.taken c.loop-place.invariant.counted;
     }
 
 pub loop-place-smaller : goal.loop-place-smaller
@@ -66,6 +71,8 @@ loop-place-preserved g c =
       reduction = c.in-Ok.ensures.reduction c.args.poly.now c.loop-place.invariant.reduction;
       irreducible = λ j h. subst (λ t. IsIrreducible p cmp gs t.1) (c.in-Ok.ensures.first j h).1 (c.loop-place.invariant.irreducible j h);
       takes = takes_next c.args.meter.now c.loop-place.meter c.take.new.self c.loop-place.invariant.takes c.in_ok-take.ensures.taken;
+      counted = counted_next cmp g.met.O.MonoOrder.laws p gs c.args.poly.now c.loop-place.rest c.subtract.new.rest c.loop-place.place c.args.meter.now c.loop-place.meter c.take.new.self
+          (omega (arith, c.loop-place-test.true, c.len.ensures.value)) c.in-Ok.ensures.cancelled c.in_ok-take.ensures.taken c.loop-place.invariant.counted;
     }
 
 pub returns-clause-reduction : goal.returns-clause-reduction
@@ -94,3 +101,25 @@ returns-in-Err-clause-over g c =
     (subst (λ ps. IsStopped p cmp gs rest ps step.line step.monomial) (sym c.in-Err.ensures.unchanged.1)
     (stopped p g.met.F.Field.prime cmp g.met.O.MonoOrder.laws DEGREE_LIMIT gs rest c.loop-place.parts.items place step.line (value step.coefficient) step.monomial
     c.len.ensures.ordered (omega (arith, c.loop-place-test.true, c.len.ensures.value)) here (c.in-Err.ensures.over c.in_ok-past_limit-in-Err.ensures)))
+
+pub returns-in_err-step-clause-bound : goal.returns-in_err-step-clause-bound
+returns-in_err-step-clause-bound g c =
+    counted_is_bounded g.F.Field.ORDER g.O.MonoOrder.cmp (polys_of c.args.lines.now) c.args.poly.now c.loop-place.rest c.loop-place.place c.args.meter.now c.loop-place.meter c.loop-place.meter refl c.loop-place.invariant.takes c.loop-place.invariant.counted
+
+pub returns-in_err-take-clause-bound : goal.returns-in_err-take-clause-bound
+returns-in_err-take-clause-bound g c =
+    counted_is_bounded g.F.Field.ORDER g.O.MonoOrder.cmp (polys_of c.args.lines.now) c.args.poly.now c.loop-place.rest c.loop-place.place c.args.meter.now c.loop-place.meter c.take.new.self c.in_err-take.ensures.kept c.loop-place.invariant.takes c.loop-place.invariant.counted
+
+pub returns-in_err-past_limit-in-Err-clause-bound : goal.returns-in_err-past_limit-in-Err-clause-bound
+returns-in_err-past_limit-in-Err-clause-bound g c =
+    attempt_at g.F.Field.ORDER g.met.F.Field.prime g.O.MonoOrder.cmp g.met.O.MonoOrder.laws DEGREE_LIMIT (polys_of c.args.lines.now) c.args.poly.now c.loop-place.rest c.loop-place.place c.args.meter.now c.loop-place.meter c.take.new.self
+    c.len.ensures.ordered (omega (arith, c.loop-place-test.true, c.len.ensures.value)) c.in_ok-take.ensures.taken c.loop-place.invariant.takes c.loop-place.invariant.counted
+
+pub returns-in-Err-clause-bound : goal.returns-in-Err-clause-bound
+returns-in-Err-clause-bound g c =
+    attempt_at g.F.Field.ORDER g.met.F.Field.prime g.O.MonoOrder.cmp g.met.O.MonoOrder.laws DEGREE_LIMIT (polys_of c.args.lines.now) c.args.poly.now c.loop-place.rest c.loop-place.place c.args.meter.now c.loop-place.meter c.take.new.self
+    c.len.ensures.ordered (omega (arith, c.loop-place-test.true, c.len.ensures.value)) c.in_ok-take.ensures.taken c.loop-place.invariant.takes c.loop-place.invariant.counted
+
+pub returns-clause-bound : goal.returns-clause-bound
+returns-clause-bound g c =
+    counted_is_bounded g.F.Field.ORDER g.O.MonoOrder.cmp (polys_of c.args.lines.now) c.args.poly.now c.loop-place.rest c.loop-place.place c.args.meter.now c.loop-place.meter c.loop-place.meter refl c.loop-place.invariant.takes c.loop-place.invariant.counted

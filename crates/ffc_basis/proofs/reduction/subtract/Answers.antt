@@ -3,7 +3,7 @@ use Rattle.ffc_ring.specs.Polynomial.{Terms}
 use Rattle.ffc_mono.specs.declared.mono.TheConstants.{DEGREE_LIMIT}
 use Rattle.ffc_basis.specs.Lines.{polys_of}
 use Rattle.ffc_basis.proofs.Lists.{length-polys, poly_at, limits}
-use Rattle.ffc_basis.proofs.ReductionLemmas.{line_step, line_first, line_passes}
+use Rattle.ffc_basis.proofs.ReductionLemmas.{line_step, line_first, line_cancels, line_passes}
 use Rattle.ffc_basis.proofs.reduction.subtract.Goals as goal
 
 pub returns-in-Err-clause-over : goal.returns-in-Err-clause-over
@@ -24,6 +24,7 @@ returns-in-Ok-record-clause-reduction g c =
     line_step g.F.Field.ORDER g.met.F.Field.prime g.O.MonoOrder.cmp g.met.O.MonoOrder.laws DEGREE_LIMIT (polys_of ls) step.line (g.F.Field.value step.coefficient) step.monomial c.as_ref.result.powers.now
     line c.args.rest.now c.in-Ok.next c.args.place c.args.parts.now.items c.record.new.parts.items is c.as_ref.ensures c.len.ensures.ordered c.requires.within c.as_ref.result.is_monomial
     (g.met.F.Field.below step.coefficient) c.len-2.ensures.ordered c.requires.step c.in-Ok.ensures.difference c.in-Ok-record.ensures.recorded
+    (c.len-new_length.ensures.ordered, omega (arith, c.len-new_length.ensures.value, c.len-new_length.ensures.fits)) c.in-Ok-record.ensures.polynomials
 
 pub returns-in-Ok-record-clause-first : goal.returns-in-Ok-record-clause-first
 returns-in-Ok-record-clause-first g c =
@@ -32,5 +33,15 @@ returns-in-Ok-record-clause-first g c =
     let line : Terms = (get_or ls step.line c.index-lines-step.result).poly in
     let is : get_or (polys_of ls) step.line [] ≡ line = poly_at ls step.line c.index-lines-step.result (omega (arith, c.requires.step.within, length-polys ls)) in
     line_first g.F.Field.ORDER g.met.F.Field.prime g.O.MonoOrder.cmp g.met.O.MonoOrder.laws DEGREE_LIMIT (polys_of ls) step.line (g.F.Field.value step.coefficient) step.monomial c.as_ref.result.powers.now
+    line c.args.rest.now c.in-Ok.next c.args.place is c.as_ref.ensures c.len.ensures.ordered c.len-new_length.ensures.ordered c.requires.within c.as_ref.result.is_monomial
+    (g.met.F.Field.below step.coefficient) c.len-2.ensures.ordered c.requires.step c.in-Ok.ensures.difference
+
+pub returns-in-Ok-record-clause-cancelled : goal.returns-in-Ok-record-clause-cancelled
+returns-in-Ok-record-clause-cancelled g c =
+    let ls = c.args.lines.now in
+    let step = c.args.step.now in
+    let line : Terms = (get_or ls step.line c.index-lines-step.result).poly in
+    let is : get_or (polys_of ls) step.line [] ≡ line = poly_at ls step.line c.index-lines-step.result (omega (arith, c.requires.step.within, length-polys ls)) in
+    line_cancels g.F.Field.ORDER g.met.F.Field.prime g.O.MonoOrder.cmp g.met.O.MonoOrder.laws DEGREE_LIMIT (polys_of ls) step.line (g.F.Field.value step.coefficient) step.monomial c.as_ref.result.powers.now
     line c.args.rest.now c.in-Ok.next c.args.place is c.as_ref.ensures c.len.ensures.ordered c.len-new_length.ensures.ordered c.requires.within c.as_ref.result.is_monomial
     (g.met.F.Field.below step.coefficient) c.len-2.ensures.ordered c.requires.step c.in-Ok.ensures.difference

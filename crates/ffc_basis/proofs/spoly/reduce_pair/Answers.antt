@@ -5,6 +5,7 @@ use Rattle.ffc_basis.specs.Lines.{Parts, polys_of}
 use Rattle.ffc_basis.specs.Reduction.{IsReduced}
 use Rattle.ffc_basis.specs.Outcomes.{IsSum, ArePartsOf, IsMonic}
 use Rattle.ffc_basis.proofs.AddedLemmas.{closed_by_reduction, line_of_rest}
+use Rattle.ffc_basis.proofs.BoundLemmas.{pair_is_bounded}
 use Rattle.ffc_basis.proofs.Lists.{poly_at, length-polys}
 use Rattle.ffc_basis.proofs.OrderedTerms.{AreTerms-ordered}
 use Rattle.ffc_basis.proofs.PairTableLemmas.{not_so}
@@ -58,3 +59,99 @@ returns-clause-outcome g c =
     line_of_rest p g.met.F.Field.prime cmp g.met.O.MonoOrder.laws gs i j k l spoly.first.monomial spoly.second.monomial spoly.poly rest parts found c.in_ok-line.line
     (omega (arith, c.requires.first, length-polys ls)) (omega (arith, c.requires.second, length-polys ls)) x y sum.polynomial sum.sum c.in_ok-reduced.ensures.reduction reduced parts_are
     (subst (λ (ts : Parts). IsMonic p cmp rest ts c.in_ok-line.line) c.as_slice.ensures.value c.in_ok-line.ensures)
+
+pub returns-then-is_some-clause-bound : goal.returns-then-is_some-clause-bound
+returns-then-is_some-clause-bound g c =
+    let p = g.F.Field.ORDER in
+    let cmp = g.O.MonoOrder.cmp in
+    let ls = c.args.lines.now in
+    let gs = polys_of ls in
+    let i = c.args.i in
+    let j = c.args.j in
+    let spoly = c.in-Some.spoly in
+    let sum : IsSum p g.F.Field.value cmp gs i j spoly = subst (λ o. IfSome o (IsSum p g.F.Field.value cmp gs i j)) c.in-Some.is c.in-Ok.ensures.made in
+    let x : AreTerms (get_or gs i []) =
+    subst AreTerms (sym (poly_at ls i c.index-lines-i.result c.requires.first)) (AreTerms-ordered p cmp DEGREE_LIMIT (get_or ls i c.index-lines-i.result).poly c.len.ensures.ordered) in
+    let y : AreTerms (get_or gs j []) =
+    subst AreTerms (sym (poly_at ls j c.index-lines-j.result c.requires.second)) (AreTerms-ordered p cmp DEGREE_LIMIT (get_or ls j c.index-lines-j.result).poly c.len-2.ensures.ordered) in
+    pair_is_bounded p cmp (omega (arith, g.met.F.Field.prime.least)) gs i j spoly.poly c.args.meter.now c.reduce_by.new.meter x y sum.polynomial c.in_ok-reduced.ensures.bound
+
+pub returns-then-is_zero-clause-bound : goal.returns-then-is_zero-clause-bound
+returns-then-is_zero-clause-bound g c =
+    let p = g.F.Field.ORDER in
+    let cmp = g.O.MonoOrder.cmp in
+    let ls = c.args.lines.now in
+    let gs = polys_of ls in
+    let i = c.args.i in
+    let j = c.args.j in
+    let spoly = c.in-Some.spoly in
+    let sum : IsSum p g.F.Field.value cmp gs i j spoly = subst (λ o. IfSome o (IsSum p g.F.Field.value cmp gs i j)) c.in-Some.is c.in-Ok.ensures.made in
+    let x : AreTerms (get_or gs i []) =
+    subst AreTerms (sym (poly_at ls i c.index-lines-i.result c.requires.first)) (AreTerms-ordered p cmp DEGREE_LIMIT (get_or ls i c.index-lines-i.result).poly c.len.ensures.ordered) in
+    let y : AreTerms (get_or gs j []) =
+    subst AreTerms (sym (poly_at ls j c.index-lines-j.result c.requires.second)) (AreTerms-ordered p cmp DEGREE_LIMIT (get_or ls j c.index-lines-j.result).poly c.len-2.ensures.ordered) in
+    pair_is_bounded p cmp (omega (arith, g.met.F.Field.prime.least)) gs i j spoly.poly c.args.meter.now c.reduce_by.new.meter x y sum.polynomial c.in_ok-reduced.ensures.bound
+
+pub returns-in_err-parts-clause-bound : goal.returns-in_err-parts-clause-bound
+returns-in_err-parts-clause-bound g c =
+    let p = g.F.Field.ORDER in
+    let cmp = g.O.MonoOrder.cmp in
+    let ls = c.args.lines.now in
+    let gs = polys_of ls in
+    let i = c.args.i in
+    let j = c.args.j in
+    let spoly = c.in-Some.spoly in
+    let sum : IsSum p g.F.Field.value cmp gs i j spoly = subst (λ o. IfSome o (IsSum p g.F.Field.value cmp gs i j)) c.in-Some.is c.in-Ok.ensures.made in
+    let x : AreTerms (get_or gs i []) =
+    subst AreTerms (sym (poly_at ls i c.index-lines-i.result c.requires.first)) (AreTerms-ordered p cmp DEGREE_LIMIT (get_or ls i c.index-lines-i.result).poly c.len.ensures.ordered) in
+    let y : AreTerms (get_or gs j []) =
+    subst AreTerms (sym (poly_at ls j c.index-lines-j.result c.requires.second)) (AreTerms-ordered p cmp DEGREE_LIMIT (get_or ls j c.index-lines-j.result).poly c.len-2.ensures.ordered) in
+    pair_is_bounded p cmp (omega (arith, g.met.F.Field.prime.least)) gs i j spoly.poly c.args.meter.now c.reduce_by.new.meter x y sum.polynomial c.in_ok-reduced.ensures.bound
+
+pub returns-in_err-line-clause-bound : goal.returns-in_err-line-clause-bound
+returns-in_err-line-clause-bound g c =
+    let p = g.F.Field.ORDER in
+    let cmp = g.O.MonoOrder.cmp in
+    let ls = c.args.lines.now in
+    let gs = polys_of ls in
+    let i = c.args.i in
+    let j = c.args.j in
+    let spoly = c.in-Some.spoly in
+    let sum : IsSum p g.F.Field.value cmp gs i j spoly = subst (λ o. IfSome o (IsSum p g.F.Field.value cmp gs i j)) c.in-Some.is c.in-Ok.ensures.made in
+    let x : AreTerms (get_or gs i []) =
+    subst AreTerms (sym (poly_at ls i c.index-lines-i.result c.requires.first)) (AreTerms-ordered p cmp DEGREE_LIMIT (get_or ls i c.index-lines-i.result).poly c.len.ensures.ordered) in
+    let y : AreTerms (get_or gs j []) =
+    subst AreTerms (sym (poly_at ls j c.index-lines-j.result c.requires.second)) (AreTerms-ordered p cmp DEGREE_LIMIT (get_or ls j c.index-lines-j.result).poly c.len-2.ensures.ordered) in
+    pair_is_bounded p cmp (omega (arith, g.met.F.Field.prime.least)) gs i j spoly.poly c.args.meter.now c.reduce_by.new.meter x y sum.polynomial c.in_ok-reduced.ensures.bound
+
+pub returns-clause-bound : goal.returns-clause-bound
+returns-clause-bound g c =
+    let p = g.F.Field.ORDER in
+    let cmp = g.O.MonoOrder.cmp in
+    let ls = c.args.lines.now in
+    let gs = polys_of ls in
+    let i = c.args.i in
+    let j = c.args.j in
+    let spoly = c.in-Some.spoly in
+    let sum : IsSum p g.F.Field.value cmp gs i j spoly = subst (λ o. IfSome o (IsSum p g.F.Field.value cmp gs i j)) c.in-Some.is c.in-Ok.ensures.made in
+    let x : AreTerms (get_or gs i []) =
+    subst AreTerms (sym (poly_at ls i c.index-lines-i.result c.requires.first)) (AreTerms-ordered p cmp DEGREE_LIMIT (get_or ls i c.index-lines-i.result).poly c.len.ensures.ordered) in
+    let y : AreTerms (get_or gs j []) =
+    subst AreTerms (sym (poly_at ls j c.index-lines-j.result c.requires.second)) (AreTerms-ordered p cmp DEGREE_LIMIT (get_or ls j c.index-lines-j.result).poly c.len-2.ensures.ordered) in
+    pair_is_bounded p cmp (omega (arith, g.met.F.Field.prime.least)) gs i j spoly.poly c.args.meter.now c.reduce_by.new.meter x y sum.polynomial c.in_ok-reduced.ensures.bound
+
+pub returns-in_err-reduced-clause-bound : goal.returns-in_err-reduced-clause-bound
+returns-in_err-reduced-clause-bound g c =
+    let p = g.F.Field.ORDER in
+    let cmp = g.O.MonoOrder.cmp in
+    let ls = c.args.lines.now in
+    let gs = polys_of ls in
+    let i = c.args.i in
+    let j = c.args.j in
+    let spoly = c.in-Some.spoly in
+    let sum : IsSum p g.F.Field.value cmp gs i j spoly = subst (λ o. IfSome o (IsSum p g.F.Field.value cmp gs i j)) c.in-Some.is c.in-Ok.ensures.made in
+    let x : AreTerms (get_or gs i []) =
+    subst AreTerms (sym (poly_at ls i c.index-lines-i.result c.requires.first)) (AreTerms-ordered p cmp DEGREE_LIMIT (get_or ls i c.index-lines-i.result).poly c.len.ensures.ordered) in
+    let y : AreTerms (get_or gs j []) =
+    subst AreTerms (sym (poly_at ls j c.index-lines-j.result c.requires.second)) (AreTerms-ordered p cmp DEGREE_LIMIT (get_or ls j c.index-lines-j.result).poly c.len-2.ensures.ordered) in
+    pair_is_bounded p cmp (omega (arith, g.met.F.Field.prime.least)) gs i j spoly.poly c.args.meter.now c.reduce_by.new.meter x y sum.polynomial c.in_err-reduced.ensures.bound

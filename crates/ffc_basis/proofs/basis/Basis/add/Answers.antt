@@ -9,4 +9,5 @@ invariant_of-self g c =
     let gens = c.args.gens.now in (
       added_lines g.F.Field.ORDER old new gens c.self.invariant.0 c.in-Ok.ensures.added,
       pairs_added g.F.Field.ORDER g.O.MonoOrder.cmp old new gens c.self.inside.pairing.records.items c.self.inside.pairing.joined c.in-Ok.ensures.added c.self.invariant.1,
+      c.self.invariant.2,
     )

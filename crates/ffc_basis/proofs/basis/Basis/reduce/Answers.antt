@@ -4,6 +4,7 @@ use Rattle.ffc_basis.specs.Completion.{ReducesToZero}
 use Rattle.ffc_basis.specs.Lines.{polys_of, combination}
 use Rattle.ffc_basis.specs.Reduction.{IsReduction, ArePartsAtMost, IsReduced, IsStopped}
 use Rattle.ffc_basis.proofs.Lists.{if_ok}
+use Rattle.ffc_basis.proofs.OrderedTerms.{lists_of_polynomials}
 use Rattle.ffc_basis.proofs.ReductionLemmas.{rest_is_difference}
 use Rattle.ffc_basis.proofs.basis.Basis.reduce.Goals as goal
 
@@ -34,7 +35,8 @@ returns-clause-zero g c =
     let gs = polys_of c.lines.result.now in
     subst (λ ls. IfOk c.reduce_by.result (λ r. r.rest ≡ [] → ReducesToZero p cmp (polys_of ls) poly)) c.lines.ensures.value
     (if_ok c.reduce_by.result (λ r. IsReduction p cmp gs poly r.rest r.parts.items) (λ r. r.rest ≡ [] → ReducesToZero p cmp gs poly)
-    (λ r h none. (r.parts.items, h.before, h.at_most, λ m. h.whole m ∙ ap (λ ts. coefficient p (ts ++ combination gs r.parts.items) m) none)) c.reduce_by.ensures.reduction)
+    (λ r h none. (r.parts.items, h.before, h.at_most, (λ m. h.whole m ∙ ap (λ ts. coefficient p (ts ++ combination gs r.parts.items) m) none), lists_of_polynomials p cmp r.parts.items h.polynomials))
+    c.reduce_by.ensures.reduction)
 
 pub returns-clause-reduced : goal.returns-clause-reduced
 returns-clause-reduced g c =

@@ -1,4 +1,6 @@
-use Rattle.std.proofs.Common.{subst}
+use Rattle.std.proofs.Common.{ap, subst}
+use Rattle.ffc_basis.specs.PairTable.{seconds}
+use Rattle.ffc_basis.proofs.FewLemmas.{few_none}
 use Rattle.ffc_basis.specs.Lines.{polys_of, IsAddedTo}
 use Rattle.ffc_basis.proofs.AddedLemmas.{pairs_none}
 use Rattle.ffc_basis.proofs.LineLemmas.{added_to_none, AreLines-generators}
@@ -11,4 +13,5 @@ invariant_of-result g c =
       AreLines-generators g.F.Field.ORDER lines gens
           (added_to_none lines gens (subst (λ ls. IsAddedTo ls lines gens) c.new-lines.ensures.items c.in_ok-append_generators.ensures.added)),
       pairs_none g.F.Field.ORDER g.O.MonoOrder.cmp (polys_of lines) c.new.result.records.items c.new.result.joined c.new.ensures.records c.new.ensures.joined,
+      few_none (seconds c.new.result.records.items) c.new.result.joined (ap seconds c.new.ensures.records) c.new.ensures.joined,
     )
