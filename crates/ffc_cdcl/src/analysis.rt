@@ -60,6 +60,7 @@ fn count_different(numbers: &mut Vec<usize>) -> u32 {
 
 impl Search {
     /// The level of a literal's node.
+    #[inline(always)]
     pub fn level_of(&self, literal: Lit) -> usize {
         match self.trail.entry(literal.node) {
             Some(entry) => entry.level,
@@ -67,10 +68,12 @@ impl Search {
         }
     }
 
+    #[inline(always)]
     fn is_marked(&self, node: NodeId) -> bool {
         (node as usize) < self.marks.len() && self.marks[node as usize]
     }
 
+    #[inline(always)]
     fn set_mark(&mut self, node: NodeId, mark: bool) {
         if (node as usize) < self.marks.len() {
             self.marks[node as usize] = mark;
@@ -151,8 +154,11 @@ impl Search {
         resolution: &mut Resolution,
         clause: usize,
     ) -> Result<(), AllocError> {
-        for k in 0..self.arena.literals_of(clause).len() {
-            if let Some(literal) = self.arena.literals_of(clause).get(k).copied() {
+        let Some((start, end)) = self.arena.span(clause) else {
+            return Ok(());
+        };
+        for k in start..end {
+            if let Some(literal) = self.arena.literals.as_slice().get(k).copied() {
                 self.take_literal(resolution, literal)?;
             }
         }

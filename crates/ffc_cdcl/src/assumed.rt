@@ -63,6 +63,7 @@ impl Assumed {
     }
 
     /// Whether a literal is assumed.
+    #[inline(always)]
     pub fn contains(&self, literal: Lit) -> bool
         ensures { result ≡ is_among self.now literal }
     {

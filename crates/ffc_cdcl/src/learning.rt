@@ -93,6 +93,7 @@ impl Solver {
         if level == 0 {
             return Ok(Some(self.refute(search, conflict)?));
         }
+        self.conflicts = self.conflicts.saturating_add(1);
         self.derive_units(search)?;
         search.backjump(level)?;
         let Some(lesson) = search.analyze(conflict)? else {

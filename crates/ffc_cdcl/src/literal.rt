@@ -26,6 +26,7 @@ impl Model for Lit {
 
 impl Lit {
     /// The literal that is true where this one is false.
+    #[inline(always)]
     pub fn negated(self) -> Self
         ensures { result ≡ negated self }
     {
@@ -36,6 +37,7 @@ impl Lit {
     }
 
     /// Whether the two are one.
+    #[inline(always)]
     pub fn is_same(self, other: Lit) -> bool
         ensures { result ≡ same_literal self other }
     {
@@ -43,6 +45,7 @@ impl Lit {
     }
 
     /// The literal's place among the literals of all nodes.
+    #[inline(always)]
     pub fn place(self) -> usize
         ensures { result ≡ place_of self }
     {
@@ -79,13 +82,12 @@ impl Literals {
     pub fn copied(alloc: Global, literals: &[Lit]) -> Result<Self, AllocError>
         ensures { IfOk result (λ copy. copy ≡ literals.now) }
     {
-        let mut items = Vec::new(alloc);
-        for literal in literals {
-            items.push(*literal)?;
-        }
-        Ok(Literals { items })
+        Ok(Literals {
+            items: Vec::from_slice(alloc, literals)?,
+        })
     }
 
+    #[inline(always)]
     pub fn as_slice(&self) -> &[Lit]
         ensures { result.now ≡ self.now }
     {

@@ -33,7 +33,13 @@ impl Order {
         })
     }
 
+    /// How many nodes are in the heap.
+    pub fn len(&self) -> usize {
+        self.heap.len()
+    }
+
     /// The activity of the node at a place, or 0.
+    #[inline(always)]
     fn activity_at(&self, place: usize) -> u64 {
         match self.heap.as_slice().get(place) {
             Some(node) => self

@@ -7,7 +7,7 @@ use std::alloc::AllocError;
 const SHORTEST_RUN: u64 = 100;
 
 /// Clauses of at most so many levels are never dropped (Audemard and Simon 2009).
-const KEPT_SPREAD: u32 = 2;
+const KEPT_SPREAD: u16 = 2;
 
 /// The number at a place of the sequence 1, 1, 2, 1, 1, 2, 4, .. (Luby, Sinclair and Zuckerman 1993).
 pub fn luby(index: u64) -> u64 {
@@ -39,15 +39,15 @@ impl Search {
     }
 
     /// The learned clauses that may be dropped, those of many levels and the older ones first.
-    fn candidates(&self) -> Result<Vec<(u32, usize)>, AllocError> {
+    fn candidates(&self) -> Result<Vec<(u16, usize)>, AllocError> {
         let mut found = Vec::new(self.alloc);
         for (number, head) in self.arena.heads.as_slice().iter().enumerate() {
-            let is_learned = match head.hint {
-                Hint::Step(_) => true,
+            let is_learned = match self.arena.hint(number) {
+                Some(Hint::Step(_)) => true,
                 _ => false,
             };
             if is_learned && !head.dropped && head.spread > KEPT_SPREAD {
-                found.push((u32::MAX - head.spread, number))?;
+                found.push((u16::MAX - head.spread, number))?;
             }
         }
         found.sort_unstable();

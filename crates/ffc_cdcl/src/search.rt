@@ -118,7 +118,10 @@ impl Search {
         if self.trail.is_true(blocker) {
             return Ok(kept_with(blocker));
         }
-        let Some((start, end)) = self.arena.range(clause) else {
+        if self.arena.is_dropped(clause) {
+            return Ok(gone());
+        }
+        let Some((start, end)) = self.arena.span(clause) else {
             return Ok(gone());
         };
         let literals = &mut self.arena.literals[start..end];
@@ -177,7 +180,7 @@ impl Search {
         ensures spent { IsErrOf result CdclStop.Spent → total meter.new ≡ meter.new.budget }
         ensures room { IsErrOf result CdclStop.Spent → length self.new.trail.literals < self.new.trail.nodes }
     {
-        for _ in 0..u64::MAX {
+        for _ in 0..self.trail.nodes() {
             let literals = self.trail.literals();
             if self.propagated >= literals.len() {
                 break;
@@ -212,7 +215,7 @@ impl Search {
 
     /// Takes the trail back to a level.
     pub fn backjump(&mut self, level: usize) -> Result<(), AllocError> {
-        for _ in 0..u64::MAX {
+        for _ in 0..self.trail.nodes().saturating_add(1) {
             let Some(literal) = self.trail.pop_above(level) else {
                 break;
             };

@@ -67,7 +67,8 @@ impl Solver {
         ensures spent { IsErrOf result CdclStop.Spent → total meter.new ≡ meter.new.budget }
         ensures meter { OnlyTakes meter.old meter.new }
     {
-        for _ in 0..u64::MAX {
+        // Each turn without an answer puts a literal on the trail, which takes a unit.
+        for _ in 0..meter.budget().saturating_add(1) {
             if let Some(outcome) = self.turn(search, theory, meter)? {
                 return Ok(outcome);
             }

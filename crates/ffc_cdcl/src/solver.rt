@@ -27,6 +27,8 @@ pub struct Solver {
     pub(crate) scopes: Vec<usize>,
     pub(crate) lemmas: Vec<(u64, Literals)>,
     pub(crate) learned: Vec<Learned>,
+    /// How many conflicts there were in all calls.
+    pub(crate) conflicts: u64,
 }
 
 impl Model for Solver {
@@ -73,7 +75,13 @@ impl Solver {
             scopes: Vec::new(alloc),
             lemmas: Vec::new(alloc),
             learned: Vec::new(alloc),
+            conflicts: 0,
         })
+    }
+
+    /// How many clauses were false on a trail above level 0, in all calls of `solve`. It says nothing of the clauses.
+    pub fn conflicts(&self) -> u64 {
+        self.conflicts
     }
 
     /// Lets later clauses name the nodes below this number.

@@ -80,7 +80,7 @@ impl Search {
         ensures spent { IsErrOf result CdclStop.Spent → total meter.new ≡ meter.new.budget }
         ensures meter { OnlyTakes meter.old meter.new }
     {
-        for _ in 0..u64::MAX {
+        for _ in 0..self.order.len() {
             let Some(node) = self.order.pop() else {
                 break;
             };

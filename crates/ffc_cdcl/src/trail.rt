@@ -75,6 +75,7 @@ impl Trail {
     }
 
     /// The value that the trail gives a node.
+    #[inline(always)]
     fn value_of(&self, node: NodeId) -> Option<bool>
         ensures given { IfSome result (λ b. Contains self.now.literals (b, node)) }
         ensures none { result ≡ None → node < self.now.nodes → IsOpen self.now node }
@@ -87,6 +88,7 @@ impl Trail {
     }
 
     /// Whether the trail has a literal.
+    #[inline(always)]
     pub fn is_true(&self, literal: Lit) -> bool
         ensures { result ≡ true → Contains self.now.literals literal }
     {
@@ -94,6 +96,7 @@ impl Trail {
     }
 
     /// Whether the trail has a literal's negation.
+    #[inline(always)]
     pub fn is_false(&self, literal: Lit) -> bool
         ensures { result ≡ true → Contains self.now.literals (negated literal) }
     {
@@ -108,6 +111,7 @@ impl Trail {
     }
 
     /// The literals in order.
+    #[inline(always)]
     pub fn literals(&self) -> &[Lit]
         ensures literals { result.now ≡ self.now.literals }
         ensures distinct { NamesNoNodeTwice result.now }
@@ -123,8 +127,14 @@ impl Trail {
     }
 
     /// When and why a node's literal was put on the trail.
+    #[inline(always)]
     pub fn entry(&self, node: NodeId) -> Option<Entry> {
         self.entries.as_slice().get(node as usize).copied()
+    }
+
+    /// A trail has at most so many literals.
+    pub fn nodes(&self) -> usize {
+        self.values.len()
     }
 
     pub fn level(&self) -> usize {

@@ -72,6 +72,7 @@ pub enum Watched {
 }
 
 /// Finds another literal to watch. The watched literals are the first two.
+#[inline(always)]
 pub fn watch_another(trail: &Trail, literals: &mut [Lit], falsified: Lit) -> Watched {
     if literals.len() < 2 {
         return Watched::Short;
