@@ -5,6 +5,7 @@ pub mod MergingSteps
 pub mod OrderLemmas
 pub mod PowerLemmas
 pub mod SortedLemmas
+pub mod RunLemmas
 pub mod Sums
 pub mod Values
 pub mod UnivariateLemmas

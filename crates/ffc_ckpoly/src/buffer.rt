@@ -79,17 +79,29 @@ impl<F: Field> Buffer<F> {
         Ok(())
     }
 
-    /// Appends the products of c, m and each of the terms.
-    pub fn push_row(&mut self, c: F, m: &[Power], terms: &[(F, &[Power])]) -> Result<(), AllocError>
+    /// Appends the products of c, m and each of the terms that these marks cut from powers.
+    pub fn push_row(
+        &mut self,
+        c: F,
+        m: &[Power],
+        marks: &[(F, usize)],
+        powers: &[Power],
+    ) -> Result<(), AllocError>
         requires parts { Parts 0 self.old.marks.items self.old.powers.items }
+        requires row { Parts 0 marks.now powers.now }
         requires m_is { IsMonomial m.now }
-        requires fits { RowFits m.now (residues F.value terms.now) }
+        requires fits { RowFits m.now (cut F.value 0 marks.now powers.now) }
         ensures terms { OnOk result (cut F.value 0 self.new.marks.items self.new.powers.items
-            ≡ cut F.value 0 self.old.marks.items self.old.powers.items ++ times F.ORDER (F.value c) m.now (residues F.value terms.now)) }
+            ≡ cut F.value 0 self.old.marks.items self.old.powers.items ++ times F.ORDER (F.value c) m.now (cut F.value 0 marks.now powers.now)) }
         ensures parts { OnOk result (Parts 0 self.new.marks.items self.new.powers.items) }
     {
-        for term in terms {
-            self.push_product(c.mul(term.0), m, term.1)?;
+        let mut start = 0;
+        let mut rest = powers;
+        for mark in marks {
+            let (first, after) = rest.split_at(mark.1 - start);
+            self.push_product(c.mul(mark.0), m, first)?;
+            rest = after;
+            start = mark.1;
         }
         Ok(())
     }
@@ -116,19 +128,21 @@ pub fn terms_of<'a, F: Field>(
     Ok(out)
 }
 
-/// The products of each two terms.
+/// The products of each two terms, those of the second list in a buffer.
 pub fn products_of<F: Field>(
     alloc: Global,
     a: &[(F, &[Power])],
-    b: &[(F, &[Power])],
+    b: &Buffer<F>,
 ) -> Result<Buffer<F>, AllocError>
-    requires { ProductFits (residues F.value a.now) (residues F.value b.now) }
-    ensures terms { IfOk result (λ r. cut F.value 0 r.marks.items r.powers.items ≡ rows F.ORDER (residues F.value a.now) (residues F.value b.now)) }
+    requires parts { Parts 0 b.now.marks.items b.now.powers.items }
+    requires fits { ProductFits (residues F.value a.now) (cut F.value 0 b.now.marks.items b.now.powers.items) }
+    ensures terms { IfOk result (λ r. cut F.value 0 r.marks.items r.powers.items
+        ≡ rows F.ORDER (residues F.value a.now) (cut F.value 0 b.now.marks.items b.now.powers.items)) }
     ensures parts { IfOk result (λ r. Parts 0 r.marks.items r.powers.items) }
 {
     let mut out = Buffer::new(alloc);
     for term in a {
-        out.push_row(term.0, term.1, b)?;
+        out.push_row(term.0, term.1, b.marks.as_slice(), b.powers.as_slice())?;
     }
     Ok(out)
 }

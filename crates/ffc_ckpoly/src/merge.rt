@@ -1,5 +1,5 @@
 //! Terms in strictly decreasing order, merged.
-ghost use Rattle.std.specs.Prelude.{◌≡◌, ◌≢◌, [], ◌∷◌, ◌++◌, IfOk, OnOk};
+ghost use Rattle.std.specs.Prelude.{◌≡◌, ◌≢◌, ◌+◌, ◌<◌, [], ◌∷◌, ◌++◌, length, drop, IfOk, OnOk, IsTrue};
 ghost use Rattle.ffc_ring.specs.Polynomial.{SamePolynomial, scaled};
 ghost use Rattle.ffc_ckpoly.specs.Flat.{HaveMonomials};
 ghost use Rattle.ffc_ckpoly.specs.Sorted.{residues, IsSorted, multiplied};
@@ -84,7 +84,42 @@ fn single<'a, F: Field>(
     Ok(out)
 }
 
-/// The sum of any terms, merged by halves: with n terms it takes at most n comparisons for each halving of n.
+/// Whether the term at a place is other than 0 and above the next one.
+fn goes_first<F: Field>(terms: &[(F, &[Power])], place: usize) -> bool
+    requires { place < length terms.now }
+    ensures { IsTrue result → HaveMonomials (residues F.value terms.now) → IsSorted F.ORDER (residues F.value (drop (place + 1) terms.now))
+        → IsSorted F.ORDER (residues F.value (drop place terms.now)) }
+{
+    let term = &terms[place];
+    if term.0.residue() == 0 {
+        return false;
+    }
+    if place + 1 == terms.len() {
+        return true;
+    }
+    let next = &terms[place + 1];
+    match compare(term.1, next.1) {
+        Ordering::Greater => true,
+        _ => false,
+    }
+}
+
+/// Whether terms are in strictly decreasing order already, with coefficients other than 0. It looks at the terms up to the
+/// last that is not.
+fn is_sorted<F: Field>(terms: &[(F, &[Power])]) -> bool
+    requires { HaveMonomials (residues F.value terms.now) }
+    ensures { IsTrue result → IsSorted F.ORDER (residues F.value terms.now) }
+{
+    for place in (0..terms.len()).rev() {
+        if !goes_first(terms, place) {
+            return false;
+        }
+    }
+    true
+}
+
+/// The sum of any terms, merged by halves down to parts that are in order: with n terms it takes at most 2*n comparisons for
+/// each halving of n. A multiple of a polynomial has few such parts, since its terms are mostly in the polynomial's order.
 pub fn sum_of<'a, F: Field>(
     alloc: Global,
     terms: &[(F, &'a [Power])],
@@ -93,6 +128,9 @@ pub fn sum_of<'a, F: Field>(
     ensures sorted { IfOk result (λ v. IsSorted F.ORDER (residues F.value v.items)) }
     ensures same { IfOk result (λ v. SamePolynomial F.ORDER (residues F.value v.items) (residues F.value terms.now)) }
 {
+    if is_sorted(terms) {
+        return Vec::from_slice(alloc, terms);
+    }
     match terms {
         [] => Ok(Vec::new(alloc)),
         [term] => single(alloc, term),

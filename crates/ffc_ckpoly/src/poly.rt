@@ -1,10 +1,11 @@
 //! Polynomials.
-ghost use Rattle.std.specs.Prelude.{◌≡◌, ◌≢◌, ℕ, ◌+◌, ◌^◌, ◌<◌, ◌++◌, [], length, IfOk};
+ghost use Rattle.std.specs.Prelude.{◌≡◌, ◌≢◌, ℕ, ◌+◌, ◌^◌, ◌<◌, ◌++◌, [], length, IfOk, OnOk};
 ghost use Rattle.ffc_field.specs.Modular.{add_mod, sub_mod, mul_mod};
+ghost use Rattle.ffc_ring.specs.Monomial.{IsMonomial, degree};
 ghost use Rattle.ffc_ring.specs.Polynomial.{AreTerms, SamePolynomial, product, scaled, difference, poly_value};
 ghost use Rattle.ffc_trees.specs.Normal.{IsNormal, degree_of};
 ghost use Rattle.ffc_trees.specs.TreeLines.{is_nonzero_constant};
-ghost use Rattle.ffc_ckpoly.specs.Flat.{cut, Parts, HaveMonomials, as_written};
+ghost use Rattle.ffc_ckpoly.specs.Flat.{cut, Parts, times, RowFits, HaveMonomials, as_written};
 ghost use Rattle.ffc_ckpoly.specs.Sorted.{residues, IsSorted, point_of};
 
 use crate::buffer::{Buffer, products_of, terms_of};
@@ -107,6 +108,29 @@ impl<F: Field> CkPoly<F> {
         CkPoly::packed(alloc, sum.as_slice())
     }
 
+    /// Appends the products of c, m and each of its terms to a buffer, which takes no other memory.
+    pub(crate) fn append_multiple(
+        &self,
+        out: &mut Buffer<F>,
+        c: F,
+        m: &[Power],
+    ) -> Result<(), AllocError>
+        requires parts { Parts 0 out.old.marks.items out.old.powers.items }
+        requires m_is { IsMonomial m.now }
+        requires fits { degree m.now + degree_of self.now < 2 ^ 64 }
+        ensures terms { OnOk result (cut F.value 0 out.new.marks.items out.new.powers.items
+            ≡ cut F.value 0 out.old.marks.items out.old.powers.items ++ times F.ORDER (F.value c) m.now self.now) }
+        ensures parts { OnOk result (Parts 0 out.new.marks.items out.new.powers.items) }
+        ensures row { RowFits m.now self.now }
+    {
+        out.push_row(
+            c,
+            m,
+            self.buffer.marks.as_slice(),
+            self.buffer.powers.as_slice(),
+        )
+    }
+
     /// The sum of any terms.
     pub fn from_terms(alloc: Global, terms: &[(F, Vec<(u32, u32)>)]) -> Result<Self, AllocError>
         requires { AreTerms (as_written F.value terms.now (λ v. v.items)) }
@@ -165,8 +189,7 @@ impl<F: Field> CkPoly<F> {
     {
         let alloc = *self.buffer.marks.allocator();
         let left = self.borrowed()?;
-        let right = other.borrowed()?;
-        let products = products_of(alloc, left.as_slice(), right.as_slice())?;
+        let products = products_of(alloc, left.as_slice(), &other.buffer)?;
         CkPoly::sum_in(alloc, &products)
     }
 

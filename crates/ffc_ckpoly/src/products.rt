@@ -21,6 +21,8 @@ pub struct CkSum<F: Field> {
     buffer: Buffer<F>,
     /// How many terms wait at most for a merge.
     limit: usize,
+    /// Room for the powers of a written term, kept so that no term takes memory of its own.
+    written: Vec<Power>,
 }
 
 impl<F: Field> Drop for CkSum<F> {
@@ -28,6 +30,7 @@ impl<F: Field> Drop for CkSum<F> {
         let CkSum {
             buffer: _,
             limit: _,
+            written: _,
         } = self;
     }
 }
@@ -51,6 +54,7 @@ impl<F: Field> CkSum<F> {
         CkSum {
             buffer: Buffer::new(alloc),
             limit: FEW_PRODUCTS,
+            written: Vec::new(alloc),
         }
     }
 
@@ -58,15 +62,27 @@ impl<F: Field> CkSum<F> {
     fn merged(self) -> Result<Self, AllocError>
         ensures { IfOk result (λ r. SamePolynomial F.ORDER r self) }
     {
-        let CkSum { buffer, limit } = self;
+        let CkSum {
+            buffer,
+            limit,
+            written,
+        } = self;
         if buffer.marks.len() <= limit {
-            return Ok(CkSum { buffer, limit });
+            return Ok(CkSum {
+                buffer,
+                limit,
+                written,
+            });
         }
         let alloc = *buffer.marks.allocator();
         let sum = CkPoly::sum_in(alloc, &buffer)?;
         let limit = sum.terms().saturating_mul(2).max(FEW_PRODUCTS);
         let buffer = sum.into_buffer();
-        Ok(CkSum { buffer, limit })
+        Ok(CkSum {
+            buffer,
+            limit,
+            written,
+        })
     }
 
     /// Adds one term.
@@ -75,12 +91,20 @@ impl<F: Field> CkSum<F> {
         requires fits { degree m.now < 2 ^ 64 }
         ensures { IfOk result (λ r. r ≡ self ++ (F.value c, m.now) ∷ []) }
     {
-        let CkSum { mut buffer, limit } = self;
+        let CkSum {
+            mut buffer,
+            limit,
+            written,
+        } = self;
         buffer.push(c, m)?;
-        Ok(CkSum { buffer, limit })
+        Ok(CkSum {
+            buffer,
+            limit,
+            written,
+        })
     }
 
-    /// Adds the product of a written term and a polynomial. It costs the terms of the polynomial.
+    /// Adds the product of a written term and a polynomial. It costs the powers of both.
     pub fn with_product(self, c: u64, m: &[(u32, u32)], f: &CkPoly<F>) -> Result<Self, AllocError>
         requires m_is { IsMonomial m.now }
         requires fits { degree m.now + degree_of f.now < 2 ^ 64 }
@@ -96,13 +120,19 @@ impl<F: Field> CkSum<F> {
         requires fits { degree m.now + degree_of f.now < 2 ^ 64 }
         ensures { IfOk result (λ r. SamePolynomial F.ORDER r (self ++ term_product c m.now f.now)) }
     {
-        let CkSum { mut buffer, limit } = self;
-        let alloc = *buffer.marks.allocator();
-        let mut powers = Vec::new(alloc);
-        append_written(&mut powers, m)?;
-        let terms = f.borrowed()?;
-        buffer.push_row(F::of(u128::from(c)), powers.as_slice(), terms.as_slice())?;
-        Ok(CkSum { buffer, limit })
+        let CkSum {
+            mut buffer,
+            limit,
+            mut written,
+        } = self;
+        written.clear();
+        append_written(&mut written, m)?;
+        f.append_multiple(&mut buffer, F::of(u128::from(c)), written.as_slice())?;
+        Ok(CkSum {
+            buffer,
+            limit,
+            written,
+        })
     }
 
     /// The sum of the products, merged by halves.
@@ -110,7 +140,11 @@ impl<F: Field> CkSum<F> {
         ensures sum { IfOk result (λ r. SamePolynomial F.ORDER r self) }
         ensures normal { IfOk result (λ r. IsNormal F.ORDER r) }
     {
-        let CkSum { buffer, limit: _ } = self;
+        let CkSum {
+            buffer,
+            limit: _,
+            written: _,
+        } = self;
         let alloc = *buffer.marks.allocator();
         CkPoly::sum_in(alloc, &buffer)
     }

@@ -8,7 +8,7 @@ invariant-loop-term g l =
     let value = g.F.Field.value in
     let p = g.F.Field.ORDER in
     let left = residues value (drop l.term-index l.a) in
-    let b = residues value l.b in
+    let b = cut value 0 l.b.marks.items l.b.powers.items in
     record {
       parts : Parts 0 l.out.marks.items l.out.powers.items;
       fits : ProductFits left b;
