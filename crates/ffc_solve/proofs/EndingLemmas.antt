@@ -27,11 +27,13 @@ use Rattle.ffc_smt.specs.TableChecks.{TableCheck}
 use Rattle.ffc_rules.specs.Entries.{Broken, limits}
 use Rattle.ffc_rules.specs.Judging.{Accepted, Accepts, Judgement, Refused, Rule, counts_of, first_broken, judgement_of, node_check}
 use Rattle.ffc_solve.specs.Solving.{AreEntries}
-use Rattle.ffc_solve.specs.Status.{IsAccepted, IsFull, IsLeft, Leaves, script_given, status_of}
+use Rattle.ffc_solve.specs.Status.{EndsAs, IsAccepted, IsLeft, IsNamed, IsScript, IsUntouchedOrNamed, Leaves, script_given, status_of}
 use Rattle.ffc_solve.specs.declared.solve.SolveStatus.{SolveStatus}
 use Rattle.clap.specs.Words.{Text}
 use Rattle.ffc_solve.specs.declared.arguments.Plan.{Plan}
 use Rattle.ffc_solve.specs.Arguments.{HasPlan}
+use Rattle.ffc_solve.proofs.ArgumentLemmas.{one_number}
+use Rattle.std.specs.Result.{IsErrOf}
 use Rattle.ffc_solve.specs.declared.solve.SolveStatus.TheVariants as status
 use Rattle.ffc_solve.specs.declared.stop.Stop.{Stop}
 use Rattle.ffc_solve.specs.declared.stop.Stop.TheVariants as stops
@@ -180,13 +182,13 @@ left_by (Err stops.WriteFault) budget make lo co cn oo on whole ended stopped = 
 left_by (Err stops.CertFault) budget make lo co cn oo on whole ended stopped = stopped
 left_by (Err stops.Memory) budget make lo co cn oo on whole ended stopped = stopped
 
-pub named_by : (r : Result Bool Stop) (name : List ℕ) (n0 n1 : Option (List ℕ)) → OnOk r (Becomes name n0 n1) → IsFull (status_of r) → Becomes name n0 n1
-named_by (Ok true) name n0 n1 named full = named
-named_by (Ok false) name n0 n1 named full = named
-named_by (Err stops.ReadFault) name n0 n1 named full = absurd full
-named_by (Err stops.WriteFault) name n0 n1 named full = absurd full
-named_by (Err stops.CertFault) name n0 n1 named full = absurd full
-named_by (Err stops.Memory) name n0 n1 named full = absurd full
+pub named_by : (r : Result Bool Stop) (name : List ℕ) (co cn oo on n0 n1 : Option (List ℕ)) → OnOk r (Becomes name n0 n1) → OnErr r (IsUntouchedOrNamed name co cn oo on n0 n1) → IsNamed (status_of r) name co cn oo on n0 n1
+named_by (Ok true) name co cn oo on n0 n1 named begun = named
+named_by (Ok false) name co cn oo on n0 n1 named begun = named
+named_by (Err stops.ReadFault) name co cn oo on n0 n1 named begun = begun
+named_by (Err stops.WriteFault) name co cn oo on n0 n1 named begun = begun
+named_by (Err stops.CertFault) name co cn oo on n0 n1 named begun = begun
+named_by (Err stops.Memory) name co cn oo on n0 n1 named begun = begun
 
 pub accepted_by : (r : Result Bool Stop) (budget : ℕ) (make : Option ℕ) (lo co cn oo on : Option (List ℕ)) → OnOk r (IfSome lo (λ b. IsWhole budget make b co cn oo on)) → IfOk r (λ refused. IfSome lo (λ b. refused ≡ is_fault (reads b).end))
     → status_of r ≡ status.Done → IfSome lo (λ b. (held : List ℕ) → co ≡ Some held → IsAccepted b cn)
@@ -201,13 +203,56 @@ accepted_by (Err stops.Memory) budget make lo co cn oo on whole ended done = cc
 pub planned : (words : List Text) (plan : Plan) (make : Option ℕ) (r : Result Bool Stop) (left co cn oo on n0 n1 : Option (List ℕ)) (s : SolveStatus) → HasPlan words plan → plan.make ≡ make → s ≡ status_of r
     → OnOk r (IfSome (script_given make left) (λ b. IsWhole plan.steps make b co cn oo on)) → IfOk r (λ refused. IfSome (script_given make left) (λ b. refused ≡ is_fault (reads b).end))
     → OnErr r (IfSome (script_given make left) (λ b. IsStopped plan.steps make b co cn oo on)) → OnOk r (Becomes plan.cert_name n0 n1)
-    → Leaves words s left co cn oo on n0 n1
-planned words plan make r left co cn oo on n0 n1 s has made is whole ended stopped named = inr (record {
+    → OnErr r (IsUntouchedOrNamed plan.cert_name co cn oo on n0 n1) → Leaves words s left co cn oo on n0 n1
+planned words plan make r left co cn oo on n0 n1 s has made is whole ended stopped named begun = inr (record {
   plan = plan;
   has = has;
   leaves = subst (λ t. IfSome (script_given plan.make left) (λ b. IsLeft t plan.steps plan.make b co cn oo on)) (sym is)
       (subst (λ m. IfSome (script_given m left) (λ b. IsLeft (status_of r) plan.steps m b co cn oo on)) (sym made) (left_by r plan.steps make (script_given make left) co cn oo on whole ended stopped));
-  named = λ full. named_by r plan.cert_name n0 n1 named (subst IsFull is full);
+  named = subst (λ t. IsNamed t plan.cert_name co cn oo on n0 n1) (sym is) (named_by r plan.cert_name co cn oo on n0 n1 named begun);
   accepted = λ done. subst (λ m. IfSome (script_given m left) (λ b. (held : List ℕ) → co ≡ Some held → IsAccepted b cn)) (sym made)
       (accepted_by r plan.steps make (script_given make left) co cn oo on whole ended (sym is ∙ done));
 })
+
+-- a certificate whose creation failed was not touched, or has its name
+pub begun_creating : (name told : List ℕ) (co cn oo n0 n1 : Option (List ℕ)) (P : Type 0) → told ≡ name → (((cn ≡ co) × (n1 ≡ n0)) ⊎ (P × Becomes told n0 n1)) → IsUntouchedOrNamed name co cn oo oo n0 n1
+begun_creating name told co cn oo n0 n1 P is (inl same) = inl (same.0, refl, same.1)
+begun_creating name told co cn oo n0 n1 P is (inr begun) = inr (subst (λ n. Becomes n n0 n1) is begun.1)
+
+-- what was created has its name for as long as writes go there
+pub begun_named : (name told : List ℕ) (co cn oo on n0 n1 n2 : Option (List ℕ)) → told ≡ name → Becomes told n0 n1 → n2 ≡ n1 → IsUntouchedOrNamed name co cn oo on n0 n2
+begun_named name told co cn oo on n0 n1 n2 is named same = inr (subst (λ n. Becomes n n0 n2) is (subst (Becomes told n0) (sym same) named))
+
+-- Ends
+
+ends_memory_at : (e : End) → EndsAs status.Memory e
+ends_memory_at scripts.Done = inr refl
+ends_memory_at (scripts.AtFault l c k) = inr refl
+
+pub ends_memory : (s : SolveStatus) (e : End) → s ≡ status.Memory → EndsAs s e
+ends_memory s e is = subst (λ t. EndsAs t e) (sym is) (ends_memory_at e)
+
+ends_whole : (refused : Bool) (e : End) → refused ≡ is_fault e → EndsAs (status_of (Ok refused)) e
+ends_whole false scripts.Done is = inl refl
+ends_whole true scripts.Done is = absurd (false≢true (sym is))
+ends_whole false (scripts.AtFault l c k) is = absurd (false≢true is)
+ends_whole true (scripts.AtFault l c k) is = inl refl
+
+ends_by : (r : Result Bool Stop) (e : End) → IfOk r (λ refused. refused ≡ is_fault e) → (IsErrOf r stops.ReadFault → ⊥) → (IsErrOf r stops.WriteFault → ⊥) → (IsErrOf r stops.CertFault → ⊥) → EndsAs (status_of r) e
+ends_by (Ok refused) e ended read write cert = ends_whole refused e ended
+ends_by (Err stops.ReadFault) e ended read write cert = absurd (read refl)
+ends_by (Err stops.WriteFault) e ended read write cert = absurd (write refl)
+ends_by (Err stops.CertFault) e ended read write cert = absurd (cert refl)
+ends_by (Err stops.Memory) e ended read write cert = ends_memory_at e
+
+ended_at : (r : Result Bool Stop) (o : Option (List ℕ)) (b : List ℕ) → o ≡ Some b → IfOk r (λ refused. IfSome o (λ b. refused ≡ is_fault (reads b).end)) → IfOk r (λ refused. refused ≡ is_fault (reads b).end)
+ended_at (Ok refused) o b is ended = subst (λ o. IfSome o (λ b. refused ≡ is_fault (reads b).end)) is ended
+ended_at (Err stop) o b is ended = tt
+
+-- a run that no fault stops ends as the script does that the words ask for
+pub ends_as : (words : List Text) (plan : Plan) (make : Option ℕ) (r : Result Bool Stop) (s : SolveStatus) (left : Option (List ℕ)) (b : List ℕ) → HasPlan words plan → plan.make ≡ make → s ≡ status_of r → IsScript words left b
+    → IfOk r (λ refused. IfSome (script_given make left) (λ b. refused ≡ is_fault (reads b).end)) → (IsErrOf r stops.ReadFault → ⊥) → (IsErrOf r stops.WriteFault → ⊥) → (IsErrOf r stops.CertFault → ⊥) → EndsAs s (reads b).end
+ends_as words plan make r s left b has made is script ended read write cert =
+    let same : script.make ≡ make = one_number _ script.make plan.make script.number has.make ∙ made in
+    let given : script_given make left ≡ Some b = subst (λ m. script_given m left ≡ Some b) same script.given in
+    subst (λ t. EndsAs t (reads b).end) (sym is) (ends_by r (reads b).end (ended_at r (script_given make left) b given ended) read write cert)

@@ -1,6 +1,6 @@
 -- The arguments of the solver, `ffsolve --cert FILE [--steps N] [--make N]`: a simple command of `clap` without a help flag. The
 -- numbers are its integers, within their ranges.
-use Rattle.std.specs.Prelude.{◌≡◌, ℕ, ◌≤◌, ◌<◌, true, [], List, codes, Option, Some, None, unwrap_or, IfSome, Result, Ok, Err, ◌⊎◌}
+use Rattle.std.specs.Prelude.{◌≡◌, ℕ, ◌≤◌, ◌<◌, true, [], List, codes, Option, Some, None, unwrap_or, IfSome, IsSome, Result, Ok, Err, ◌⊎◌}
 use Rattle.std.specs.Str.Parse.{ParsesUnsigned}
 use Rattle.std.specs.declared.num.ParseIntError.{ParseIntError}
 use Rattle.clap.specs.Words.{App, Rule, Text, fault_of, first_of, matches_of, new_app, new_rule, with_rule}
@@ -33,6 +33,10 @@ cert_name words = unwrap_or (first_of (codes "cert") (matches_of solve_app words
 -- the text of a number that the words give
 abbrev pub number_given : Text → List Text → Option Text
 number_given id words = first_of id (matches_of solve_app words)
+
+-- the words ask for a generated script
+abbrev pub AskToMake : List Text → Type 0
+AskToMake words = IsSome (number_given (codes "make") words)
 
 -- the text is read so
 abbrev pub ReadsAs : Text → Result ℕ ParseIntError → Type 0

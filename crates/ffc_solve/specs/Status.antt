@@ -1,7 +1,7 @@
 -- How a run of the solver ends: its statuses, and what each of them leaves.
-use Rattle.std.specs.Prelude.{◌≡◌, ℕ, ◌⊎◌, List, Option, Some, None}
+use Rattle.std.specs.Prelude.{◌≡◌, ℕ, ◌⊎◌, List, Option, Some, None, codes}
 use Rattle.ffc_base.specs.Outside.{Becomes}
-use Rattle.ffc_smt.specs.Scripts.{reads}
+use Rattle.ffc_smt.specs.Scripts.{End, Done, AtFault, reads}
 use Rattle.ffc_rules.specs.Judging.{Accepts}
 use Rattle.ffc_solve.specs.declared.solve.SolveStatus.{SolveStatus}
 use Rattle.ffc_solve.specs.declared.solve.SolveStatus.TheVariants as status
@@ -13,7 +13,7 @@ use Rattle.clap.specs.Words.{Text}
 use Rattle.ffc_solve.specs.declared.arguments.Plan.{Plan}
 use Rattle.ffc_solve.specs.declared.stop.Stop.{Stop}
 use Rattle.ffc_solve.specs.declared.stop.Stop.TheVariants as stops
-use Rattle.ffc_solve.specs.Arguments.{HasPlan}
+use Rattle.ffc_solve.specs.Arguments.{HasPlan, IsNumber, number_given}
 
 -- the number that the program ends with
 abbrev pub code_of : SolveStatus → ℕ
@@ -60,20 +60,44 @@ IsIdle status.Usage = Unit {0}
 IsIdle status.Memory = Unit {0}
 IsIdle _ = ⊥
 
--- the whole script was answered, up to its end or to its fault
-abbrev pub IsFull : SolveStatus → Type 0
-IsFull status.Done = Unit {0}
-IsFull status.Refused = Unit {0}
-IsFull _ = ⊥
+-- certificate, answers and the certificate's name are as they were
+abbrev pub IsUntouched : Option (List ℕ) → Option (List ℕ) → Option (List ℕ) → Option (List ℕ) → Option (List ℕ) → Option (List ℕ) → Type 0
+IsUntouched cert_old cert_new out_old out_new name_old name_new = (cert_new ≡ cert_old) × (out_new ≡ out_old) × (name_new ≡ name_old)
+
+-- all is as it was, or the certificate was created under this name
+abbrev pub IsUntouchedOrNamed : List ℕ → Option (List ℕ) → Option (List ℕ) → Option (List ℕ) → Option (List ℕ) → Option (List ℕ) → Option (List ℕ) → Type 0
+IsUntouchedOrNamed name cert_old cert_new out_old out_new name_old name_new =
+    IsUntouched cert_old cert_new out_old out_new name_old name_new ⊎ Becomes name name_old name_new
+
+-- The name under which the certificate was created, by the status: a run that stopped may have left all as it was.
+abbrev pub IsNamed : SolveStatus → List ℕ → Option (List ℕ) → Option (List ℕ) → Option (List ℕ) → Option (List ℕ) → Option (List ℕ) → Option (List ℕ) → Type 0
+IsNamed status.Done name cert_old cert_new out_old out_new name_old name_new = Becomes name name_old name_new
+IsNamed status.Refused name cert_old cert_new out_old out_new name_old name_new = Becomes name name_old name_new
+IsNamed status.Usage name cert_old cert_new out_old out_new name_old name_new = IsUntouched cert_old cert_new out_old out_new name_old name_new
+IsNamed status.ReadFault name cert_old cert_new out_old out_new name_old name_new = IsUntouchedOrNamed name cert_old cert_new out_old out_new name_old name_new
+IsNamed status.WriteFault name cert_old cert_new out_old out_new name_old name_new = IsUntouchedOrNamed name cert_old cert_new out_old out_new name_old name_new
+IsNamed status.CertFault name cert_old cert_new out_old out_new name_old name_new = IsUntouchedOrNamed name cert_old cert_new out_old out_new name_old name_new
+IsNamed status.Memory name cert_old cert_new out_old out_new name_old name_new = IsUntouchedOrNamed name cert_old cert_new out_old out_new name_old name_new
 
 -- What is left by a run that the words ask for: the certificate that they name and the answers; a whole certificate is accepted.
 pub record IsPlanned (words : List Text) (s : SolveStatus) (left cert_old cert_new out_old out_new name_old name_new : Option (List ℕ)) : Type 0 where
   pub plan : Plan
   pub has : HasPlan words plan
   pub leaves : IfSome (script_given plan.make left) (λ script. IsLeft s plan.steps plan.make script cert_old cert_new out_old out_new)
-  pub named : IsFull s → Becomes plan.cert_name name_old name_new
+  pub named : IsNamed s plan.cert_name cert_old cert_new out_old out_new name_old name_new
   pub accepted : s ≡ status.Done → IfSome (script_given plan.make left) (λ script. (held : List ℕ) → cert_old ≡ Some held → IsAccepted script cert_new)
 
 abbrev pub Leaves : List Text → SolveStatus → Option (List ℕ) → Option (List ℕ) → Option (List ℕ) → Option (List ℕ) → Option (List ℕ) → Option (List ℕ) → Option (List ℕ) → Type 0
 Leaves words s left cert_old cert_new out_old out_new name_old name_new =
-    (IsIdle s × (cert_new ≡ cert_old) × (out_new ≡ out_old)) ⊎ IsPlanned words s left cert_old cert_new out_old out_new name_old name_new
+    (IsIdle s × IsUntouched cert_old cert_new out_old out_new name_old name_new) ⊎ IsPlanned words s left cert_old cert_new out_old out_new name_old name_new
+
+-- the script that the words ask for: a generated one, or else the bytes that are left
+pub record IsScript (words : List Text) (left : Option (List ℕ)) (script : List ℕ) : Type 0 where
+  pub make : Option ℕ
+  pub number : IsNumber (number_given (codes "make") words) make
+  pub given : script_given make left ≡ Some script
+
+-- How a run ends that nothing outside of it stops: as its script does, or out of memory.
+abbrev pub EndsAs : SolveStatus → End → Type 0
+EndsAs s Done = (s ≡ status.Done) ⊎ (s ≡ status.Memory)
+EndsAs s (AtFault line column code) = (s ≡ status.Refused) ⊎ (s ≡ status.Memory)

@@ -1,5 +1,5 @@
 //! The arguments of the command line.
-ghost use Rattle.std.specs.Prelude.{◌≡◌, ◌≢◌, [], map, unwrap_or, IfOk, IfSome, IsErrOf, OnErr};
+ghost use Rattle.std.specs.Prelude.{◌≡◌, ◌≢◌, [], map, unwrap_or, IfOk, IfSome, IsErr, IsErrOf, OnErr};
 ghost use Rattle.clap.specs.Words.{app_of, first_value, found_of, kind_of};
 ghost use Rattle.ffc_solve.specs.Arguments.{AreRefused, HasPlan, IsInRange, IsNumber, IsOutside, solve_app};
 
@@ -137,6 +137,7 @@ impl Plan {
     pub fn read<'a>(alloc: Global, words: &'a [&'a str]) -> Result<Plan, PlanStop>
         ensures plan { IfOk result (HasPlan (map (λ w. w.now) words.entry.now)) }
         ensures usage { IsErrOf result PlanStop.Usage → AreRefused (map (λ w. w.now) words.entry.now) }
+        ensures refused { AreRefused (map (λ w. w.now) words.entry.now) → IsErr result }
     {
         let command = solve_command(alloc)?;
         let matches = match command.try_get_matches_from(words) {

@@ -4,12 +4,12 @@ ghost use Rattle.ffc_cert.specs.declared.entries.Entry.{Entry as CertEntry};
 ghost use Rattle.ffc_answer.specs.Answers.{made_answer};
 ghost use Rattle.ffc_base.specs.Outside.{Rose, Becomes};
 ghost use Rattle.ffc_smt.specs.Scripts.{reads};
-ghost use Rattle.ffc_solve.specs.Arguments.{AreRefused, AreTaken, HasPlan};
+ghost use Rattle.ffc_solve.specs.Arguments.{AreRefused, AskToMake, HasPlan};
 ghost use Rattle.ffc_solve.specs.declared.arguments.Plan.{Plan as SolvePlan};
 ghost use Rattle.ffc_solve.specs.Generated.{made_text};
 ghost use Rattle.ffc_solve.specs.Remembering.{Counts, IsBudget};
 ghost use Rattle.ffc_solve.specs.Solving.{EndsSoon, IsPaused, IsStopped, IsTaken, IsWhole};
-ghost use Rattle.ffc_solve.specs.Status.{Leaves, code_of, status_of};
+ghost use Rattle.ffc_solve.specs.Status.{EndsAs, IsScript, IsUntouchedOrNamed, Leaves, code_of, status_of};
 ghost use Rattle.ffc_solve.specs.Underway.{IsFirst, is_fault};
 
 use crate::arguments::{Plan, PlanStop};
@@ -93,6 +93,7 @@ fn answer_script<S: Source, O: Sink, C: NamedSink>(
         × IsPaused plan.now.steps text (C.holds cert.old) (C.holds cert.new) (O.holds out.old) (O.holds out.new)) }
     ensures taken { IfSome (S.left script.old) (λ bytes. (text : List ℕ) × IsTaken text bytes (S.left script.new) × EndsSoon text) }
     ensures named { OnOk result (Becomes plan.now.cert_name (C.name cert.old) (C.name cert.new)) }
+    ensures begun { OnErr result (IsUntouchedOrNamed plan.now.cert_name (C.holds cert.old) (C.holds cert.new) (O.holds out.old) (O.holds out.new) (C.name cert.old) (C.name cert.new)) }
     ensures cause_script { IsErrOf result Stop.ReadFault → Rose (S.faults script.old) (S.faults script.new) }
     ensures cause_out { IsErrOf result Stop.WriteFault → Rose (O.faults out.old) (O.faults out.new) }
     ensures cause_cert { IsErrOf result Stop.CertFault → Rose (C.faults cert.old) (C.faults cert.new) }
@@ -130,6 +131,7 @@ fn answer_generated<O: Sink, C: NamedSink>(
     ensures refused { IfOk result (λ refused. refused ≡ is_fault (reads (made_text size)).end) }
     ensures err { OnErr result (IsStopped plan.now.steps (Some size) (made_text size) (C.holds cert.old) (C.holds cert.new) (O.holds out.old) (O.holds out.new)) }
     ensures named { OnOk result (Becomes plan.now.cert_name (C.name cert.old) (C.name cert.new)) }
+    ensures begun { OnErr result (IsUntouchedOrNamed plan.now.cert_name (C.holds cert.old) (C.holds cert.new) (O.holds out.old) (O.holds out.new) (C.name cert.old) (C.name cert.new)) }
     ensures only { ¬ (IsErrOf result Stop.ReadFault) }
     ensures cause_out { IsErrOf result Stop.WriteFault → Rose (O.faults out.old) (O.faults out.new) }
     ensures cause_cert { IsErrOf result Stop.CertFault → Rose (C.faults cert.old) (C.faults cert.new) }
@@ -175,11 +177,18 @@ pub fn solve_main<'a, S: Source, O: Sink, C: NamedSink>(
     cert: &mut C,
 ) -> SolveStatus
     ensures usage { result ≡ SolveStatus.Usage → AreRefused (map (λ w. w.now) words.now) }
-    ensures refused { ¬ (AreTaken (map (λ w. w.now) words.now)) → (result ≡ SolveStatus.Usage) ⊎ (result ≡ SolveStatus.Memory) }
+    ensures refused { AreRefused (map (λ w. w.now) words.now) → (result ≡ SolveStatus.Usage) ⊎ (result ≡ SolveStatus.Memory) }
     ensures unused { result ≡ SolveStatus.Usage → (script.new ≡ script.old) × (out.new ≡ out.old) × (cert.new ≡ cert.old) }
+
+    // Where a generated script is asked for, nothing is read.
+    ensures unread { AskToMake (map (λ w. w.now) words.now) → script.new ≡ script.old }
 
     // What the certificate and the output have, by the status and by what the arguments ask for.
     ensures left { Leaves (map (λ w. w.now) words.now) result (S.left script.old) (C.holds cert.old) (C.holds cert.new) (O.holds out.old) (O.holds out.new) (C.name cert.old) (C.name cert.new) }
+
+    // Where the words are accepted and no count of faults rose, the run ends as its script does, or out of memory.
+    ensures ends { ¬ (AreRefused (map (λ w. w.now) words.now)) → ¬ (Rose (S.faults script.old) (S.faults script.new)) → ¬ (Rose (O.faults out.old) (O.faults out.new)) → ¬ (Rose (C.faults cert.old) (C.faults cert.new))
+        → (bytes : List ℕ) → IsScript (map (λ w. w.now) words.now) (S.left script.old) bytes → EndsAs result (reads bytes).end }
 
     // How much of the script was taken, and what is answered where reading failed.
     ensures paused { result ≡ SolveStatus.ReadFault → IfSome (S.left script.old) (λ bytes. (plan : SolvePlan) × HasPlan (map (λ w. w.now) words.now) plan × (text : List ℕ) × IsTaken text bytes (S.left script.new)

@@ -3,7 +3,7 @@
 
 ghost use Rattle.std.specs.Prelude.{◌≡◌, ◌⊎◌, map};
 ghost use Rattle.std.specs.Process.{exit_status};
-ghost use Rattle.ffc_solve.specs.Arguments.{AreRefused, AreTaken};
+ghost use Rattle.ffc_solve.specs.Arguments.{AreRefused};
 ghost use Rattle.ffc_solve.specs.Status.{code_of};
 
 use ffc_base::{FileSink, StdSink, StdSource};
@@ -16,7 +16,7 @@ use std::rt::{Env, Files};
 /// Answers the script on standard input. The words are those of the command line, the program's name first.
 fn answer<R: Files + Input + Print + AllocGlobal>(rt: &R, words: &[&str]) -> SolveStatus
     ensures usage { result ≡ SolveStatus.Usage → AreRefused (map (λ w. w.now) words.now) }
-    ensures refused { ¬ (AreTaken (map (λ w. w.now) words.now)) → (result ≡ SolveStatus.Usage) ⊎ (result ≡ SolveStatus.Memory) }
+    ensures refused { AreRefused (map (λ w. w.now) words.now) → (result ≡ SolveStatus.Usage) ⊎ (result ≡ SolveStatus.Memory) }
 {
     let mut script = StdSource::new(rt.reader());
     let mut out = StdSink::new(io::writer(rt));

@@ -1,10 +1,10 @@
-use Rattle.std.proofs.Common.{rules, ◌≡◌, Some, ap, ◌∙◌, subst, string_bytes}
+use Rattle.std.proofs.Common.{rules, ◌≡◌, inl, refl, Some, ap, ◌∙◌, subst, string_bytes}
 use Rattle.ffc_base.specs.Outside.{Appends, AppendsPrefix}
 use Rattle.ffc_answer.specs.Answers.{made_answer}
 use Rattle.ffc_solve.specs.Generated.{made_text}
 use Rattle.ffc_solve.specs.Underway.{IsAnswered, IsCut}
 use Rattle.ffc_solve.proofs.ListLemmas.{not_by_cert, on_err}
-use Rattle.ffc_solve.proofs.EndingLemmas.{rose_later, stopped_creating, stopped_from}
+use Rattle.ffc_solve.proofs.EndingLemmas.{begun_creating, begun_named, rose_later, stopped_creating, stopped_from}
 use Rattle.ffc_solve.proofs.MadeLemmas.{made_cut, made_silent, made_whole, told_at}
 use Rattle.ffc_solve.proofs.solve.answer_generated.Goals as goal
 
@@ -89,3 +89,25 @@ returns-clause-refused g c =
     let bytes : c.into_bytes.result.items ≡ made_text c.args.size = search rules in
     let first = told_at _ (made_text c.args.size) (λ b. IsAnswered c.in_ok-dialogue.dialogue.steps b c.in_ok-refused.refused c.run.new.dialogue c1 cn oo o1) (c.new-script.ensures.tells ∙ ap Some bytes) c.in_ok-refused.ensures.ok in
     IsAnswered.ended first
+
+pub returns-in_err-text-clause-begun : goal.returns-in_err-text-clause-begun
+returns-in_err-text-clause-begun g c = on_err c.from_residual.result _ (inl (refl, refl, refl))
+
+pub returns-in_err-dialogue-clause-begun : goal.returns-in_err-dialogue-clause-begun
+returns-in_err-dialogue-clause-begun g c = on_err c.from_residual-in_err-dialogue.result _ (inl (refl, refl, refl))
+
+pub returns-in_err-create_certificate-clause-begun : goal.returns-in_err-create_certificate-clause-begun
+returns-in_err-create_certificate-clause-begun g c =
+    on_err c.from_residual-in_err-create_certificate.result _ (begun_creating c.args.plan.now.cert_name c.as_str.result.now _ _ _ _ _ _ c.as_str.ensures c.in_err-create_certificate.ensures.err)
+
+pub returns-in_err-refused-clause-begun : goal.returns-in_err-refused-clause-begun
+returns-in_err-refused-clause-begun g c =
+    on_err c.from_residual-in_err-refused.result _ (begun_named c.args.plan.now.cert_name c.as_str.result.now _ _ _ _ _ _ _ c.as_str.ensures c.in_ok-create_certificate.ensures.named c.run.ensures.same_name)
+
+pub returns-in_err-line-clause-begun : goal.returns-in_err-line-clause-begun
+returns-in_err-line-clause-begun g c =
+    on_err c.from_residual-in_err-line.result _ (begun_named c.args.plan.now.cert_name c.as_str.result.now _ _ _ _ _ _ _ c.as_str.ensures c.in_ok-create_certificate.ensures.named c.run.ensures.same_name)
+
+pub returns-in_err-write_out-clause-begun : goal.returns-in_err-write_out-clause-begun
+returns-in_err-write_out-clause-begun g c =
+    on_err c.from_residual-in_err-write_out.result _ (begun_named c.args.plan.now.cert_name c.as_str.result.now _ _ _ _ _ _ _ c.as_str.ensures c.in_ok-create_certificate.ensures.named c.run.ensures.same_name)

@@ -1,8 +1,8 @@
-use Rattle.std.proofs.Common.{None, subst}
+use Rattle.std.proofs.Common.{None, refl, subst}
 use Rattle.ffc_solve.specs.Underway.{IsAnswered, IsCut, IsPausedAt}
 use Rattle.ffc_solve.proofs.ListLemmas.{on_err}
 use Rattle.ffc_solve.proofs.AdvanceLemmas.{err_weaker, ok_weaker}
-use Rattle.ffc_solve.proofs.EndingLemmas.{if_any, on_ok, paused_from, rose_later, stopped_creating, stopped_from, stopped_headed, told_if, whole_from}
+use Rattle.ffc_solve.proofs.EndingLemmas.{begun_creating, begun_named, if_any, on_ok, paused_from, rose_later, stopped_creating, stopped_from, stopped_headed, told_if, whole_from}
 use Rattle.ffc_solve.proofs.solve.answer_script.Goals as goal
 
 pub returns-in_err-create_certificate-clause-err : goal.returns-in_err-create_certificate-clause-err
@@ -50,3 +50,14 @@ returns-clause-paused g c = λ is.
 
 pub returns-clause-cause_cert : goal.returns-clause-cause_cert
 returns-clause-cause_cert g c = λ is. rose_later _ _ _ c.in_ok-create_certificate.ensures.later (c.run.ensures.cause_cert is)
+
+pub returns-in_err-create_certificate-clause-begun : goal.returns-in_err-create_certificate-clause-begun
+returns-in_err-create_certificate-clause-begun g c =
+    on_err c.from_residual.result _ (begun_creating c.args.plan.now.cert_name c.as_str.result.now _ _ _ _ _ _ c.as_str.ensures c.in_err-create_certificate.ensures.err)
+
+pub returns-in_err-dialogue-clause-begun : goal.returns-in_err-dialogue-clause-begun
+returns-in_err-dialogue-clause-begun g c =
+    on_err c.from_residual-in_err-dialogue.result _ (begun_named c.args.plan.now.cert_name c.as_str.result.now _ _ _ _ _ _ _ c.as_str.ensures c.in_ok-create_certificate.ensures.named refl)
+
+pub returns-clause-begun : goal.returns-clause-begun
+returns-clause-begun g c = on_err c.run.result _ (begun_named c.args.plan.now.cert_name c.as_str.result.now _ _ _ _ _ _ _ c.as_str.ensures c.in_ok-create_certificate.ensures.named c.run.ensures.same_name)

@@ -1,5 +1,6 @@
 use Rattle.std.proofs.Common.{rules, map, None, Some}
-use Rattle.ffc_solve.proofs.EndingLemmas.{planned}
+use Rattle.ffc_solve.proofs.ArgumentLemmas.{none_given, not_planned}
+use Rattle.ffc_solve.proofs.EndingLemmas.{ends_as, ends_memory, planned}
 use Rattle.ffc_solve.proofs.solve.solve_main.Goals as goal
 
 pub returns-in-Err-Usage-clause-usage : goal.returns-in-Err-Usage-clause-usage
@@ -9,10 +10,35 @@ pub returns-in-None-clause-left : goal.returns-in-None-clause-left
 returns-in-None-clause-left g c =
     planned (map (λ w. w.now) c.args.words.now) c.in-Ok.plan None c.answer_script.result (g.S.Source.left c.args.script.now) (g.C.Sink.holds c.args.cert.now) (g.C.Sink.holds c.answer_script.new.cert)
     (g.O.Sink.holds c.args.out.now) (g.O.Sink.holds c.answer_script.new.out) (g.C.Sink.name c.args.cert.now) (g.C.Sink.name c.answer_script.new.cert) _
-    c.in-Ok.ensures.plan (search rules) c.status_of.ensures c.answer_script.ensures.ok c.answer_script.ensures.refused c.answer_script.ensures.err c.answer_script.ensures.named
+    c.in-Ok.ensures.plan (search rules) c.status_of.ensures c.answer_script.ensures.ok c.answer_script.ensures.refused c.answer_script.ensures.err c.answer_script.ensures.named c.answer_script.ensures.begun
 
 pub returns-clause-left : goal.returns-clause-left
 returns-clause-left g c =
     planned (map (λ w. w.now) c.args.words.now) c.in-Ok.plan (Some c.in-Some.size) c.answer_generated.result (g.S.Source.left c.args.script.now) (g.C.Sink.holds c.args.cert.now) (g.C.Sink.holds c.answer_generated.new.cert)
     (g.O.Sink.holds c.args.out.now) (g.O.Sink.holds c.answer_generated.new.out) (g.C.Sink.name c.args.cert.now) (g.C.Sink.name c.answer_generated.new.cert) _
-    c.in-Ok.ensures.plan (search rules) c.status_of-in-Some.ensures c.answer_generated.ensures.ok c.answer_generated.ensures.refused c.answer_generated.ensures.err c.answer_generated.ensures.named
+    c.in-Ok.ensures.plan (search rules) c.status_of-in-Some.ensures c.answer_generated.ensures.ok c.answer_generated.ensures.refused c.answer_generated.ensures.err c.answer_generated.ensures.named c.answer_generated.ensures.begun
+
+pub returns-in-Err-Usage-clause-ends : goal.returns-in-Err-Usage-clause-ends
+returns-in-Err-Usage-clause-ends g c = λ accepted read write cert bytes script. absurd (accepted (c.read.ensures.usage (search rules)))
+
+pub returns-in-Err-Memory-clause-ends : goal.returns-in-Err-Memory-clause-ends
+returns-in-Err-Memory-clause-ends g c = λ accepted read write cert bytes script. ends_memory _ _ (search rules)
+
+pub returns-in-None-clause-refused : goal.returns-in-None-clause-refused
+returns-in-None-clause-refused g c = λ refused. absurd (not_planned _ c.in-Ok.plan c.in-Ok.ensures.plan refused)
+
+pub returns-in-None-clause-unread : goal.returns-in-None-clause-unread
+returns-in-None-clause-unread g c = λ asked. absurd (none_given _ c.in-Ok.plan.make c.in-Ok.ensures.plan.make (search rules) asked)
+
+pub returns-in-None-clause-ends : goal.returns-in-None-clause-ends
+returns-in-None-clause-ends g c = λ accepted read write cert bytes script.
+    ends_as (map (λ w. w.now) c.args.words.now) c.in-Ok.plan None c.answer_script.result _ (g.S.Source.left c.args.script.now) bytes c.in-Ok.ensures.plan (search rules) c.status_of.ensures script c.answer_script.ensures.refused
+    (λ is. read (c.answer_script.ensures.cause_script is)) (λ is. write (c.answer_script.ensures.cause_out is)) (λ is. cert (c.answer_script.ensures.cause_cert is))
+
+pub returns-clause-refused : goal.returns-clause-refused
+returns-clause-refused g c = λ refused. absurd (not_planned _ c.in-Ok.plan c.in-Ok.ensures.plan refused)
+
+pub returns-clause-ends : goal.returns-clause-ends
+returns-clause-ends g c = λ accepted read write cert bytes script.
+    ends_as (map (λ w. w.now) c.args.words.now) c.in-Ok.plan (Some c.in-Some.size) c.answer_generated.result _ (g.S.Source.left c.args.script.now) bytes c.in-Ok.ensures.plan (search rules) c.status_of-in-Some.ensures script c.answer_generated.ensures.refused
+    c.answer_generated.ensures.only (λ is. write (c.answer_generated.ensures.cause_out is)) (λ is. cert (c.answer_generated.ensures.cause_cert is))

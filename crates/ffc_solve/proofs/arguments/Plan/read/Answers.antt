@@ -3,7 +3,7 @@ use Rattle.clap.specs.Words.{fault_of, first_of, found_of, HasKind, is_simple, i
 use Rattle.clap.proofs.OnLiterals.{clap_on_literals}
 use Rattle.clap.proofs.WalkLemmas.{first_value-rows}
 use Rattle.ffc_solve.specs.Arguments.{IsInRange, IsNumber, IsNumberOr, IsOutside, number_given, solve_app}
-use Rattle.ffc_solve.proofs.ArgumentLemmas.{not_taken, number_or, range_or}
+use Rattle.ffc_solve.proofs.ArgumentLemmas.{not_planned, not_taken, number_or, range_or}
 use Rattle.ffc_solve.proofs.arguments.Plan.read.Goals as goal
 
 simple_and_free : is_simple_and_free solve_app ≡ true
@@ -50,3 +50,6 @@ returns-clause-plan c =
       steps_in = subst (IsInRange 1000000000000) (sym c.unwrap_or.ensures) (range_or c.in_ok-steps.steps c.in_ok-steps.ensures.range);
       make_in = c.in_ok-make.ensures.range;
     }
+
+pub returns-clause-refused : goal.returns-clause-refused
+returns-clause-refused c = λ refused. absurd (not_planned _ _ (returns-clause-plan c) refused)
