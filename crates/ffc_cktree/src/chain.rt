@@ -189,7 +189,7 @@ fn is_identity<F: Field>(
 /// The power after a step. Rule 11 where the quotient or the remainder is too long; rule 6 where a coefficient is no
 /// residue, or the product is not quotient times modulus and the remainder. It costs the lengths that are written, and
 /// where the identity may hold half the square of the power's length and the product of the quotient's and the modulus', none
-/// of them with zeros at its end. With remainders below the degree of the modulus this is at most 1.5 times the square of that
+/// of them with zeros at its end. With remainders below the degree of the modulus this is about 1.5 times the square of that
 /// degree. A remainder that is longer, which no writer needs, makes the next step dearer: of at most 1,025 coefficients, and
 /// of at most 513 and half the degree where the identity holds.
 pub fn step<F: Field>(
