@@ -1,5 +1,6 @@
 pub mod SumLemmas
 pub mod RowLemmas
+pub mod SquareLemmas
 pub mod LengthLemmas
 pub mod ChainLemmas
 pub mod CaseLemmas

@@ -10,7 +10,7 @@ ghost use Rattle.ffc_cktree.specs.Factors.{factor_of, factors_of};
 ghost use Rattle.ffc_cktree.specs.Identities.{product_length, multiplied_length, is_one_longer, is_identity};
 
 use crate::rows::{
-    are_below, are_same, elements, pair, product_and_rest, product_of, without_zeros,
+    are_below, are_same, elements, pair, product_and_rest, product_of, square_of, without_zeros,
 };
 use crate::rules;
 use crate::stop::LineStop;
@@ -102,7 +102,7 @@ fn multiplied<F: Field>(alloc: Global, factor: Factor, power: &[F]) -> Result<Ve
     ensures { IfOk result (λ v. SameUnivariate F.ORDER (map F.value v.items) (times_factor (factor_of factor) (map F.value power.now))) }
 {
     match factor {
-        Factor::Itself => product_of(alloc, power, power),
+        Factor::Itself => square_of(alloc, power),
         Factor::Variable => {
             let variable = pair(alloc, F::of(0), F::of(1))?;
             product_of(alloc, variable.as_slice(), power)
@@ -188,8 +188,10 @@ fn is_identity<F: Field>(
 
 /// The power after a step. Rule 11 where the quotient or the remainder is too long; rule 6 where a coefficient is no
 /// residue, or the product is not quotient times modulus and the remainder. It costs the lengths that are written, and
-/// where the identity may hold the square of the power's length and the product of the quotient's and the modulus', none of
-/// them with zeros at its end. With remainders below the degree of the modulus this is the square of that degree.
+/// where the identity may hold half the square of the power's length and the product of the quotient's and the modulus', none
+/// of them with zeros at its end. With remainders below the degree of the modulus this is about 1.5 times the square of that
+/// degree. A remainder that is longer, which no writer needs, makes the next step dearer: of at most 1,025 coefficients, and
+/// of at most 513 and half the degree where the identity holds.
 pub fn step<F: Field>(
     alloc: Global,
     modulus: &[F],

@@ -112,6 +112,28 @@ pub fn product_of<F: Field>(alloc: Global, a: &[F], b: &[F]) -> Result<Vec<F>, A
     product_and_rest(alloc, a, b, none.as_slice())
 }
 
+/// Adds the square of a row. The product of two different coefficients is made once, and added twice.
+fn add_square<F: Field>(out: &mut [F], a: &[F])
+    requires { length a.now + length a.now ≤ length out.old + 1 }
+    ensures { SameUnivariate F.ORDER (map F.value out.new) (plus (map F.value out.old) (times (map F.value a.now) (map F.value a.now))) }
+{
+    for (place, coef) in a.iter().enumerate() {
+        add_shifted(out, place + place, *coef, &[*coef]);
+        add_shifted(out, place + place + 1, coef.add(*coef), &a[place + 1..]);
+    }
+}
+
+/// a*a, in one buffer. It costs half of what a product of two rows of this length does.
+pub fn square_of<F: Field>(alloc: Global, a: &[F]) -> Result<Vec<F>, AllocError>
+    requires { length a.now + length a.now < 2 ^ 64 }
+    ensures { IfOk result (λ v. SameUnivariate F.ORDER (map F.value v.items) (times (map F.value a.now) (map F.value a.now))) }
+{
+    let mut out = Vec::new(alloc);
+    out.resize((a.len() + a.len()).saturating_sub(1), F::of(0))?;
+    add_square(out.as_mut_slice(), a);
+    Ok(out)
+}
+
 /// Whether all coefficients are 0.
 fn are_zero<F: Field>(row: &[F]) -> bool
     ensures { result ≡ is_same F.ORDER [] (map F.value row.now) }
