@@ -270,13 +270,19 @@ fn long_front(alloc: Global) -> Result<Vec<u8>, Fail> {
     Ok(text)
 }
 
-/// Where the entry has 67,108,865 bytes its last line is at fault, and two bytes more are too many in the line before.
+/// An entry of 67,108,864 bytes is read. Where it has one more its last line is at fault, and two bytes more than that are
+/// too many in the line before.
 #[test]
 fn limits_the_length_of_an_entry(rt: HostRuntime) -> Result<(), Fail> {
     let alloc = rt.alloc();
     let mut text = long_front(alloc)?;
     let front = text.len();
     assert_eq!(rt; front, 67_108_856);
+    text.extend_from_slice(b" 12345678901 0\nz\n")?;
+    let mut out = Vec::new(alloc);
+    read(alloc, &text, front, &mut out)?;
+    assert_eq!(rt; out.len(), 67_108_864);
+    text.truncate(front);
     text.extend_from_slice(b" 123456789012 0\nz\n")?;
     assert_eq!(rt; fault_of(alloc, &text, front), Some((1, 6, 5)));
     text.truncate(front);
