@@ -34,8 +34,7 @@ root_taken p r f roots after pending root more =
     let c = root.0 in
     let one = times x (1 ∷ []) in
     let old = product_of_roots p roots in
-    let rest = together pending in
-    (
+    let rest = together pending in (
       c,
       λ k.
           times_alike_first p f (multiple c one) (times old rest) root.1 k
@@ -49,8 +48,7 @@ root_taken p r f roots after pending root more =
 pub constant_taken : (p : ℕ) (f : Coefficients) (roots : List ℕ) (pending : List Coefficients) → length f ≤ 1 → IsTakenApart p f roots pending roots pending
 constant_taken p f roots pending short =
     let c = coefficient_at f 0 in
-    let rest = joined p roots pending in
-    (
+    let rest = joined p roots pending in (
       c,
       λ k.
           times_alike_first p f (c ∷ []) rest (constant_left p f (vanishes_past_the_end p f 1 short)) k
@@ -69,8 +67,7 @@ parts_taken p f a b roots pending middle after same first second =
     ap (λ l. coefficient_at (together l) k % p) second
     ∙ together-push p middle b k
     ∙ ap (λ l. coefficient_at (times (together l) b) k % p) first
-    ∙ times_alike_first p (together (pending ++ a ∷ [])) (times rest a) b (together-push p pending a) k in
-    (
+    ∙ times_alike_first p (together (pending ++ a ∷ [])) (times rest a) b (together-push p pending a) k in (
       1,
       λ k.
           times_alike_first p f (times a b) (times old rest) same k
@@ -108,8 +105,7 @@ pub front_with_roots_divides : (p c : ℕ) (product f : Coefficients) (roots : L
     → IsDivisor p (times f (product_of_roots p roots)) product
 front_with_roots_divides p c product f roots pending same =
     let old = product_of_roots p roots in
-    let rest = together pending in
-    (
+    let rest = together pending in (
       multiple c rest,
       λ k. same k ∙ by_values p (multiple c (times f (times old rest))) (times (multiple c rest) (times f old)) (λ y. simp (sum_at-times, sum_at-multiple) (omega arith)) k,
     )
@@ -117,8 +113,7 @@ front_with_roots_divides p c product f roots pending same =
 pub taken_further : (p c : ℕ) (product f : Coefficients) (roots roots_after : List ℕ) (pending pending_after : List Coefficients) → SameUnivariate p product (multiple c (times f (joined p roots pending)))
     → IsTakenApart p f roots pending roots_after pending_after → (d : ℕ) × SameUnivariate p product (multiple d (joined p roots_after pending_after))
 taken_further p c product f roots roots_after pending pending_after same taken =
-    let after = joined p roots_after pending_after in
-    (
+    let after = joined p roots_after pending_after in (
       c * taken.0,
       λ k.
           same k
@@ -203,8 +198,7 @@ linear_is_factor p c g below same = λ k. same k ∙ at k
 pub linear_divides : (p c : ℕ) (f g : Coefficients) → 0 < p → c < p → SameUnivariate p g (c ∷ 1 ∷ []) → value_of p (neg_mod p c) f ≡ 0 → IsDivisor p g f
 linear_divides p c f g some below same none =
     let x = factor p (neg_mod p c) in
-    let q = quotient_at (neg_mod p c) f in
-    (
+    let q = quotient_at (neg_mod p c) f in (
       q,
       λ k.
           factored p (neg_mod p c) f (mod-lt (p - c) some) none k

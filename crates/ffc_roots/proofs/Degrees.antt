@@ -79,6 +79,7 @@ degree_of p (c ∷ a) = elim (degree_of p a) [
     later : (p c : ℕ) (a : Coefficients) (j : ℕ) → 1 ≤ j → ((i : ℕ) → coefficient_at a i % p ≡ 0) → coefficient_at (c ∷ a) j % p ≡ 0
     later p c a zero above none = absurd (omega arith)
     later p c a (suc j) above none = none j
+
     later_from : (p c : ℕ) (a : Coefficients) (n j : ℕ) → suc (suc n) ≤ j → VanishesFrom p (suc n) a → coefficient_at (c ∷ a) j % p ≡ 0
     later_from p c a n zero above none = absurd (omega arith)
     later_from p c a n (suc j) above none = none j (omega arith)

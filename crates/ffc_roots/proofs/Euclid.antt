@@ -15,19 +15,18 @@ bezout_step p f h b1 v1 b2 v2 q b v some first second division cofactor =
     let a = minus p a1 (times q a2) in
     let combined = plus (times a2 f) (times b2 h) in
     let back : SameUnivariate p (plus b (times q b2)) b1 = λ j.
-    plus_alike p b (minus p b1 (times q b2)) (times q b2) (times q b2) cofactor (λ i. refl) j ∙ minus_and_back p b1 (times q b2) some j in
-    (
+    plus_alike p b (minus p b1 (times q b2)) (times q b2) (times q b2) cofactor (λ i. refl) j ∙ minus_and_back p b1 (times q b2) some j in (
       a,
       cancel_sum p (plus (times a f) (times b h)) v (times q v2) some (λ j.
-      plus_alike p (plus (times a f) (times b h)) (plus (times a f) (times b h)) (times q v2) (times q combined) (λ i. refl)
-      (times_alike_second p q v2 combined (λ i. sym (second.1 i))) j
-      ∙ by_values p (plus (plus (times a f) (times b h)) (times q combined)) (plus (times (plus a (times q a2)) f) (times (plus b (times q b2)) h))
-      (λ x. simp (sum_at-plus, sum_at-times) (omega arith)) j
-      ∙ plus_alike p (times (plus a (times q a2)) f) (times a1 f) (times (plus b (times q b2)) h) (times b1 h)
-      (times_alike_first p (plus a (times q a2)) a1 f (minus_and_back p a1 (times q a2) some)) (times_alike_first p (plus b (times q b2)) b1 h back) j
-      ∙ first.1 j
-      ∙ division j
-      ∙ by_values p (plus (times q v2) v) (plus v (times q v2)) (λ x. simp sum_at-plus (omega arith)) j),
+          plus_alike p (plus (times a f) (times b h)) (plus (times a f) (times b h)) (times q v2) (times q combined) (λ i. refl)
+          (times_alike_second p q v2 combined (λ i. sym (second.1 i))) j
+          ∙ by_values p (plus (plus (times a f) (times b h)) (times q combined)) (plus (times (plus a (times q a2)) f) (times (plus b (times q b2)) h))
+          (λ x. simp (sum_at-plus, sum_at-times) (omega arith)) j
+          ∙ plus_alike p (times (plus a (times q a2)) f) (times a1 f) (times (plus b (times q b2)) h) (times b1 h)
+          (times_alike_first p (plus a (times q a2)) a1 f (minus_and_back p a1 (times q a2) some)) (times_alike_first p (plus b (times q b2)) b1 h back) j
+          ∙ first.1 j
+          ∙ division j
+          ∙ by_values p (plus (times q v2) v) (plus v (times q v2)) (λ x. simp sum_at-plus (omega arith)) j),
     )
 
 -- f is a combination of two polynomials
@@ -37,8 +36,7 @@ IsSpanned p f v w = (u : Coefficients) × (t : Coefficients) × SameUnivariate p
 pub spanned_step : (p : ℕ) (f v1 v2 q v : Coefficients) → IsSpanned p f v1 v2 → SameUnivariate p v1 (plus (times q v2) v) → IsSpanned p f v2 v
 spanned_step p f v1 v2 q v before division =
     let u = before.0 in
-    let t = before.1 in
-    (
+    let t = before.1 in (
       plus (times u q) t,
       u,
       λ j.

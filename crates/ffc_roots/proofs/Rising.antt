@@ -59,8 +59,7 @@ factor_at : (p r : ℕ) (xs : List ℕ) (k : ℕ) → k < length xs → get_or x
 factor_at p r [] k within here = absurd (omega arith)
 factor_at p r (y ∷ ys) zero within here = (product_of_roots p ys, λ j. ap (λ z. coefficient_at (times (factor p z) (product_of_roots p ys)) j % p) here)
 factor_at p r (y ∷ ys) (suc k) within here =
-    let rest = factor_at p r ys k (omega arith) here in
-    (
+    let rest = factor_at p r ys k (omega arith) here in (
       times (factor p y) rest.0,
       λ j.
           times_alike_second p (factor p y) (product_of_roots p ys) (times (factor p r) rest.0) rest.1 j

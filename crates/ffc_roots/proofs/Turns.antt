@@ -118,8 +118,7 @@ proper_divisor p s t g (c ∷ []) prime g_normal some d_normal divides at_s at_t
 proper_divisor p s t g (c ∷ e ∷ d) prime g_normal some d_normal divides at_s at_t root =
     let whole = c ∷ e ∷ d in
     let n = suc (length d) in
-    let q = divides.0 in
-    (
+    let q = divides.0 in (
       omega arith,
       elim (cases_lt (length whole) (length g)) [
         | inl less ↦ less

@@ -169,17 +169,33 @@ fn random_coefficients(rt: HostRuntime) -> Result<(), Fail> {
         190125955123377830,
         14405597414764627736,
     ];
-    let found = [10253815258591744032, 16012009544544479879, 17492351768202100462];
+    let found = [
+        10253815258591744032,
+        16012009544544479879,
+        17492351768202100462,
+    ];
     assert!(rt; finds::<F2>(&rt, alloc, &f2, &[], &[0, 1])?);
     assert!(rt; finds::<F3>(&rt, alloc, &f3, &[], &[0, 1, 2])?);
     assert!(rt; finds::<F5>(&rt, alloc, &f5, &[], &[0, 1, 4])?);
     assert!(rt; finds::<F17>(&rt, alloc, &f17, &[], &[8, 13, 14, 15])?);
     assert!(rt; finds::<F65537>(&rt, alloc, &f65537, &[], &[17338, 46357, 50168])?);
     assert!(rt;
-        finds::<BabyBear>(&rt, alloc, &baby_bear, &[], &[163067757, 905923156, 1694408424])?
+        finds::<BabyBear>(
+            &rt,
+            alloc,
+            &baby_bear,
+            &[],
+            &[163067757, 905923156, 1694408424]
+        )?
     );
     assert!(rt;
-        finds::<KoalaBear>(&rt, alloc, &koala_bear, &[], &[624481614, 1052379309, 1256108412])?
+        finds::<KoalaBear>(
+            &rt,
+            alloc,
+            &koala_bear,
+            &[],
+            &[624481614, 1052379309, 1256108412]
+        )?
     );
     assert!(rt; finds::<Goldilocks>(&rt, alloc, &goldilocks, &[], &found)?);
     Ok(())

@@ -55,12 +55,11 @@ loop-f-preserved g c =
       product = taken_further p known.product.0 product f roots c.take_apart.new.roots.items rest c.take_apart.new.pending.items front c.in_ok-take_apart.ensures.product;
       rising = c.in_ok-take_apart.ensures.rising;
       units = λ bound separated.
-          let before = known.units bound separated in
-          (
+          let before = known.units bound separated in (
             before.0 + s,
             omega (arith, before.1, parts, c.in_ok-take_apart.ensures.splits),
             turns_later bound before.0 s (before.0 + s) c.args.meter.now c.loop-f.meter c.take_apart.new.meter (omega arith) before.2
-            (c.take_apart.ensures.units bound (separated_of_divisor p bound f product (front_divides p known.product.0 product f roots rest front) separated)),
+                (c.take_apart.ensures.units bound (separated_of_divisor p bound f product (front_divides p known.product.0 product f roots rest front) separated)),
           );
       chained = chained_after c.args.meter.now c.loop-f.meter c.take_apart.new.meter known.chained c.take_apart.ensures.chained;
     }
