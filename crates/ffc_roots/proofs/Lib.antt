@@ -1,4 +1,16 @@
+pub mod Apart
+pub mod Bounds
+pub mod Cases
 pub mod Chained
+pub mod Cofactors
+pub mod Degrees
+pub mod Euclid
+pub mod FieldPolynomial
+pub mod Identities
 pub mod Lists
+pub mod Powers
+pub mod Rising
 pub mod RootLemmas
 pub mod SparseLemmas
+pub mod Tries
+pub mod Turns

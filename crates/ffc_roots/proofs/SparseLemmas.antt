@@ -1,5 +1,5 @@
 -- Rows of coefficients as polynomials of many variables in which one occurs.
-use Rattle.std.proofs.Common.{◌≡◌, ℕ, zero, suc, ◌+◌, ◌-◌, ◌%◌, ◌<◌, ◌≤◌, List, [], ◌∷◌, ◌++◌, length, get_or, take, map, refl, sym, ap, ap₂, ◌∙◌, arith, length-append, zero-add, inl, inr}
+use Rattle.std.proofs.Common.{◌≡◌, ℕ, zero, suc, ◌+◌, ◌%◌, ◌<◌, ◌≤◌, List, [], ◌∷◌, ◌++◌, length, get_or, take, map, refl, sym, ap, ap₂, ◌∙◌, arith, length-append, zero-add, inl, inr}
 use Rattle.std.proofs.Math.ListN.{replicate}
 use Rattle.std.proofs.lemmas.List.{length-replicate, length-take, map-append, take_all}
 use Rattle.ffc_ring.specs.Monomial.{Monomial}
@@ -8,7 +8,6 @@ use Rattle.ffc_ring.specs.Polynomial.{Terms, written, coefficient, SamePolynomia
 use Rattle.ffc_ring.proofs.PolynomialLemmas.{same_sums, cases_monomial, written-at, written-off}
 use Rattle.ffc_uni.specs.Rows.{shifted}
 use Rattle.ffc_uni.specs.Univariate.{Coefficients, coefficient_at, SameUnivariate, plus, power_of, terms_from, terms_in}
-use Rattle.ffc_uni.proofs.Coefficients.{coefficient_at-plus}
 use Rattle.ffc_uni.proofs.Rows.{padded, taken_at, length-residues}
 use Rattle.ffc_uni.proofs.RingLemmas.{same_in_ring, sum_in_ring}
 use Rattle.ffc_poly.specs.Ordered.{residues}

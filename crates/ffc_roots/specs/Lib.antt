@@ -1,4 +1,6 @@
+pub mod Divisors
 pub mod Parts
 pub mod Roots
+pub mod Separation
 pub mod Sparse
 pub mod Stops

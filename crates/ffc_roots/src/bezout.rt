@@ -1,20 +1,23 @@
 //! A common divisor of two polynomials as a combination of both, by Euclid's algorithm with recorded steps.
-ghost use Rattle.std.specs.Prelude.{◌≢◌, ◌<◌, [], length, IfOk};
+ghost use Rattle.std.specs.Prelude.{◌≢◌, ◌<◌, [], ◌∷◌, length, IfOk};
+ghost use Rattle.ffc_uni.specs.Univariate.{SameUnivariate};
+ghost use Rattle.ffc_roots.specs.Divisors.{IsCommonDivisor, IsLeftOver};
 
 use ffc_field::Field;
 use ffc_uni::Uni;
 use std::alloc::{AllocError, Global};
 
-/// A combination a*f + b*h of two polynomials f and h.
+/// A combination a*f + b*h of two polynomials f and h. The other cofactor, a, is the quotient of what is left by f.
 #[derive(Debug, Drop)]
 pub struct Combination<F: Field> {
     pub value: Uni<F>,
-    pub a: Uni<F>,
     pub b: Uni<F>,
 }
 
 /// The constant polynomial c.
-pub fn constant<F: Field>(alloc: Global, c: F) -> Result<Uni<F>, AllocError> {
+pub fn constant<F: Field>(alloc: Global, c: F) -> Result<Uni<F>, AllocError>
+    ensures { IfOk result (λ x. SameUnivariate F.ORDER x (F.value c ∷ [])) }
+{
     let mut coefs = Vec::new(alloc);
     coefs.push(c)?;
     Uni::from_coefs(alloc, &coefs)
@@ -26,56 +29,36 @@ fn left_over<F: Field>(
     second: &Combination<F>,
 ) -> Result<Combination<F>, AllocError>
     requires { second.now.value ≢ [] }
+    ensures step { IfOk result (IsLeftOver F.ORDER first.now second.now) }
     ensures lower { IfOk result (λ c. length c.value < length second.now.value) }
 {
     let (quotient, value) = first.value.div_rem(&second.value)?;
-    let a = first.a.sub(&quotient.mul(&second.a)?)?;
     let b = first.b.sub(&quotient.mul(&second.b)?)?;
-    Ok(Combination { value, a, b })
+    Ok(Combination { value, b })
 }
 
-/// The combination times a constant.
-fn scaled<F: Field>(c: F, of: &Combination<F>) -> Result<Combination<F>, AllocError> {
-    Ok(Combination {
-        value: of.value.scale(c)?,
-        a: of.a.scale(c)?,
-        b: of.b.scale(c)?,
-    })
-}
-
-/// The combination with the leading coefficient 1, unless it is 0.
-fn monic<F: Field>(of: Combination<F>) -> Result<Combination<F>, AllocError> {
-    match of.value.coefs().last() {
-        Some(lead) => match lead.inv() {
-            Some(inverse) => scaled(inverse, &of),
-            None => Ok(of),
-        },
-        None => Ok(of),
-    }
-}
-
-/// The common divisor of f and h of highest degree, with the leading coefficient 1, as a combination of both.
+/// A common divisor of f and h of highest degree, as a combination of both.
 pub fn common_divisor<F: Field>(
     alloc: Global,
     f: &Uni<F>,
     h: &Uni<F>,
-) -> Result<Combination<F>, AllocError> {
-    let one = F::of(1);
-    let zero = F::of(0);
+) -> Result<Combination<F>, AllocError>
+    requires { f.now ≢ [] }
+    ensures divisor { IfOk result (λ c. IsCommonDivisor F.ORDER f.now h.now c.b c.value) }
+    ensures some { IfOk result (λ c. c.value ≢ []) }
+{
     let mut first = Combination {
         value: f.clone()?,
-        a: constant(alloc, one)?,
-        b: constant(alloc, zero)?,
+        b: constant(alloc, F::of(0))?,
     };
     let mut second = Combination {
         value: h.clone()?,
-        a: constant(alloc, zero)?,
-        b: constant(alloc, one)?,
+        b: constant(alloc, F::of(1))?,
     };
     while !second.value.is_zero() {
         let next = left_over(&first, &second)?;
         first = second;
         second = next;
     }
-    monic(first)
+    Ok(first)
 }

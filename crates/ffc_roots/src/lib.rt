@@ -5,6 +5,7 @@ mod bezout;
 mod elements;
 mod finding;
 mod found;
+mod ordered;
 mod sparse;
 mod split;
 mod stop;

@@ -1,7 +1,7 @@
-use Rattle.std.proofs.Common.{◌≡◌, ℕ, ◌<◌, ◌++◌, ◌∷◌, [], ◌+◌, ◌%◌, length, get_or, map, take, sym, ap, ap₂, ◌∙◌, subst, arith, take_all}
+use Rattle.std.proofs.Common.{◌≡◌, ℕ, ◌<◌, ◌++◌, ◌∷◌, [], ◌+◌, ◌%◌, length, map, take, sym, ap, ap₂, ◌∙◌, subst, arith, take_all}
 use Rattle.std.proofs.lemmas.List.{take_more}
 use Rattle.ffc_ring.specs.Monomial.{Monomial}
-use Rattle.ffc_ring.specs.Polynomial.{Terms, SamePolynomial, written}
+use Rattle.ffc_ring.specs.Polynomial.{Terms, written}
 use Rattle.ffc_uni.specs.Univariate.{power_of, terms_in}
 use Rattle.ffc_uni.proofs.RingLemmas.{same_in_ring}
 use Rattle.ffc_roots.specs.Sparse.{IsPowerOf}

@@ -1,10 +1,10 @@
-use Rattle.std.proofs.Common.{◌-◌}
-use Rattle.ffc_base.specs.Metering.{total}
-use Rattle.ffc_uni.specs.Units.{IsChained}
+use Rattle.std.proofs.Common.{ℕ, ◌*◌, ◌<◌}
+use Rattle.ffc_uni.specs.Units.{IsAtMost}
+use Rattle.ffc_roots.specs.Separation.{SeparatesNone}
 use Rattle.ffc_roots.proofs.split.part.Given as goal
 
-abbrev pub invariant-loop-parts : goal.invariant-loop-parts
-invariant-loop-parts g l = IsChained l.fn.meter l.meter
-
-abbrev pub decreases-loop-parts : goal.decreases-loop-parts
-decreases-loop-parts g l = l.meter.budget - total l.meter
+abbrev pub invariant-loop-n : goal.invariant-loop-n
+invariant-loop-n g l = record {
+  tried : (c : ℕ) → c < l.n → SeparatesNone g.F.Field.ORDER l.f c;
+  units : IsAtMost (128 * l.n) l.fn.meter l.meter;
+}
