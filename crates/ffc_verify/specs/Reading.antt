@@ -1,5 +1,5 @@
 -- Reading a text piece by piece.
-use Rattle.std.specs.Prelude.{◌≡◌, ◌⊎◌, ℕ, ◌+◌, false, List, [], ◌++◌, Option, Some, None}
+use Rattle.std.specs.Prelude.{◌≡◌, ◌⊎◌, ℕ, ◌+◌, ◌<◌, ◌^◌, false, List, [], ◌++◌, Option, Some, None}
 use Rattle.ffc_cert.specs.Certificate.{Certificate, next_entry_of}
 use Rattle.ffc_cert.specs.Reading.{Complete, Open, Stopped, reading_of}
 use Rattle.ffc_check.specs.Judged.{IsReadableEntry}
@@ -42,3 +42,9 @@ abbrev pub EndsAs : Certificate → NextEntry → Type 0
 EndsAs c (next.Entry e) = ⊥
 EndsAs c next.Complete = (reading_of c.wanted c.text).end ≡ Complete
 EndsAs c (next.Fault f) = (reading_of c.wanted c.text).end ≡ Open f
+
+-- an entry that comes next begins at a line with a number of 63 bits
+abbrev pub HasLine : NextEntry → Type 0
+HasLine (next.Entry e) = e.first_line < 2 ^ 63
+HasLine next.Complete = Unit {0}
+HasLine (next.Fault f) = Unit {0}

@@ -2,7 +2,7 @@
 ghost use Rattle.std.specs.Prelude.{◌≡◌, ◌≤◌, false, IfOk, IfErr, OnOk, IsErrOf};
 ghost use Rattle.ffc_base.specs.Outside.{Rose};
 ghost use Rattle.ffc_cert.specs.Certificate.{IsRead};
-ghost use Rattle.ffc_verify.specs.Reading.{EndsAs, Grows, IsAtEnd, IsNext, IsOpen, MovesOn};
+ghost use Rattle.ffc_verify.specs.Reading.{EndsAs, Grows, HasLine, IsAtEnd, IsNext, IsOpen, MovesOn};
 
 use crate::stop::{PIECE, Stop};
 use ffc_base::Source;
@@ -46,6 +46,7 @@ fn end_entries(entries: &mut CertReader) -> Result<NextEntry, Stop>
     requires read { IsRead entries.old }
     requires open { IsOpen entries.old }
     ensures end { IfOk result (EndsAs entries.old) }
+    ensures line { IfOk result HasLine }
     ensures text { entries.new.text ≡ entries.old.text }
     ensures memory { IfErr result (λ stop. stop ≡ Stop.Memory) }
 {
@@ -63,6 +64,7 @@ pub(crate) fn next_entry<C: Source>(
 ) -> Result<NextEntry, Stop>
     requires { IsOpen entries.old }
     ensures next { IfOk result (IsNext entries.old entries.new (C.left cert.old)) }
+    ensures line { IfOk result HasLine }
     ensures moves { OnOk result (MovesOn entries.old.text (C.left cert.old) entries.new.text (C.left cert.new)) }
     ensures grows { Grows entries.old entries.new }
     ensures later { C.faults cert.old ≤ C.faults cert.new }

@@ -23,9 +23,6 @@ use ffc_script::{ScriptReader, ScriptStop};
 use ffc_term::Check;
 use std::alloc::{AllocError, Global};
 
-/// From this line on entries are not judged: so many lines fit no memory.
-const MOST_LINES: u64 = 1 << 63;
-
 /// What an entry is judged beside.
 #[derive(Clone, Copy)]
 struct Beside<'a> {
@@ -71,13 +68,11 @@ impl Tally {
 fn judge_entry(alloc: Global, beside: &Beside, entry: &Numbered) -> Result<Option<Refusal>, Stop>
     requires valid { IsValid (node_check beside.now.check) }
     requires readable { IsReadableEntry entry.now.entry }
+    requires line { entry.now.first_line < 2 ^ 63 }
     ensures none { IfOk result (λ found. IfNone found (entry_fault (node_check beside.now.check) entry.now.entry entry.now.first_line ≡ None)) }
     ensures some { IfOk result (λ found. IfSome found (IsBrokenBy (node_check beside.now.check) entry.now)) }
     ensures memory { IfErr result (λ stop. stop ≡ Stop.Memory) }
 {
-    if entry.first_line >= MOST_LINES {
-        return Err(Stop::Memory);
-    }
     match check_entry(alloc, &beside.check, &entry.entry, entry.first_line) {
         Ok(()) => Ok(None),
         Err(CheckStop::Broken(broken)) => Ok(Some(Refusal {
@@ -98,6 +93,7 @@ fn take_entry(
 ) -> Result<Option<Refusal>, Stop>
     requires valid { IsValid (node_check beside.now.check) }
     requires readable { IsReadableEntry entry.now.entry }
+    requires line { entry.now.first_line < 2 ^ 63 }
     requires few { tally.old.sat + tally.old.unsat + tally.old.unknown < 2 ^ 32 }
     ensures none { IfOk result (λ found. IfNone found (TakesUp beside.now entry.now tally.old tally.new)) }
     ensures some { IfOk result (λ found. IfSome found (IsBrokenBy (node_check beside.now.check) entry.now)) }
