@@ -130,8 +130,16 @@ fn completes<O: MonoOrder>(
 
 /// The three cyclic sums of three variables.
 const CYCLIC: [&[Row]; 3] = [
-    &[(1, [1, 0, 0, 0, 0]), (1, [0, 1, 0, 0, 0]), (1, [0, 0, 1, 0, 0])],
-    &[(1, [1, 1, 0, 0, 0]), (1, [0, 1, 1, 0, 0]), (1, [1, 0, 1, 0, 0])],
+    &[
+        (1, [1, 0, 0, 0, 0]),
+        (1, [0, 1, 0, 0, 0]),
+        (1, [0, 0, 1, 0, 0]),
+    ],
+    &[
+        (1, [1, 1, 0, 0, 0]),
+        (1, [0, 1, 1, 0, 0]),
+        (1, [1, 0, 1, 0, 0]),
+    ],
     &[(1, [1, 1, 1, 0, 0]), (MINUS, [0, 0, 0, 0, 0])],
 ];
 
@@ -271,7 +279,12 @@ fn closed(rt: HostRuntime) -> Result<(), Fail> {
         [0, 0, 0, 4, 0],
     ];
     assert!(rt; completes::<GradedReverseLex>(alloc, &KATSURA, &katsura)?);
-    let triangle = [[1, 0, 0, 0, 0], [0, 1, 0, 0, 0], [0, 0, 1, 0, 0], [0, 0, 0, 8, 0]];
+    let triangle = [
+        [1, 0, 0, 0, 0],
+        [0, 1, 0, 0, 0],
+        [0, 0, 1, 0, 0],
+        [0, 0, 0, 8, 0],
+    ];
     assert!(rt; completes::<Lex>(alloc, &KATSURA, &triangle)?);
     Ok(())
 }

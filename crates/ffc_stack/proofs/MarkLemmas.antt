@@ -103,7 +103,7 @@ parts_before p gs n [] i v = tt
 parts_before p gs n (l ∷ ls) zero v = subst (λ m. AreBefore m l.parts.items) (omega arith) v.0.0
 parts_before p gs n (l ∷ ls) (suc i) v = subst (λ m. AreBefore m (parts_at ls i)) (omega arith) (parts_before p gs (suc n) ls i v.1)
 
-names_below : {F O : Type 0} (p : ℕ) (ls : List (Line F O)) (i k : ℕ) → AreLines p ls → Names (parts_at ls i) k → k < i
+pub names_below : {F O : Type 0} (p : ℕ) (ls : List (Line F O)) (i k : ℕ) → AreLines p ls → Names (parts_at ls i) k → k < i
 names_below p ls i k v found = omega (arith, named_before (0 + i) (parts_at ls i) k (parts_before p (polys_of ls) 0 ls i v) found)
 
 -- paths

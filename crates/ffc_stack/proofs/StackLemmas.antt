@@ -1,14 +1,17 @@
 -- Levels that begin, go on and end.
-use Rattle.std.proofs.Common.{◌≡◌, ◌≢◌, ℕ, ◌≤◌, List, [], ◌∷◌, ◌++◌, length, take, drop, refl, sym, ap, ap₂, ◌∙◌, subst, arith, append-nil, append_assoc, length-append}
+use Rattle.std.proofs.Common.{◌≡◌, ◌≢◌, ℕ, zero, suc, ◌+◌, ◌<◌, ◌≤◌, List, [], ◌∷◌, ◌++◌, length, take, drop, get_or, refl, sym, ap, ap₂, ◌∙◌, subst, arith, append-nil, append_assoc, length-append}
 use Rattle.std.proofs.Math.Seq.{take-append_seam, drop-append_seam}
 use Rattle.std.proofs.lemmas.List.{take-append-le, drop-append-le, take-append-drop, take-take, length-take-le, same_from_push}
+use Rattle.std.specs.List.{Contains}
 use Rattle.std.specs.declared.cmp.Ordering.{Ordering}
 use Rattle.ffc_ring.specs.Monomial.{Monomial}
 use Rattle.ffc_ring.specs.Polynomial.{Terms}
 use Rattle.ffc_basis.specs.declared.line.Line.{Line}
 use Rattle.ffc_basis.specs.Completed.{AreAdded, IsFront}
-use Rattle.ffc_basis.specs.Lines.{Parts, polys_of, AreGenerators, IsAddedTo}
-use Rattle.ffc_stack.specs.Stacks.{Stack, stack_of, own, generators, HaveParts, AreMarks, HaveNoneBelow, levels_from, joined, IsBegun, IsPushed, GoesOn, IsPopped}
+use Rattle.ffc_basis.specs.Lines.{Parts, polys_of, AreLines, AreGenerators, IsAddedTo}
+use Rattle.ffc_stack.specs.Stacks.{Stack, stack_of, own, generators, HaveParts, AreMarks, HaveNoneBelow, levels_from, joined, LeadToLive, IsBegun, IsPushed, IsCompletedWith, GoesOn, IsPopped}
+use Rattle.ffc_stack.specs.Generators.{IsPath, IsGenerator, LeadsTo}
+use Rattle.ffc_stack.proofs.MarkLemmas.{names_below}
 
 -- generators among lines
 
@@ -135,6 +138,37 @@ front_goes_on p cmp old new ms (more, is, v) = (more, is, parts-added p cmp (pol
 pub front_pushed : {F O : Type 0} (p : ℕ) (cmp : Monomial → Monomial → Ordering) (old : Stack F O) (mid new : List (Line F O)) (ms : List ℕ) (gs : List Terms) → IsBegun old (stack_of mid ms) gs → IsFront p cmp mid new → IsPushed old (stack_of new ms) gs
 front_pushed p cmp old mid new ms gs (own, is, v, marks) (more, js, w) =
     (own, more, js ∙ ap (λ ls. ls ++ more) is, v, parts-added p cmp (polys_of mid) more w, marks)
+
+pub front_completed : {F O : Type 0} (p : ℕ) (cmp : Monomial → Monomial → Ordering) (old : Stack F O) (mid new : List (Line F O)) (ms : List ℕ) (gs : List Terms) → IsBegun old (stack_of mid ms) gs → IsFront p cmp mid new → IsCompletedWith p cmp old (stack_of new ms) gs
+front_completed p cmp old mid new ms gs (own, is, v, marks) (more, js, w) =
+    (own, more, js ∙ ap (λ ls. ls ++ more) is, v, subst (λ ls. AreAdded p cmp (polys_of ls) more) is w)
+
+-- what the parts of a line lead to
+
+leads_within : {F O : Type 0} (p : ℕ) (ls : List (Line F O)) (ks : List ℕ) (i j : ℕ) → AreLines p ls → i < length ls → IsPath ls i ks j → j < length ls
+leads_within p ls [] i j v h path = subst (λ k. k < length ls) path h
+leads_within p ls (k ∷ ks) i j v h path =
+    let low : k < i = names_below p ls i k v path.0 in
+    leads_within p ls ks k j v (omega arith) path.1
+
+in_own : (ps : Parts) (ts : Terms) (rest : List Terms) → ps ≡ [] → Contains (own ps ts ++ rest) ts
+in_own [] ts rest none = (0, omega arith, refl)
+in_own (p ∷ ps) ts rest some = absurd (cc some)
+
+in_behind : (xs rest : List Terms) (ts : Terms) → Contains rest ts → Contains (xs ++ rest) ts
+in_behind [] rest ts found = found
+in_behind (x ∷ xs) rest ts found = let there = in_behind xs rest ts found in (suc there.0, omega (arith, there.1), there.2)
+
+generator_is_among : {F O : Type 0} (ls : List (Line F O)) (j : ℕ) → IsGenerator ls j → Contains (generators ls) (get_or (polys_of ls) j [])
+generator_is_among [] j v = absurd (omega (arith, v.0))
+generator_is_among (l ∷ ls) zero v = in_own l.parts.items l.poly (generators ls) v.1
+generator_is_among (l ∷ ls) (suc j) v = in_behind (own l.parts.items l.poly) (generators ls) (get_or (polys_of ls) j []) (generator_is_among ls j (omega (arith, v.0), v.1))
+
+pub lead_to_live : {F O : Type 0} (p : ℕ) (ls : List (Line F O)) (ms : List ℕ) → AreLines p ls → generators ls ≡ joined (levels_from ls ms) → LeadToLive (stack_of ls ms)
+lead_to_live p ls ms v all i j h (ks, path) = (
+  leads_within p ls ks i j v h path,
+  λ is. subst (λ gs. Contains gs (get_or (polys_of ls) j [])) all (generator_is_among ls j is),
+)
 
 -- the newest level ends
 

@@ -1,8 +1,13 @@
 -- Levels of a basis. Each level has generators, and lines that were added to complete the basis with them.
-use Rattle.std.specs.Prelude.{◌≡◌, ◌≢◌, ℕ, ◌≤◌, List, [], ◌∷◌, ◌++◌, length, take, drop}
+use Rattle.std.specs.Prelude.{◌≡◌, ◌≢◌, ℕ, ◌<◌, ◌≤◌, List, [], ◌∷◌, ◌++◌, length, take, drop, get_or}
+use Rattle.std.specs.List.{Contains}
+use Rattle.std.specs.declared.cmp.Ordering.{Ordering}
+use Rattle.ffc_ring.specs.Monomial.{Monomial}
 use Rattle.ffc_ring.specs.Polynomial.{Terms}
 use Rattle.ffc_basis.specs.declared.line.Line.{Line}
-use Rattle.ffc_basis.specs.Lines.{Parts, AreGenerators}
+use Rattle.ffc_basis.specs.Completed.{AreAdded}
+use Rattle.ffc_basis.specs.Lines.{Parts, polys_of, AreGenerators}
+use Rattle.ffc_stack.specs.Generators.{IsGenerator, LeadsTo}
 
 -- the lines, and for each level how many lines there were when it began
 pub record Stack (F O : Type 0) : Type 0 where
@@ -53,6 +58,12 @@ abbrev pub joined : List (List Terms) → List Terms
 joined [] = []
 joined (gs ∷ rest) = gs ++ joined rest
 
+-- What the parts of a line lead to is a line, and where that is a generator, it is one of a live level.
+abbrev pub LeadToLive : {F O : Type 0} → Stack F O → Type 0
+LeadToLive s =
+    (i j : ℕ) → i < length s.lines → LeadsTo s.lines i j
+    → (j < length s.lines) × (IsGenerator s.lines j → Contains (joined (levels s)) (get_or (polys_of s.lines) j []))
+
 -- these generators are appended as lines without parts, and a level begins with them
 abbrev pub IsBegun : {F O : Type 0} → Stack F O → Stack F O → List Terms → Type 0
 IsBegun {F} {O} old new gens =
@@ -63,6 +74,13 @@ abbrev pub IsPushed : {F O : Type 0} → Stack F O → Stack F O → List Terms 
 IsPushed {F} {O} old new gens =
     (own : List (Line F O)) × (more : List (Line F O)) × (new.lines ≡ (old.lines ++ own) ++ more) × AreGenerators own gens × HaveParts more
     × (new.marks ≡ old.marks ++ length old.lines ∷ [])
+
+-- These generators are appended, and after them lines that complete them: no leading monomial of an added line is divisible by
+-- that of an earlier line.
+abbrev pub IsCompletedWith : {F O : Type 0} → ℕ → (Monomial → Monomial → Ordering) → Stack F O → Stack F O → List Terms → Type 0
+IsCompletedWith {F} {O} p cmp old new gens =
+    (own : List (Line F O)) × (more : List (Line F O)) × (new.lines ≡ (old.lines ++ own) ++ more) × AreGenerators own gens
+    × AreAdded p cmp (polys_of (old.lines ++ own)) more
 
 -- lines with parts are appended, and the levels stay
 abbrev pub GoesOn : {F O : Type 0} → Stack F O → Stack F O → Type 0

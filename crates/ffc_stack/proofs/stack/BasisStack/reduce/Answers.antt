@@ -2,6 +2,7 @@ use Rattle.std.proofs.Common.{◌≡◌, [], subst, IfOk, IfSome, IfNone}
 use Rattle.ffc_basis.specs.Completion.{ReducesToZero}
 use Rattle.ffc_basis.specs.Lines.{polys_of}
 use Rattle.ffc_basis.specs.Reduction.{ArePartsAtMost, IsReduced, IsStopped}
+use Rattle.ffc_basis.specs.Units.{IsReductionBound}
 use Rattle.ffc_stack.specs.Stacks.{Stack}
 use Rattle.ffc_stack.proofs.stack.BasisStack.reduce.Goals as goal
 
@@ -20,3 +21,7 @@ returns-clause-reduced g c =
 pub returns-clause-over : goal.returns-clause-over
 returns-clause-over g c =
     subst (λ (s : Stack g.row.F.Denot g.row.O.Denot). IfOk c.reduce.result (λ r. IfSome r.over (λ t. IsStopped g.F.Field.ORDER g.O.MonoOrder.cmp (polys_of s.lines) r.rest r.parts.items t.0 t.1))) c.self.view_is c.reduce.ensures.over
+
+pub returns-clause-bound : goal.returns-clause-bound
+returns-clause-bound g c =
+    subst (λ (s : Stack g.row.F.Denot g.row.O.Denot). IsReductionBound g.F.Field.ORDER g.O.MonoOrder.cmp (polys_of s.lines) c.args.poly.now c.args.meter.now c.reduce.new.meter) c.self.view_is c.reduce.ensures.bound
