@@ -184,7 +184,8 @@ fn judge(
         )? {
             Verdict::Fine => {}
             Verdict::Undecided(equalities, unfinished) => {
-                undecided = Some((equalities, unfinished));
+                let earlier = matches!(undecided, Some((_, true)));
+                undecided = Some((equalities, unfinished || earlier));
             }
             Verdict::Refuted(lemma) => return Ok(Judgement::Refuted(lemma)),
         }
