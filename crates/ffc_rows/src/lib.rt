@@ -12,6 +12,10 @@ mod deep;
 #[cfg(test)]
 mod failing;
 #[cfg(test)]
+mod faults;
+#[cfg(test)]
+mod long;
+#[cfg(test)]
 mod pieces;
 #[cfg(test)]
 mod runs;
