@@ -1,14 +1,16 @@
 //! Shows what parts of Yundavel cost: `time` around a run shows that its time grows with the input and not faster.
 //!
 //! `bench lex KIB PIECE` reads a generated script, `bench cert KIB PIECE` a generated certificate, each of so many KiB
-//! in pieces of so many bytes. `bench term COUNT` makes, measures and evaluates a chain of so many nodes. `bench poly CASE TERMS TIMES`
-//! computes with polynomials of so many terms so many times. `bench roots CASE DEGREE` finds all roots of a polynomial of
-//! this degree. `bench check CASE SIZE COUNT` judges a generated entry. Without arguments each runs on a small input.
+//! in pieces of so many bytes; `bench elab KIB PIECE` also takes the forms of such a script. `bench term COUNT` makes,
+//! measures and evaluates a chain of so many nodes. `bench poly CASE TERMS TIMES` computes with polynomials of so many
+//! terms so many times. `bench roots CASE DEGREE` finds all roots of a polynomial of this degree. `bench check CASE SIZE
+//! COUNT` judges a generated entry. Without arguments each runs on a small input.
 #![tactic(auto)]
 
 mod certificates;
 mod chains;
 mod checks;
+mod elaboration;
 mod entries;
 mod polynomials;
 mod refutations;
@@ -58,6 +60,7 @@ fn run<R: Print>(
     let pieces = pieces_of(first.unwrap_or(KIB), second.unwrap_or(PIECE));
     match name {
         "lex" => scripts::run(rt, alloc, pieces),
+        "elab" => elaboration::run(rt, alloc, pieces),
         "cert" => certificates::run(rt, alloc, pieces),
         "term" => chains::run(rt, alloc, first.unwrap_or(NODES)),
         "poly" => polynomials::run(
@@ -76,7 +79,7 @@ fn run<R: Print>(
             third.unwrap_or(1),
         ),
         _ => println!(rt;
-            "bench lex KIB PIECE | cert KIB PIECE | term COUNT | poly CASE TERMS TIMES | roots CASE DEGREE | check CASE SIZE COUNT"
+            "bench lex KIB PIECE | elab KIB PIECE | cert KIB PIECE | term COUNT | poly CASE TERMS TIMES | roots CASE DEGREE | check CASE SIZE COUNT"
         ),
     }
 }
@@ -85,7 +88,7 @@ fn main(rt: HostRuntime) -> io::Result<()> {
     let mut arguments = env::args(&rt)?;
     let _program = arguments.next();
     let Some(name) = arguments.next() else {
-        for name in ["lex", "cert", "term", "poly", "roots", "check"] {
+        for name in ["lex", "elab", "cert", "term", "poly", "roots", "check"] {
             run(&rt, rt.alloc(), name, None, None, None)?;
         }
         return Ok(());

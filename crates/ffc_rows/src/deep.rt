@@ -7,7 +7,7 @@ use std::alloc::{AllocError, Global};
 use std::test::Fail;
 
 /// Appends a text so often.
-fn push_times(out: &mut String, text: &str, count: usize) -> Result<(), AllocError> {
+pub(crate) fn push_times(out: &mut String, text: &str, count: usize) -> Result<(), AllocError> {
     for _ in 0..count {
         out.push_str(text)?;
     }
@@ -20,6 +20,17 @@ fn negations(alloc: Global, count: usize) -> Result<String, AllocError> {
     out.push_str("(set-logic QF_FF)(declare-const b Bool)(assert ")?;
     push_times(&mut out, "(not ", count)?;
     out.push_str("b")?;
+    push_times(&mut out, ")", count)?;
+    out.push_str(")(check-sat)")?;
+    Ok(out)
+}
+
+/// That a Boolean constant is true, inside of so many `let`.
+fn lets(alloc: Global, count: usize) -> Result<String, AllocError> {
+    let mut out = String::new(alloc);
+    out.push_str("(set-logic QF_FF)(declare-const a Bool)(assert ")?;
+    push_times(&mut out, "(let ((a a)) ", count)?;
+    out.push_str("a")?;
     push_times(&mut out, ")", count)?;
     out.push_str(")(check-sat)")?;
     Ok(out)
@@ -94,6 +105,41 @@ fn deep_terms(rt: HostRuntime) -> Result<(), Fail> {
             b"ffcert 2\n"
         )?
     );
+    Ok(())
+}
+
+/// The certificate of a script whose one constant is true.
+const TRUE: &[u8] = b"ffcert 2\nsat 1\n= 0 1\n";
+
+#[test]
+fn deep_lets(rt: HostRuntime) -> Result<(), Fail> {
+    let alloc = rt.alloc();
+    // One parenthesis is around them, and two are open in the innermost one.
+    let deepest = lets(alloc, 65_533)?;
+    assert!(rt;
+        is_judged(
+            alloc,
+            CHECK,
+            deepest.as_bytes(),
+            TRUE,
+            CheckStatus::Accepted,
+            "accepted 1 0 0\n"
+        )?
+    );
+    assert!(rt; is_solved(alloc, deepest, SolveStatus::Done, "sat\n", TRUE)?);
+    // In the 65,534th the pair has one parenthesis too many, whatever follows.
+    for count in [65_534, 65_535] {
+        let too_deep = lets(alloc, count)?;
+        assert!(rt;
+            is_solved(
+                alloc,
+                too_deep,
+                SolveStatus::Refused,
+                "(error \"1:851983 14\")\n",
+                b"ffcert 2\n"
+            )?
+        );
+    }
     Ok(())
 }
 

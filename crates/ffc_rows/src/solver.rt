@@ -91,7 +91,7 @@ const FIRST: [Answered; 9] = [
     ),
 ];
 
-const SCOPES: [Answered; 8] = [
+const SCOPES: [Answered; 9] = [
     // Bound one after the other, the two would be equal.
     (
         SolveStatus::Done,
@@ -124,6 +124,25 @@ const SCOPES: [Answered; 8] = [
 ",
         "sat\n(((f (f x)) (as ff13 (_ FiniteField 17))) ((h x) (as ff8 (_ FiniteField 17))))\n",
         Some("ffcert 2\nsat 2\n= 0 3\n= 1 5\n"),
+        "accepted 1 0 0\n",
+    ),
+    // Macros that call macros with the same names of parameters: f(a, b) = a + 2b, g(b, a) = 3b + 2a, h(a, b) = 10a + 11b.
+    (
+        SolveStatus::Done,
+        "(set-logic QF_FF)
+(define-sort F () (_ FiniteField 17))
+(declare-const b F)
+(declare-const a F)
+(define-fun f ((a F) (b F)) F (ff.add a b b))
+(define-fun g ((b F) (a F)) F (f (f b a) b))
+(define-fun h ((a F) (b F)) F (g (g b a) (let ((a b) (b a)) (f a b))))
+(assert (= a (as ff1 F)))
+(assert (= b (as ff2 F)))
+(check-sat)
+(get-value ((f a b) (g a b) (h a b)))
+",
+        "sat\n(((f a b) (as ff5 (_ FiniteField 17))) ((g a b) (as ff7 (_ FiniteField 17))) ((h a b) (as ff15 (_ FiniteField 17))))\n",
+        Some("ffcert 2\nsat 2\n= 0 2\n= 1 1\n"),
         "accepted 1 0 0\n",
     ),
     // A level takes its assertions and its declarations with it.
