@@ -1,1 +1,2 @@
 pub mod BooleanNodes
+mod ReadEntries

@@ -8,6 +8,7 @@ pub mod ReadLemmas
 pub mod TakenLemmas
 pub mod RunLemmas
 pub mod EndingLemmas
+mod PausedLemmas
 pub mod ArgumentLemmas
 pub mod MadeLemmas
 pub mod GeneratedLemmas

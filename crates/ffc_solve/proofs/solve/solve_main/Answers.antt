@@ -1,6 +1,8 @@
 use Rattle.std.proofs.Common.{rules, map, None, Some}
+use Rattle.ffc_solve.specs.Solving.{IsPaused, IsTaken}
 use Rattle.ffc_solve.proofs.ArgumentLemmas.{none_given, not_planned}
 use Rattle.ffc_solve.proofs.EndingLemmas.{ends_as, ends_memory, planned}
+use Rattle.ffc_solve.proofs.PausedLemmas.{paused_under}
 use Rattle.ffc_solve.proofs.solve.solve_main.Goals as goal
 
 pub returns-in-Err-Usage-clause-usage : goal.returns-in-Err-Usage-clause-usage
@@ -42,3 +44,9 @@ pub returns-clause-ends : goal.returns-clause-ends
 returns-clause-ends g c = λ accepted read write cert bytes script.
     ends_as (map (λ w. w.now) c.args.words.now) c.in-Ok.plan (Some c.in-Some.size) c.answer_generated.result _ (g.S.Source.left c.args.script.now) bytes c.in-Ok.ensures.plan (search rules) c.status_of-in-Some.ensures script c.answer_generated.ensures.refused
     c.answer_generated.ensures.only (λ is. write (c.answer_generated.ensures.cause_out is)) (λ is. cert (c.answer_generated.ensures.cause_cert is))
+
+pub returns-in-None-clause-paused : goal.returns-in-None-clause-paused
+returns-in-None-clause-paused g c =
+    paused_under (map (λ w. w.now) c.args.words.now) c.in-Ok.plan c.answer_script.result c.status_of.result (g.S.Source.left c.args.script.now)
+    (λ text b. IsTaken text b (g.S.Source.left c.answer_script.new.script)) (λ steps text. IsPaused steps text (g.C.Sink.holds c.args.cert.now) (g.C.Sink.holds c.answer_script.new.cert) (g.O.Sink.holds c.args.out.now) (g.O.Sink.holds c.answer_script.new.out))
+    c.in-Ok.ensures.plan c.status_of.ensures c.answer_script.ensures.paused
