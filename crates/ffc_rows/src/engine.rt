@@ -236,11 +236,11 @@ fn degrees_have_a_limit(rt: HostRuntime) -> Result<(), Fail> {
     let alloc = rt.alloc();
     let above = power_script(alloc, 256)?;
     let out = answers(alloc, "1000000", above.as_str())?;
-    assert!(rt; out.bytes() == b"unknown\n(:reason-unknown degree)\n");
+    assert!(rt; out.bytes() == "unknown\n(:reason-unknown degree)\n".as_bytes());
     let at = power_script(alloc, 255)?;
     let out = answers(alloc, "1000", at.as_str())?;
-    assert!(rt; out.bytes() != b"unknown\n(:reason-unknown degree)\n");
-    assert!(rt; out.bytes() != b"unknown\n(:reason-unknown terms)\n");
+    assert!(rt; out.bytes() != "unknown\n(:reason-unknown degree)\n".as_bytes());
+    assert!(rt; out.bytes() != "unknown\n(:reason-unknown terms)\n".as_bytes());
     Ok(())
 }
 
@@ -251,7 +251,7 @@ fn one_step_is_spent(rt: HostRuntime) -> Result<(), Fail> {
     let mut script = String::from_str(alloc, SEVEN)?;
     script.push_str("(get-info :reason-unknown)\n")?;
     let out = answers(alloc, "1", script.as_str())?;
-    assert!(rt; out.bytes() == b"unknown\n(:reason-unknown (steps 1))\n");
+    assert!(rt; out.bytes() == "unknown\n(:reason-unknown (steps 1))\n".as_bytes());
     Ok(())
 }
 
@@ -265,7 +265,7 @@ fn generated_scripts_are_decided(rt: HostRuntime) -> Result<(), Fail> {
     let mut cert = SureSink::new(Vec::new(alloc));
     let status = solve_main(alloc, &arguments, &mut source, &mut out, &mut cert);
     assert!(rt; status == SolveStatus::Done);
-    assert!(rt; out.bytes() == b"sat\nunsat\nsat\nmade 8 sat 2 unsat 1 unknown 0\n");
+    assert!(rt; out.bytes() == "sat\nunsat\nsat\nmade 8 sat 2 unsat 1 unknown 0\n".as_bytes());
     let script = make_script(alloc, 8)?;
     let is_accepted = is_judged(
         alloc,
