@@ -16,7 +16,7 @@ use Rattle.ffc_lex.specs.declared.faults.LexStop.{LexStop}
 use Rattle.ffc_lex.specs.declared.faults.LexStop.TheVariants.{Fault, Memory}
 use Rattle.ffc_lex.specs.declared.modes.Mode.{Mode}
 use Rattle.ffc_lex.specs.declared.modes.Mode.TheVariants as modes
-use Rattle.ffc_lex.specs.declared.TheConstants.{MAX_BYTES, MAX_DEPTH}
+use Rattle.ffc_lex.specs.Limits.{max_bytes, max_depth}
 use Rattle.ffc_lex.specs.Bytes.{byte_class}
 use Rattle.ffc_lex.specs.Lexeme.{Lexeme, Skip, Token, Bad, Unended, lexeme_at}
 use Rattle.ffc_lex.specs.Reading.{Open, Between, Within, Stopped, Halt, Move, Give, past, fault_at, token_at, halted, unended, after_kind, next_at, read, reading_of, forms_of, fault_of, end_fault_of, within_fault, stop_fault}
@@ -31,7 +31,7 @@ use Rattle.ffc_lex.proofs.StepLemmas.{through, halts, skips, bad_fault}
 -- a byte between two tokens, which nothing stands before
 pub record IsFirst (n : ℕ) (text : List ℕ) (c : ℕ) (s : Scan) : Type 0 where
   pub facing : IsFacing n text c s
-  pub limit : s.at.index < MAX_BYTES
+  pub limit : s.at.index < max_bytes
   pub mode : s.mode ≡ modes.Between
 
 none_scanned : (n : ℕ) (text : List ℕ) (c : ℕ) (s : Scan) → IsFirst n text c s → scanned text s ≡ []
@@ -72,13 +72,13 @@ paren_next : (n : ℕ) (text : List ℕ) (c : ℕ) (s : Scan) (kind : TokenKind)
     → next_at (scanned text s ++ c ∷ cs) s.start (open_of s) ≡ after_kind kind 1 s.start (open_of s)
 paren_next n text c s kind cs f at =
     let i : s.at.index ≡ s.start.index = ap (λ p. p.index) (same_place n text c s f) in
-    let l : s.at.index < MAX_BYTES = f.limit in
+    let l : s.at.index < max_bytes = f.limit in
     next_token (scanned text s ++ c ∷ cs) s.start (open_of s) kind 1 (first_lexeme n text c s cs (Token kind 1) f (at cs)) (omega arith)
 
 one_byte : (n : ℕ) (text : List ℕ) (c : ℕ) (s : Scan) → IsFirst n text c s → 1 ≡ s.at.index - s.start.index + 1
 one_byte n text c s f = let i : s.at.index ≡ s.start.index = ap (λ p. p.index) (same_place n text c s f) in omega arith
 
-pub left_fault : (n : ℕ) (text : List ℕ) (c : ℕ) (s : Scan) → IsFirst n text c s → byte_class c ≡ classes.LeftParen → eqb s.depth MAX_DEPTH ≡ true → IsStopped n text (fault_at 14 s.at)
+pub left_fault : (n : ℕ) (text : List ℕ) (c : ℕ) (s : Scan) → IsFirst n text c s → byte_class c ≡ classes.LeftParen → eqb s.depth max_depth ≡ true → IsStopped n text (fault_at 14 s.at)
 left_fault n text c s f e full =
     halts n text c s (fault_at 14 s.at) f.facing (λ cs.
     paren_next n text c s kinds.LeftParen cs f (λ ds. left_at s.depth c ds e)
@@ -87,7 +87,7 @@ left_fault n text c s f e full =
 abbrev pub opened_at : ℕ → Place → Scan → Open
 opened_at k place s = record { depth = s.depth + 1; first = cond (eqb s.depth 0) place s.first; tokens = s.tokens ++ token_at kinds.LeftParen k s.start ∷ [] }
 
-pub left_opens : (n : ℕ) (text : List ℕ) (c : ℕ) (s : Scan) → IsFirst n text c s → byte_class c ≡ classes.LeftParen → eqb s.depth MAX_DEPTH ≡ false
+pub left_opens : (n : ℕ) (text : List ℕ) (c : ℕ) (s : Scan) → IsFirst n text c s → byte_class c ≡ classes.LeftParen → eqb s.depth max_depth ≡ false
     → IsReady n text (arrived s.kept (past c s.at) (opened_at (s.at.index - s.start.index + 1) s.at s))
 left_opens n text c s f e room =
     through n text c s (opened_at (s.at.index - s.start.index + 1) s.at s) f.facing f.limit (λ cs.
@@ -130,7 +130,7 @@ right_ends n text c s f e some one =
 
 -- the end of the text
 
-read_unended : (bytes : List ℕ) (place : Place) (o : Open) (whole : Bool) → lexeme_at o.depth bytes ≡ Unended whole → place.index + length bytes ≤ MAX_BYTES
+read_unended : (bytes : List ℕ) (place : Place) (o : Open) (whole : Bool) → lexeme_at o.depth bytes ≡ Unended whole → place.index + length bytes ≤ max_bytes
     → read bytes 0 place o ≡ halted (unended whole place o)
 read_unended [] place o whole e h =
     let w : Unended true ≡ Unended whole = sym (nothing o.depth) ∙ e in
@@ -142,7 +142,7 @@ pub at_end : (n : ℕ) (text : List ℕ) (s : Scan) → IsReady n text s → s.a
     → without n (reading_of text) ≡ halted (unended (is_some (kind_in s.mode (scanned text s))) s.start (open_of s))
 at_end n text s r end =
     let le : s.start.index ≤ s.at.index = r.order in
-    let limit : s.at.index ≤ MAX_BYTES = r.limit in
+    let limit : s.at.index ≤ max_bytes = r.limit in
     let len : length (ahead text s) ≡ s.at.index - s.start.index = length-drop s.start.index text ∙ ap (λ k. k - s.start.index) (sym end) in
     let all : scanned text s ≡ ahead text s = ap (λ k. take k (ahead text s)) (sym len) ∙ take-length (ahead text s) in
     let lexeme : lexeme_at s.depth (ahead text s) ≡ Unended (is_some (kind_in s.mode (scanned text s))) =

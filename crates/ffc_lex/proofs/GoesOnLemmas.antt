@@ -14,7 +14,7 @@ use Rattle.ffc_lex.specs.declared.tokens.TokenKind.TheVariants as kinds
 use Rattle.ffc_lex.specs.declared.tokens.Place.{Place}
 use Rattle.ffc_lex.specs.declared.tokens.Token.{Token as TokenRecord}
 use Rattle.ffc_lex.specs.declared.faults.LexFault.{LexFault}
-use Rattle.ffc_lex.specs.declared.TheConstants.{MAX_BYTES}
+use Rattle.ffc_lex.specs.Limits.{max_bytes}
 use Rattle.ffc_lex.specs.Bytes.{byte_class, is_word_byte, is_line_end, is_text_byte, is_quoted_byte}
 use Rattle.ffc_lex.specs.Words.{word_kind, keyword_kind, hash_kind}
 use Rattle.ffc_lex.specs.Lexeme.{Lexeme, Skip, Token, Bad, Unended, judged, word_at, comment_at, quoted_at, string_at, inside_at, outside_at, lexeme_at, size_of}
@@ -176,11 +176,11 @@ unended_size : (bytes : List ℕ) (whole : Bool) → size_of bytes (Unended whol
 unfolding size_of
 unended_size bytes whole = refl
 
-past_limit : (bytes more : List ℕ) (place : Place) (o : Open) → MAX_BYTES < place.index + size_of bytes (lexeme_at o.depth bytes) → MAX_BYTES < place.index + size_of (bytes ++ more) (lexeme_at o.depth (bytes ++ more))
-    → MAX_BYTES - place.index ≤ length bytes → next_at (bytes ++ more) place o ≡ next_at bytes place o
+past_limit : (bytes more : List ℕ) (place : Place) (o : Open) → max_bytes < place.index + size_of bytes (lexeme_at o.depth bytes) → max_bytes < place.index + size_of (bytes ++ more) (lexeme_at o.depth (bytes ++ more))
+    → max_bytes - place.index ≤ length bytes → next_at (bytes ++ more) place o ≡ next_at bytes place o
 past_limit bytes more place o now later h =
     next_past (bytes ++ more) place o later
-    ∙ (ap (λ xs. Halt (Stopped (fault_at 17 (place_after xs place)))) (take-append-le (MAX_BYTES - place.index) bytes more h) ∙ sym (next_past bytes place o now))
+    ∙ (ap (λ xs. Halt (Stopped (fault_at 17 (place_after xs place)))) (take-append-le (max_bytes - place.index) bytes more h) ∙ sym (next_past bytes place o now))
 
 next_goes : (bytes more : List ℕ) (place : Place) (o : Open) → Goes bytes more (lexeme_at o.depth bytes) (lexeme_at o.depth (bytes ++ more))
     → (next_at (bytes ++ more) place o ≡ next_at bytes place o) ⊎ ((whole : Bool) × (next_at bytes place o ≡ Halt (unended whole place o)))
@@ -190,22 +190,22 @@ next_goes bytes more place o (inl kept) =
     let count : size_of bytes now ≤ length bytes = decided_size (length bytes) bytes now kept.1 in
     let later : size_of (bytes ++ more) (lexeme_at o.depth (bytes ++ more)) ≡ size_of bytes now =
     ap (λ l. size_of (bytes ++ more) l) kept.0 ∙ same_size (length bytes) (bytes ++ more) bytes now kept.1 in
-    elim (either (ltb MAX_BYTES (place.index + size_of bytes now))) [
+    elim (either (ltb max_bytes (place.index + size_of bytes now))) [
       | inl t ↦
-          let past : MAX_BYTES < place.index + size_of bytes now = ltb-true MAX_BYTES (place.index + size_of bytes now) t in
+          let past : max_bytes < place.index + size_of bytes now = ltb-true max_bytes (place.index + size_of bytes now) t in
           inl (past_limit bytes more place o past (omega (arith, past, later)) (omega (arith, past, count)))
       | inr t ↦
-          let within : place.index + size_of bytes now ≤ MAX_BYTES = ltb-false MAX_BYTES (place.index + size_of bytes now) t in
+          let within : place.index + size_of bytes now ≤ max_bytes = ltb-false max_bytes (place.index + size_of bytes now) t in
           inl (next_within (bytes ++ more) place o now kept.0 (omega (arith, within, same_size (length bytes) (bytes ++ more) bytes now kept.1))
           ∙ (same_after bytes more now place o kept.1 ∙ sym (next_within bytes place o now refl within)))
     ]
 next_goes bytes more place o (inr left) =
     let size : size_of bytes (lexeme_at o.depth bytes) ≡ length bytes = ap (λ l. size_of bytes l) left.1 ∙ unended_size bytes left.0 in
-    elim (either (ltb MAX_BYTES (place.index + length bytes))) [
+    elim (either (ltb max_bytes (place.index + length bytes))) [
       | inl t ↦
-          let past : MAX_BYTES < place.index + length bytes = ltb-true MAX_BYTES (place.index + length bytes) t in
+          let past : max_bytes < place.index + length bytes = ltb-true max_bytes (place.index + length bytes) t in
           inl (past_limit bytes more place o (omega (arith, past, size)) (omega (arith, past, left.2)) (omega (arith, past)))
-      | inr t ↦ inr (left.0, next_unended bytes place o left.0 left.1 (ltb-false MAX_BYTES (place.index + length bytes) t))
+      | inr t ↦ inr (left.0, next_unended bytes place o left.0 left.1 (ltb-false max_bytes (place.index + length bytes) t))
     ]
 
 nil_right : {A : Type 0} (xs : List A) → xs ++ [] ≡ xs

@@ -7,7 +7,7 @@ use Rattle.std.proofs.lemmas.List.{append-nil, drop-append-le, take-append-le, l
 use Rattle.std.proofs.lemmas.List.Elements.{All-nil, All-same}
 use Rattle.ffc_lex.specs.declared.tokens.Token.{Token}
 use Rattle.ffc_lex.specs.declared.faults.LexFault.{LexFault}
-use Rattle.ffc_lex.specs.declared.TheConstants.{MAX_BYTES}
+use Rattle.ffc_lex.specs.Limits.{max_bytes}
 use Rattle.ffc_lex.specs.Reading.{place_after, origin, read, reading_of, fault_of}
 use Rattle.ffc_lex.specs.Scan.{Scan, Fits, IsBetween, IsForm, IsHeld, IsReady, first_start, without, ahead, scanned, open_of, begun}
 use Rattle.ffc_lex.specs.Kept.{IsKept, IsLastForm}
@@ -107,7 +107,7 @@ kept_gives text given fault s t held bytes start end first last form k same is r
 
 -- where a piece has come
 pub kept_fed : (text piece more : List ℕ) (given : ℕ) (fault : Option LexFault) (s : Scan) (held wider bytes : List ℕ) (start end : ℕ)
-    → IsKept text given fault s held bytes start end → s.kept ≤ length text → wider ≡ held ++ piece → more ≡ text ++ piece → length text + length piece ≤ MAX_BYTES + 1
+    → IsKept text given fault s held bytes start end → s.kept ≤ length text → wider ≡ held ++ piece → more ≡ text ++ piece → length text + length piece ≤ max_bytes + 1
     → IsKept more given fault s wider bytes start end
 kept_fed text piece more given fault s held wider bytes start end k low wider_is more_is few =
     let ended : end ≤ length text = k.form.ended in

@@ -10,7 +10,7 @@ use Rattle.ffc_lex.specs.declared.tokens.TokenKind.{TokenKind}
 use Rattle.ffc_lex.specs.declared.tokens.TokenKind.TheVariants as kinds
 use Rattle.ffc_lex.specs.declared.tokens.Token.{Token}
 use Rattle.ffc_lex.specs.declared.tokens.Place.{Place}
-use Rattle.ffc_lex.specs.declared.TheConstants.{MAX_DEPTH}
+use Rattle.ffc_lex.specs.Limits.{max_depth}
 use Rattle.ffc_lex.specs.Lexeme.{Lexeme, Skip, Token as Lexed, Bad, Unended, lexeme_at}
 use Rattle.ffc_lex.specs.Reading.{Open, Next, Halt, Move, Give, End, Stopped, fault_at, Reading, outside, past, origin, token_at, after_token, after_left, after_right, after_kind, after_lexeme, next_at, read, reading_of, forms_of, with_form}
 use Rattle.ffc_lex.specs.Order.{IsPlaceBefore, IsLeftOf, IsInOrder}
@@ -109,7 +109,7 @@ module _ (text : List ℕ) where
 
   left_good : (c : ℕ) (place : Place) (o : Open) → IsPlaced place 0 o → IsGood c place (after_left place o)
   left_good c place o h =
-      halts_or c place (o.depth == MAX_DEPTH) _ _ (token_good c place o kinds.LeftParen 1 (o.depth + 1) (if o.depth == 0 then place else o.first) h (left_depth place o h.depth))
+      halts_or c place (o.depth == max_depth) _ _ (token_good c place o kinds.LeftParen 1 (o.depth + 1) (if o.depth == 0 then place else o.first) h (left_depth place o h.depth))
 
   given : (place : Place) (o : Open) → place.index < length text → 0 < o.depth → IsPlaced place 0 o → IsInOrder text (o.tokens ++ token_at kinds.RightParen 1 place ∷ [])
   given place o inside some h =

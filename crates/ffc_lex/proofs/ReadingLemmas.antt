@@ -4,7 +4,7 @@ use Rattle.std.proofs.lemmas.Bool.{le-ltb, lt-ltb}
 use Rattle.ffc_lex.specs.declared.tokens.TokenKind.{TokenKind}
 use Rattle.ffc_lex.specs.declared.tokens.Place.{Place}
 use Rattle.ffc_lex.specs.declared.tokens.Token.{Token as TokenRecord}
-use Rattle.ffc_lex.specs.declared.TheConstants.{MAX_BYTES}
+use Rattle.ffc_lex.specs.Limits.{max_bytes}
 use Rattle.ffc_lex.specs.Lexeme.{Lexeme, Skip, Token, Bad, Unended, lexeme_at, size_of}
 use Rattle.ffc_lex.specs.Reading.{Open, End, Stopped, Halt, Move, Give, past, place_after, fault_at, halted, with_form, outside, unended, after_kind, after_lexeme, next_at, read}
 
@@ -48,33 +48,33 @@ unfolding read
 read_nothing place o = refl
 
 -- a lexeme before the limit
-pub next_within : (bytes : List ℕ) (place : Place) (o : Open) (l : Lexeme) → lexeme_at o.depth bytes ≡ l → place.index + size_of bytes l ≤ MAX_BYTES
+pub next_within : (bytes : List ℕ) (place : Place) (o : Open) (l : Lexeme) → lexeme_at o.depth bytes ≡ l → place.index + size_of bytes l ≤ max_bytes
     → next_at bytes place o ≡ after_lexeme l bytes place o
 unfolding next_at
-next_within bytes place o l e h = rw e (rw (le-ltb MAX_BYTES (place.index + size_of bytes l) h) refl)
+next_within bytes place o l e h = rw e (rw (le-ltb max_bytes (place.index + size_of bytes l) h) refl)
 
 -- one that holds the byte past the limit
-pub next_past : (bytes : List ℕ) (place : Place) (o : Open) → MAX_BYTES < place.index + size_of bytes (lexeme_at o.depth bytes)
-    → next_at bytes place o ≡ Halt (Stopped (fault_at 17 (place_after (take (MAX_BYTES - place.index) bytes) place)))
+pub next_past : (bytes : List ℕ) (place : Place) (o : Open) → max_bytes < place.index + size_of bytes (lexeme_at o.depth bytes)
+    → next_at bytes place o ≡ Halt (Stopped (fault_at 17 (place_after (take (max_bytes - place.index) bytes) place)))
 unfolding next_at
-next_past bytes place o h = rw (lt-ltb MAX_BYTES (place.index + size_of bytes (lexeme_at o.depth bytes)) h) refl
+next_past bytes place o h = rw (lt-ltb max_bytes (place.index + size_of bytes (lexeme_at o.depth bytes)) h) refl
 
-pub next_skip : (bytes : List ℕ) (place : Place) (o : Open) (n : ℕ) → lexeme_at o.depth bytes ≡ Skip n → place.index + n ≤ MAX_BYTES
+pub next_skip : (bytes : List ℕ) (place : Place) (o : Open) (n : ℕ) → lexeme_at o.depth bytes ≡ Skip n → place.index + n ≤ max_bytes
     → next_at bytes place o ≡ Move n o
 unfolding after_lexeme size_of
 next_skip bytes place o n e h = next_within bytes place o (Skip n) e h
 
-pub next_token : (bytes : List ℕ) (place : Place) (o : Open) (kind : TokenKind) (n : ℕ) → lexeme_at o.depth bytes ≡ Token kind n → place.index + n ≤ MAX_BYTES
+pub next_token : (bytes : List ℕ) (place : Place) (o : Open) (kind : TokenKind) (n : ℕ) → lexeme_at o.depth bytes ≡ Token kind n → place.index + n ≤ max_bytes
     → next_at bytes place o ≡ after_kind kind n place o
 unfolding after_lexeme size_of
 next_token bytes place o kind n e h = next_within bytes place o (Token kind n) e h
 
-pub next_bad : (bytes : List ℕ) (place : Place) (o : Open) (n size : ℕ) → lexeme_at o.depth bytes ≡ Bad n size → place.index + size ≤ MAX_BYTES
+pub next_bad : (bytes : List ℕ) (place : Place) (o : Open) (n size : ℕ) → lexeme_at o.depth bytes ≡ Bad n size → place.index + size ≤ max_bytes
     → next_at bytes place o ≡ Halt (Stopped (fault_at 1 (place_after (take n bytes) place)))
 unfolding after_lexeme size_of
 next_bad bytes place o n size e h = next_within bytes place o (Bad n size) e h
 
-pub next_unended : (bytes : List ℕ) (place : Place) (o : Open) (whole : Bool) → lexeme_at o.depth bytes ≡ Unended whole → place.index + length bytes ≤ MAX_BYTES
+pub next_unended : (bytes : List ℕ) (place : Place) (o : Open) (whole : Bool) → lexeme_at o.depth bytes ≡ Unended whole → place.index + length bytes ≤ max_bytes
     → next_at bytes place o ≡ Halt (unended whole place o)
 unfolding after_lexeme size_of
 next_unended bytes place o whole e h = next_within bytes place o (Unended whole) e h

@@ -10,7 +10,7 @@ use Rattle.ffc_lex.specs.declared.tokens.Token.{Token as TokenRecord}
 use Rattle.ffc_lex.specs.declared.faults.LexFault.{LexFault}
 use Rattle.ffc_lex.specs.declared.modes.Mode.{Mode}
 use Rattle.ffc_lex.specs.declared.modes.Mode.TheVariants as modes
-use Rattle.ffc_lex.specs.declared.TheConstants.{MAX_BYTES}
+use Rattle.ffc_lex.specs.Limits.{max_bytes}
 use Rattle.ffc_lex.specs.Reading.{Open, Reading, End, Stopped, Halt, Move, Give, past, place_after, with_form, outside, next_at, read, reading_of, forms_of}
 use Rattle.ffc_lex.specs.Scan.{Scan, Fits, IsReady, IsFacing, IsStopped, IsForm, without, ahead, scanned, open_of, begun, moved}
 use Rattle.ffc_lex.proofs.ListLemmas.{drop-drop, rest_from}
@@ -52,7 +52,7 @@ scanned-snoc n text c s f =
     ∙ take-append-add (scanned text s) (c ∷ drop (s.at.index + 1) text) 1)
 
 -- a byte that stays in what is being scanned
-pub stays : (n : ℕ) (text : List ℕ) (c : ℕ) (s : Scan) (mode : Mode) → IsFacing n text c s → s.at.index < MAX_BYTES → Fits mode s.depth (scanned text s ++ c ∷ [])
+pub stays : (n : ℕ) (text : List ℕ) (c : ℕ) (s : Scan) (mode : Mode) → IsFacing n text c s → s.at.index < max_bytes → Fits mode s.depth (scanned text s ++ c ∷ [])
     → IsReady n text (moved c (record s { mode = mode }))
 stays n text c s mode f l fits =
     let lt : s.at.index < length text = within_text n text c s f in
@@ -74,7 +74,7 @@ arrived kept place left = record { kept = kept; at = place; start = place; mode 
 
 -- bytes that are read
 pub consumed : (n : ℕ) (text : List ℕ) (s : Scan) (k : ℕ) (place : Place) (left : Open)
-    → IsReady n text s → 0 < k → s.start.index + k ≤ length text → place.index ≡ s.start.index + k → place.index ≤ MAX_BYTES → n ≤ place.index
+    → IsReady n text s → 0 < k → s.start.index + k ≤ length text → place.index ≡ s.start.index + k → place.index ≤ max_bytes → n ≤ place.index
     → place ≡ place_after (take k (ahead text s)) s.start
     → ((more : List ℕ) → next_at (ahead text s ++ more) s.start (open_of s) ≡ Move k left)
     → IsReady n text (arrived s.kept place left)
@@ -129,7 +129,7 @@ ahead_first n text c s f same =
     ahead_split n text c s f ∙ (ap (λ k. take k (ahead text s) ++ c ∷ drop (s.at.index + 1) text) none ∙ ap (λ k. c ∷ drop (k + 1) text) i)
 
 -- the end of a form
-pub given : (n : ℕ) (text : List ℕ) (s : Scan) (c : ℕ) (form : List TokenRecord) → IsFacing n text c s → s.at ≡ s.start → s.at.index < MAX_BYTES
+pub given : (n : ℕ) (text : List ℕ) (s : Scan) (c : ℕ) (form : List TokenRecord) → IsFacing n text c s → s.at ≡ s.start → s.at.index < max_bytes
     → ((more : List ℕ) → next_at (ahead text s ++ more) s.start (open_of s) ≡ Give form)
     → IsForm n text form × IsReady (n + 1) text (begun s.kept (past c s.start))
 given n text s c form f same limit next =

@@ -9,7 +9,7 @@ use Rattle.ffc_lex.specs.declared.tokens.Token.{Token as TokenRecord}
 use Rattle.ffc_lex.specs.declared.faults.LexFault.{LexFault}
 use Rattle.ffc_lex.specs.declared.modes.Mode.{Mode}
 use Rattle.ffc_lex.specs.declared.modes.Mode.TheVariants as modes
-use Rattle.ffc_lex.specs.declared.TheConstants.{MAX_BYTES}
+use Rattle.ffc_lex.specs.Limits.{max_bytes}
 use Rattle.ffc_lex.specs.Bytes.{is_word_byte, is_line_end, is_text_byte, is_quoted_byte}
 use Rattle.ffc_lex.specs.Words.{is_symbol_word, is_numeral, is_decimal, is_field_word, word_kind, keyword_kind, hash_kind}
 use Rattle.ffc_lex.specs.Lexeme.{Skip, Token, Bad, judged, lexeme_at, size_of}
@@ -23,7 +23,7 @@ ahead_more : (n : ℕ) (text : List ℕ) (c : ℕ) (s : Scan) (more : List ℕ) 
 ahead_more n text c s more f = ap (λ xs. xs ++ more) (ahead_split n text c s f) ∙ append_assoc (scanned text s) (c ∷ drop (s.at.index + 1) text) more
 
 -- bytes that are read, the next one with them
-pub through : (n : ℕ) (text : List ℕ) (c : ℕ) (s : Scan) (left : Open) → IsFacing n text c s → s.at.index < MAX_BYTES
+pub through : (n : ℕ) (text : List ℕ) (c : ℕ) (s : Scan) (left : Open) → IsFacing n text c s → s.at.index < max_bytes
     → ((cs : List ℕ) → next_at (scanned text s ++ c ∷ cs) s.start (open_of s) ≡ Move (s.at.index - s.start.index + 1) left)
     → IsReady n text (arrived s.kept (past c s.at) left)
 through n text c s left f l next =
@@ -44,7 +44,7 @@ before n text c s left f some next =
     let lt : s.at.index < length text = within_text n text c s f in
     let le : s.start.index ≤ s.at.index = f.ready.order in
     let few : n ≤ s.at.index = f.ready.few in
-    let limit : s.at.index ≤ MAX_BYTES = f.ready.limit in
+    let limit : s.at.index ≤ max_bytes = f.ready.limit in
     let len : length (scanned text s) ≡ s.at.index - s.start.index = length-scanned n text s f.ready in
     record {
       ready = consumed n text s (s.at.index - s.start.index) s.at left f.ready (omega arith) (omega arith) (omega arith) limit few f.ready.place
@@ -71,18 +71,18 @@ place_so_far n text s i ys r e =
     ap (λ k. place_after (take k (scanned text s ++ ys)) s.start) e ∙ (ap (λ xs. place_after xs s.start) (take-append_seam (scanned text s) ys) ∙ sym r.place)
 
 -- the byte past the limit
-pub limit_fault : (n : ℕ) (text : List ℕ) (c : ℕ) (s : Scan) → IsFacing n text c s → s.at.index ≡ MAX_BYTES → is_ended_by s.mode c ≡ false → IsStopped n text (fault_at 17 s.at)
+pub limit_fault : (n : ℕ) (text : List ℕ) (c : ℕ) (s : Scan) → IsFacing n text c s → s.at.index ≡ max_bytes → is_ended_by s.mode c ≡ false → IsStopped n text (fault_at 17 s.at)
 limit_fault n text c s f limit e =
     let le : s.start.index ≤ s.at.index = f.ready.order in
     let len : length (scanned text s) ≡ s.at.index - s.start.index = length-scanned n text s f.ready in
-    let i : MAX_BYTES - s.start.index ≡ length (scanned text s) = omega arith in
+    let i : max_bytes - s.start.index ≡ length (scanned text s) = omega arith in
     halts n text c s (fault_at 17 s.at) f (λ cs.
     let size : length (scanned text s) + 1 ≤ size_of (scanned text s ++ c ∷ cs) (lexeme_at s.depth (scanned text s ++ c ∷ cs)) = holds s.mode s.depth (scanned text s) c cs f.ready.fits e in
     next_past (scanned text s ++ c ∷ cs) s.start (open_of s) (omega arith)
-    ∙ ap (λ p. Halt (Stopped (fault_at 17 p))) (place_so_far n text s (MAX_BYTES - s.start.index) (c ∷ cs) f.ready i))
+    ∙ ap (λ p. Halt (Stopped (fault_at 17 p))) (place_so_far n text s (max_bytes - s.start.index) (c ∷ cs) f.ready i))
 
 -- a byte that can't stand there
-pub bad_fault : (n : ℕ) (text : List ℕ) (c : ℕ) (s : Scan) → IsFacing n text c s → s.at.index < MAX_BYTES
+pub bad_fault : (n : ℕ) (text : List ℕ) (c : ℕ) (s : Scan) → IsFacing n text c s → s.at.index < max_bytes
     → ((cs : List ℕ) → lexeme_at s.depth (scanned text s ++ c ∷ cs) ≡ Bad (length (scanned text s)) (length (scanned text s) + 1))
     → IsStopped n text (fault_at 1 s.at)
 bad_fault n text c s f limit bad =
@@ -94,12 +94,12 @@ bad_fault n text c s f limit bad =
 
 -- comments
 
-pub comment_stays : (n : ℕ) (text : List ℕ) (c : ℕ) (s : Scan) → IsFacing n text c s → s.at.index < MAX_BYTES → s.mode ≡ modes.Comment → is_line_end c ≡ false → IsReady n text (moved c s)
+pub comment_stays : (n : ℕ) (text : List ℕ) (c : ℕ) (s : Scan) → IsFacing n text c s → s.at.index < max_bytes → s.mode ≡ modes.Comment → is_line_end c ≡ false → IsReady n text (moved c s)
 comment_stays n text c s f l mode e =
     let fits : Fits modes.Comment s.depth (scanned text s) = subst (λ m. Fits m s.depth (scanned text s)) mode f.ready.fits in
     stays n text c s s.mode f l (subst (λ m. Fits m s.depth (scanned text s ++ c ∷ [])) (sym mode) (comment_on (scanned text s) c fits e))
 
-pub skips : (n : ℕ) (text : List ℕ) (c : ℕ) (s : Scan) → IsFacing n text c s → s.at.index < MAX_BYTES
+pub skips : (n : ℕ) (text : List ℕ) (c : ℕ) (s : Scan) → IsFacing n text c s → s.at.index < max_bytes
     → ((cs : List ℕ) → lexeme_at s.depth (scanned text s ++ c ∷ cs) ≡ Skip (length (scanned text s) + 1))
     → IsReady n text (settled (moved c s))
 skips n text c s f l skip =
@@ -108,25 +108,25 @@ skips n text c s f l skip =
     let k : length (scanned text s) + 1 ≡ s.at.index - s.start.index + 1 = omega arith in
     through n text c s (open_of s) f l (λ cs. next_skip (scanned text s ++ c ∷ cs) s.start (open_of s) (s.at.index - s.start.index + 1) (skip cs ∙ ap (λ i. Skip i) k) (omega arith))
 
-pub comment_ends_here : (n : ℕ) (text : List ℕ) (c : ℕ) (s : Scan) → IsFacing n text c s → s.at.index < MAX_BYTES → s.mode ≡ modes.Comment → is_line_end c ≡ true → IsReady n text (settled (moved c s))
+pub comment_ends_here : (n : ℕ) (text : List ℕ) (c : ℕ) (s : Scan) → IsFacing n text c s → s.at.index < max_bytes → s.mode ≡ modes.Comment → is_line_end c ≡ true → IsReady n text (settled (moved c s))
 comment_ends_here n text c s f l mode e =
     let fits : Fits modes.Comment s.depth (scanned text s) = subst (λ m. Fits m s.depth (scanned text s)) mode f.ready.fits in
     skips n text c s f l (λ cs. comment_through s.depth (scanned text s) c cs fits e)
 
 -- quoted symbols
 
-pub quoted_stays : (n : ℕ) (text : List ℕ) (c : ℕ) (s : Scan) → IsFacing n text c s → s.at.index < MAX_BYTES → s.mode ≡ modes.Quoted → is_quoted_byte c ≡ true → IsReady n text (moved c s)
+pub quoted_stays : (n : ℕ) (text : List ℕ) (c : ℕ) (s : Scan) → IsFacing n text c s → s.at.index < max_bytes → s.mode ≡ modes.Quoted → is_quoted_byte c ≡ true → IsReady n text (moved c s)
 quoted_stays n text c s f l mode e =
     let fits : Fits modes.Quoted s.depth (scanned text s) = subst (λ m. Fits m s.depth (scanned text s)) mode f.ready.fits in
     stays n text c s s.mode f l (subst (λ m. Fits m s.depth (scanned text s ++ c ∷ [])) (sym mode) (led_on classes.Bar is_quoted_byte s.depth (scanned text s) c fits e))
 
-pub quoted_fault : (n : ℕ) (text : List ℕ) (c : ℕ) (s : Scan) → IsFacing n text c s → s.at.index < MAX_BYTES → s.mode ≡ modes.Quoted → eqb c 124 ≡ false → is_quoted_byte c ≡ false
+pub quoted_fault : (n : ℕ) (text : List ℕ) (c : ℕ) (s : Scan) → IsFacing n text c s → s.at.index < max_bytes → s.mode ≡ modes.Quoted → eqb c 124 ≡ false → is_quoted_byte c ≡ false
     → IsStopped n text (fault_at 1 s.at)
 quoted_fault n text c s f l mode e q =
     let fits : Fits modes.Quoted s.depth (scanned text s) = subst (λ m. Fits m s.depth (scanned text s)) mode f.ready.fits in
     bad_fault n text c s f l (λ cs. quoted_bad s.depth (scanned text s) c cs fits e q)
 
-pub quoted_ends_here : (n : ℕ) (text : List ℕ) (c : ℕ) (s : Scan) → IsFacing n text c s → s.at.index < MAX_BYTES → s.mode ≡ modes.Quoted → eqb c 124 ≡ true
+pub quoted_ends_here : (n : ℕ) (text : List ℕ) (c : ℕ) (s : Scan) → IsFacing n text c s → s.at.index < max_bytes → s.mode ≡ modes.Quoted → eqb c 124 ≡ true
     → IsReady n text (with_token_through kinds.Quoted c s)
 quoted_ends_here n text c s f l mode e =
     let fits : Fits modes.Quoted s.depth (scanned text s) = subst (λ m. Fits m s.depth (scanned text s)) mode f.ready.fits in
@@ -140,18 +140,18 @@ quoted_ends_here n text c s f l mode e =
 
 -- strings
 
-pub string_marks : (n : ℕ) (text : List ℕ) (c : ℕ) (s : Scan) → IsFacing n text c s → s.at.index < MAX_BYTES → s.mode ≡ modes.Str → eqb c 34 ≡ true
+pub string_marks : (n : ℕ) (text : List ℕ) (c : ℕ) (s : Scan) → IsFacing n text c s → s.at.index < max_bytes → s.mode ≡ modes.Str → eqb c 34 ≡ true
     → IsReady n text (moved c (record s { mode = modes.StrMark }))
 string_marks n text c s f l mode e =
     let fits : Fits modes.Str s.depth (scanned text s) = subst (λ m. Fits m s.depth (scanned text s)) mode f.ready.fits in
     stays n text c s modes.StrMark f l (string_marked s.depth (scanned text s) c fits e)
 
-pub string_stays : (n : ℕ) (text : List ℕ) (c : ℕ) (s : Scan) → IsFacing n text c s → s.at.index < MAX_BYTES → s.mode ≡ modes.Str → eqb c 34 ≡ false → is_text_byte c ≡ true → IsReady n text (moved c s)
+pub string_stays : (n : ℕ) (text : List ℕ) (c : ℕ) (s : Scan) → IsFacing n text c s → s.at.index < max_bytes → s.mode ≡ modes.Str → eqb c 34 ≡ false → is_text_byte c ≡ true → IsReady n text (moved c s)
 string_stays n text c s f l mode e t =
     let fits : Fits modes.Str s.depth (scanned text s) = subst (λ m. Fits m s.depth (scanned text s)) mode f.ready.fits in
     stays n text c s s.mode f l (subst (λ m. Fits m s.depth (scanned text s ++ c ∷ [])) (sym mode) (string_texted s.depth (scanned text s) c fits e t))
 
-pub string_fault : (n : ℕ) (text : List ℕ) (c : ℕ) (s : Scan) → IsFacing n text c s → s.at.index < MAX_BYTES → s.mode ≡ modes.Str → eqb c 34 ≡ false → is_text_byte c ≡ false
+pub string_fault : (n : ℕ) (text : List ℕ) (c : ℕ) (s : Scan) → IsFacing n text c s → s.at.index < max_bytes → s.mode ≡ modes.Str → eqb c 34 ≡ false → is_text_byte c ≡ false
     → IsStopped n text (fault_at 1 s.at)
 string_fault n text c s f l mode e t =
     let fits : Fits modes.Str s.depth (scanned text s) = subst (λ m. Fits m s.depth (scanned text s)) mode f.ready.fits in
@@ -161,7 +161,7 @@ not_false : (b : Bool) → not b ≡ false → b ≡ true
 not_false true e = refl
 not_false false e = absurd (cc)
 
-pub string_pairs : (n : ℕ) (text : List ℕ) (c : ℕ) (s : Scan) → IsFacing n text c s → s.at.index < MAX_BYTES → s.mode ≡ modes.StrMark → is_ended_by s.mode c ≡ false
+pub string_pairs : (n : ℕ) (text : List ℕ) (c : ℕ) (s : Scan) → IsFacing n text c s → s.at.index < max_bytes → s.mode ≡ modes.StrMark → is_ended_by s.mode c ≡ false
     → IsReady n text (moved c (record s { mode = modes.Str }))
 string_pairs n text c s f l mode e =
     let fits : Fits modes.StrMark s.depth (scanned text s) = subst (λ m. Fits m s.depth (scanned text s)) mode f.ready.fits in
@@ -170,21 +170,21 @@ string_pairs n text c s f l mode e =
 
 -- words
 
-pub word_stays : (n : ℕ) (text : List ℕ) (c : ℕ) (s : Scan) → IsFacing n text c s → s.at.index < MAX_BYTES → s.mode ≡ modes.Word → is_ended_by s.mode c ≡ false
+pub word_stays : (n : ℕ) (text : List ℕ) (c : ℕ) (s : Scan) → IsFacing n text c s → s.at.index < max_bytes → s.mode ≡ modes.Word → is_ended_by s.mode c ≡ false
     → IsReady n text (moved c s)
 word_stays n text c s f l mode e =
     let fits : Fits modes.Word s.depth (scanned text s) = subst (λ m. Fits m s.depth (scanned text s)) mode f.ready.fits in
     let on : is_word_byte c ≡ true = not_false (is_word_byte c) (subst (λ m. is_ended_by m c ≡ false) mode e) in
     stays n text c s s.mode f l (subst (λ m. Fits m s.depth (scanned text s ++ c ∷ [])) (sym mode) (word_on s.depth (scanned text s) c fits on))
 
-pub keyword_stays : (n : ℕ) (text : List ℕ) (c : ℕ) (s : Scan) → IsFacing n text c s → s.at.index < MAX_BYTES → s.mode ≡ modes.Keyword → is_ended_by s.mode c ≡ false
+pub keyword_stays : (n : ℕ) (text : List ℕ) (c : ℕ) (s : Scan) → IsFacing n text c s → s.at.index < max_bytes → s.mode ≡ modes.Keyword → is_ended_by s.mode c ≡ false
     → IsReady n text (moved c s)
 keyword_stays n text c s f l mode e =
     let fits : Fits modes.Keyword s.depth (scanned text s) = subst (λ m. Fits m s.depth (scanned text s)) mode f.ready.fits in
     let on : is_word_byte c ≡ true = not_false (is_word_byte c) (subst (λ m. is_ended_by m c ≡ false) mode e) in
     stays n text c s s.mode f l (subst (λ m. Fits m s.depth (scanned text s ++ c ∷ [])) (sym mode) (led_on classes.Colon is_word_byte s.depth (scanned text s) c fits on))
 
-pub field_stays : (n : ℕ) (text : List ℕ) (c : ℕ) (s : Scan) → IsFacing n text c s → s.at.index < MAX_BYTES → s.mode ≡ modes.FieldLiteral → is_ended_by s.mode c ≡ false
+pub field_stays : (n : ℕ) (text : List ℕ) (c : ℕ) (s : Scan) → IsFacing n text c s → s.at.index < max_bytes → s.mode ≡ modes.FieldLiteral → is_ended_by s.mode c ≡ false
     → IsReady n text (moved c s)
 field_stays n text c s f l mode e =
     let fits : Fits modes.FieldLiteral s.depth (scanned text s) = subst (λ m. Fits m s.depth (scanned text s)) mode f.ready.fits in
@@ -255,7 +255,7 @@ pub ended_token : (n : ℕ) (text : List ℕ) (c : ℕ) (s : Scan) (kind : Token
     → IsFacing n text c (with_token kind s)
 ended_token n text c s kind f e k =
     let le : s.start.index ≤ s.at.index = f.ready.order in
-    let limit : s.at.index ≤ MAX_BYTES = f.ready.limit in
+    let limit : s.at.index ≤ max_bytes = f.ready.limit in
     let len : length (scanned text s) ≡ s.at.index - s.start.index = length-scanned n text s f.ready in
     let plain : IsPlain kind = subst (λ o. IsPlainIfSome o) k (plain_kind s.mode (scanned text s)) in
     let tokens : List TokenRecord = s.tokens ++ token_at kind (s.at.index - s.start.index) s.start ∷ [] in
@@ -269,7 +269,7 @@ pub ended_fault : (n : ℕ) (text : List ℕ) (c : ℕ) (s : Scan) → IsFacing 
     → IsStopped n text (fault_at 1 s.start)
 ended_fault n text c s f e k =
     let le : s.start.index ≤ s.at.index = f.ready.order in
-    let limit : s.at.index ≤ MAX_BYTES = f.ready.limit in
+    let limit : s.at.index ≤ max_bytes = f.ready.limit in
     let len : length (scanned text s) ≡ s.at.index - s.start.index = length-scanned n text s f.ready in
     halts n text c s (fault_at 1 s.start) f (λ cs.
     next_bad (scanned text s ++ c ∷ cs) s.start (open_of s) 0 (length (scanned text s))

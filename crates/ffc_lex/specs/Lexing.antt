@@ -5,7 +5,7 @@ use Rattle.ffc_lex.specs.declared.tokens.Token.{Token}
 use Rattle.ffc_lex.specs.declared.faults.LexFault.{LexFault}
 use Rattle.ffc_lex.specs.declared.faults.LexStop.{LexStop}
 use Rattle.ffc_lex.specs.declared.faults.LexStop.TheVariants.{Fault, Memory}
-use Rattle.ffc_lex.specs.declared.TheConstants.{MAX_BYTES}
+use Rattle.ffc_lex.specs.Limits.{max_bytes}
 use Rattle.ffc_lex.specs.Reading.{forms_of, fault_of, end_fault_of}
 
 pub record Lexing : Type 0 where
@@ -17,7 +17,7 @@ pub record Lexing : Type 0 where
 
 -- The text with a piece behind it. What follows the first byte past the limit is ignored.
 abbrev pub extended : List ℕ → List ℕ → List ℕ
-extended text piece = take (MAX_BYTES + 1) (text ++ piece)
+extended text piece = take (max_bytes + 1) (text ++ piece)
 
 -- the next form of a text of which so many were given
 abbrev pub next_form_of : List ℕ → ℕ → Option (List Token)

@@ -1,4 +1,5 @@
 pub mod Bytes
+pub mod Limits
 pub mod Words
 pub mod Names
 pub mod Lexeme

@@ -9,7 +9,7 @@ use Rattle.ffc_lex.specs.declared.tokens.TokenKind.TheVariants.{LeftParen as Lef
 use Rattle.ffc_lex.specs.declared.tokens.Token.{Token as TokenRecord}
 use Rattle.ffc_lex.specs.declared.tokens.Place.{Place}
 use Rattle.ffc_lex.specs.declared.faults.LexFault.{LexFault}
-use Rattle.ffc_lex.specs.declared.TheConstants.{MAX_BYTES, MAX_DEPTH}
+use Rattle.ffc_lex.specs.Limits.{max_bytes, max_depth}
 use Rattle.ffc_lex.specs.Lexeme.{Lexeme, Skip, Token, Bad, Unended, lexeme_at, size_of}
 
 -- the place of the next byte
@@ -82,7 +82,7 @@ after_token kind n place opened =
 -- the 65,537th open parenthesis is code 14
 abbrev pub after_left : Place → Open → Next
 after_left place opened =
-    if opened.depth == MAX_DEPTH then Halt (Stopped (fault_at 14 place)) else
+    if opened.depth == max_depth then Halt (Stopped (fault_at 14 place)) else
     Move 1 (record {
       depth = opened.depth + 1;
       first = if opened.depth == 0 then place else opened.first;
@@ -123,8 +123,8 @@ after_lexeme (Unended whole) bytes place opened = Halt (unended whole place open
 unfoldable pub next_at : List ℕ → Place → Open → Next
 next_at bytes place opened =
     let lexeme = lexeme_at opened.depth bytes in
-    if nat_lt MAX_BYTES (place.index + size_of bytes lexeme)
-    then Halt (Stopped (fault_at 17 (place_after (take (MAX_BYTES - place.index) bytes) place)))
+    if nat_lt max_bytes (place.index + size_of bytes lexeme)
+    then Halt (Stopped (fault_at 17 (place_after (take (max_bytes - place.index) bytes) place)))
     else after_lexeme lexeme bytes place opened
 
 -- The reading of the bytes from a place on: so many of them belong to what was read before.

@@ -13,7 +13,7 @@ use Rattle.ffc_lex.specs.declared.faults.LexStop.{LexStop}
 use Rattle.ffc_lex.specs.declared.faults.LexStop.TheVariants.{Fault, Memory}
 use Rattle.ffc_lex.specs.declared.modes.Mode.{Mode}
 use Rattle.ffc_lex.specs.declared.modes.Mode.TheVariants.{Between, Comment, Word, Keyword, FieldLiteral, Quoted, Str, StrMark}
-use Rattle.ffc_lex.specs.declared.TheConstants.{MAX_BYTES, MAX_DEPTH}
+use Rattle.ffc_lex.specs.Limits.{max_bytes, max_depth}
 use Rattle.ffc_lex.specs.declared.tokens.TokenKind.TheVariants as kinds
 use Rattle.ffc_lex.specs.Words.{word_kind, keyword_kind, hash_kind}
 use Rattle.ffc_lex.specs.Bytes.{byte_class, is_word_byte, is_line_end, is_quoted_byte}
@@ -57,11 +57,11 @@ pub record IsHeld (gone next high : ℕ) (tokens : List Token) : Type 0 where
 
 -- so that no counter can overflow, and what is still wanted is held
 pub record IsInRange (kept : ℕ) (at start : Place) (mode : Mode) (opened : ℕ) (tokens : List Token) : Type 0 where
-  pub index : at.index ≤ MAX_BYTES
+  pub index : at.index ≤ max_bytes
   pub line : at.line ≤ at.index + 1
   pub column : at.column ≤ at.index + 1
   pub order : start.index ≤ at.index
-  pub depth : opened ≤ MAX_DEPTH
+  pub depth : opened ≤ max_depth
   pub held : IsHeld kept (reach mode at start) start.index tokens
 
 -- the first byte that is still wanted
@@ -158,7 +158,7 @@ pub record IsReady (n : ℕ) (text : List ℕ) (s : Scan) : Type 0 where
   pub within : s.at.index ≤ length text
   pub few : n ≤ s.at.index
   pub order : s.start.index ≤ s.at.index
-  pub limit : s.at.index ≤ MAX_BYTES
+  pub limit : s.at.index ≤ max_bytes
   pub place : s.at ≡ place_after (scanned text s) s.start
   pub reads : (more : List ℕ) → without n (reading_of (text ++ more)) ≡ read (ahead text s ++ more) 0 s.start (open_of s)
   pub fits : Fits s.mode s.depth (scanned text s)

@@ -3,7 +3,7 @@ use Rattle.std.proofs.Common.{◌≡◌, ℕ, zero, suc, ◌+◌, ◌-◌, ◌<�
 use Rattle.std.proofs.lemmas.List.{take_all, length-take, length-take-le, length-append}
 use Rattle.std.proofs.lemmas.List.Elements.{All-nil, All-cons, All-head, All-tail, All-take, All-contains}
 use Rattle.std.proofs.lemmas.Option.{slice_get_within, slice_get-get_or, slice_get_past, get_or_from_slice_get}
-use Rattle.ffc_lex.specs.declared.TheConstants.{MAX_BYTES}
+use Rattle.ffc_lex.specs.Limits.{max_bytes}
 use Rattle.ffc_lex.specs.declared.tokens.Token.{Token}
 use Rattle.ffc_lex.specs.declared.faults.LexFault.{LexFault}
 use Rattle.ffc_lex.specs.Lexing.{Lexing, extended, next_form_of, due_fault, fault_behind, end_fault}
@@ -157,10 +157,10 @@ module _ (l : Lexing) (forms : List (List Word)) (k : IsKept l forms false) wher
 
   pub kept_fed : (piece : List ℕ) → IsKept (record l { text = extended l.text piece }) forms false
   kept_fed piece =
-      let more = take (MAX_BYTES + 1 - length l.text) piece in
-      let e : extended l.text piece ≡ l.text ++ more = take_front (MAX_BYTES + 1) l.text piece k.limit in
+      let more = take (max_bytes + 1 - length l.text) piece in
+      let e : extended l.text piece ≡ l.text ++ more = take_front (max_bytes + 1) l.text piece k.limit in
       let kept : IsKept (record l { text = l.text ++ more }) forms false = record {
-        limit = subst (λ t. length t ≤ MAX_BYTES + 1) e (omega (arith, length-take (MAX_BYTES + 1) (l.text ++ piece)));
+        limit = subst (λ t. length t ≤ max_bytes + 1) e (omega (arith, length-take (max_bytes + 1) (l.text ++ piece)));
         first = first_stays l.text more Steps k.first;
         going = λ _. record {
           fault = going.fault;
@@ -173,7 +173,7 @@ module _ (l : Lexing) (forms : List (List Word)) (k : IsKept l forms false) wher
 
   pub kept_over : (new : Lexing) → new.text ≡ l.text → IsKept new forms true
   kept_over new e = record {
-    limit = subst (λ t. length t ≤ MAX_BYTES + 1) (sym e) k.limit;
+    limit = subst (λ t. length t ≤ max_bytes + 1) (sym e) k.limit;
     first = subst (λ t. AreFirst t Steps) (sym e) k.first;
     going = λ h. cc;
   }

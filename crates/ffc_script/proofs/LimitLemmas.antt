@@ -10,7 +10,7 @@ use Rattle.ffc_lex.specs.declared.tokens.TokenKind.TheVariants as kinds
 use Rattle.ffc_lex.specs.declared.tokens.Place.{Place}
 use Rattle.ffc_lex.specs.declared.tokens.Token.{Token as TokenRecord}
 use Rattle.ffc_lex.specs.declared.faults.LexFault.{LexFault}
-use Rattle.ffc_lex.specs.declared.TheConstants.{MAX_BYTES, MAX_DEPTH}
+use Rattle.ffc_lex.specs.Limits.{max_bytes, max_depth}
 use Rattle.ffc_lex.specs.Bytes.{byte_class, is_word_byte, is_line_end, is_quoted_byte}
 use Rattle.ffc_lex.specs.Words.{word_kind, keyword_kind, hash_kind}
 use Rattle.ffc_lex.specs.Lexeme.{Lexeme, Skip, Token, Bad, Unended, inside_at, outside_at, lexeme_at, size_of}
@@ -63,16 +63,16 @@ lexeme_size (suc depth) c cs = rw (at_inside (suc depth) c cs (byte_class c) (om
 -- the step stops the text, or is one byte, or so many that they are within the limit
 abbrev Goes : ℕ → Next → Type 0
 Goes index (Halt end) = (f : LexFault) × (end ≡ Stopped f)
-Goes index (Move n left) = index + 1 + (n - 1) ≤ MAX_BYTES
-Goes index (Give form) = index + 1 ≤ MAX_BYTES
+Goes index (Move n left) = index + 1 + (n - 1) ≤ max_bytes
+Goes index (Give form) = index + 1 ≤ max_bytes
 
 goes_cond : (b : Bool) (index : ℕ) (x y : Next) → Goes index x → Goes index y → Goes index (cond b x y)
 goes_cond true index x y h g = h
 goes_cond false index x y h g = g
 
-kind_goes : (kind : TokenKind) (n : ℕ) (place : Place) (o : Open) → 1 ≤ n → place.index + n ≤ MAX_BYTES → Goes place.index (after_kind kind n place o)
+kind_goes : (kind : TokenKind) (n : ℕ) (place : Place) (o : Open) → 1 ≤ n → place.index + n ≤ max_bytes → Goes place.index (after_kind kind n place o)
 kind_goes kinds.LeftParen n place o p h =
-    goes_cond (eqb o.depth MAX_DEPTH) place.index (Halt (Stopped (fault_at 14 place))) _ (fault_at 14 place, refl) (omega arith)
+    goes_cond (eqb o.depth max_depth) place.index (Halt (Stopped (fault_at 14 place))) _ (fault_at 14 place, refl) (omega arith)
 kind_goes kinds.RightParen n place o p h =
     goes_cond (eqb o.depth 0) place.index (Halt (Stopped (fault_at 3 place))) _ (fault_at 3 place, refl)
     (goes_cond (eqb o.depth 1) place.index (Give _) _ (omega arith) (omega arith))
@@ -84,7 +84,7 @@ kind_goes kinds.Keyword n place o p h = omega arith
 kind_goes kinds.Str n place o p h = omega arith
 kind_goes kinds.FieldLiteral n place o p h = omega arith
 
-lexeme_goes : (l : Lexeme) (bytes : List ℕ) (place : Place) (o : Open) → 1 ≤ size_of bytes l → place.index + size_of bytes l ≤ MAX_BYTES → MAX_BYTES < place.index + length bytes → Goes place.index (after_lexeme l bytes place o)
+lexeme_goes : (l : Lexeme) (bytes : List ℕ) (place : Place) (o : Open) → 1 ≤ size_of bytes l → place.index + size_of bytes l ≤ max_bytes → max_bytes < place.index + length bytes → Goes place.index (after_lexeme l bytes place o)
 unfolding after_lexeme size_of
 lexeme_goes (Skip n) bytes place o p h long = omega arith
 lexeme_goes (Token kind n) bytes place o p h long = kind_goes kind n place o p h
@@ -95,15 +95,15 @@ either : (b : Bool) → (b ≡ true) ⊎ (b ≡ false)
 either true = inl refl
 either false = inr refl
 
-next_goes : (c : ℕ) (cs : List ℕ) (place : Place) (o : Open) → MAX_BYTES < place.index + length (c ∷ cs) → Goes place.index (next_at (c ∷ cs) place o)
+next_goes : (c : ℕ) (cs : List ℕ) (place : Place) (o : Open) → max_bytes < place.index + length (c ∷ cs) → Goes place.index (next_at (c ∷ cs) place o)
 next_goes c cs place o long =
     let l = lexeme_at o.depth (c ∷ cs) in
-    elim (either (ltb MAX_BYTES (place.index + size_of (c ∷ cs) l))) [
+    elim (either (ltb max_bytes (place.index + size_of (c ∷ cs) l))) [
       | inl t ↦
-          let stop = next_past (c ∷ cs) place o (ltb-true MAX_BYTES (place.index + size_of (c ∷ cs) l) t) in
-          subst (Goes place.index) (sym stop) (fault_at 17 (place_after (take (MAX_BYTES - place.index) (c ∷ cs)) place), refl)
+          let stop = next_past (c ∷ cs) place o (ltb-true max_bytes (place.index + size_of (c ∷ cs) l) t) in
+          subst (Goes place.index) (sym stop) (fault_at 17 (place_after (take (max_bytes - place.index) (c ∷ cs)) place), refl)
       | inr t ↦
-          let within = ltb-false MAX_BYTES (place.index + size_of (c ∷ cs) l) t in
+          let within = ltb-false max_bytes (place.index + size_of (c ∷ cs) l) t in
           subst (Goes place.index) (sym (next_within (c ∷ cs) place o l refl within)) (lexeme_goes l (c ∷ cs) place o (lexeme_size o.depth c cs) within long)
     ]
 
@@ -117,29 +117,29 @@ unfolding read
 read_skip c cs k place o = refl
 
 step_stops : (c : ℕ) (cs : List ℕ) (place : Place) (o : Open) (next : Next) → next_at (c ∷ cs) place o ≡ next → Goes place.index next
-    → ((k : ℕ) (left : Open) → place.index + 1 + k ≤ MAX_BYTES → Stops (read cs k (past c place) left)) → Stops (read (c ∷ cs) 0 place o)
+    → ((k : ℕ) (left : Open) → place.index + 1 + k ≤ max_bytes → Stops (read cs k (past c place) left)) → Stops (read (c ∷ cs) 0 place o)
 step_stops c cs place o (Halt end) e goes on = subst Stops (sym (read_end c cs place o end e)) goes
 step_stops c cs place o (Move n left) e goes on = subst Stops (sym (read_on c cs place o n left e)) (on (n - 1) left goes)
 step_stops c cs place o (Give form) e goes on = subst Stops (sym (read_form c cs place o form e)) (on 0 (outside (past c place)) (omega arith))
 
-read_stops : (bytes : List ℕ) (k : ℕ) (place : Place) (o : Open) → place.index + k ≤ MAX_BYTES → MAX_BYTES < place.index + length bytes → Stops (read bytes k place o)
+read_stops : (bytes : List ℕ) (k : ℕ) (place : Place) (o : Open) → place.index + k ≤ max_bytes → max_bytes < place.index + length bytes → Stops (read bytes k place o)
 read_stops [] k place o h long = absurd (omega arith)
 read_stops (c ∷ cs) (suc k) place o h long = subst Stops (sym (read_skip c cs k place o)) (read_stops cs k (past c place) o (omega arith) (omega arith))
 read_stops (c ∷ cs) zero place o h long =
     step_stops c cs place o (next_at (c ∷ cs) place o) refl (next_goes c cs place o long)
     (λ k left room. read_stops cs k (past c place) left room (omega arith))
 
-long_stops : (text : List ℕ) → MAX_BYTES < length text → Stops (reading_of text)
+long_stops : (text : List ℕ) → max_bytes < length text → Stops (reading_of text)
 unfolding reading_of
 long_stops text h = read_stops text 0 origin (outside origin) (omega arith) (omega arith)
 
 pub long_text_cut : (text : List ℕ) → reads text ≡ reads (take 67108865 text)
-long_text_cut text = elim (either (ltb MAX_BYTES (length (take 67108865 text)))) [
+long_text_cut text = elim (either (ltb max_bytes (length (take 67108865 text)))) [
   | inl t ↦
       let front = take 67108865 text in
-      let stops = long_stops front (ltb-true MAX_BYTES (length front) t) in
+      let stops = long_stops front (ltb-true max_bytes (length front) t) in
       ap reads (sym (take-append-drop 67108865 text)) ∙ stopped_goes limits text_goes_on front (drop 67108865 text) stops.0 stops.1
   | inr t ↦
-      let short = ltb-false MAX_BYTES (length (take 67108865 text)) t in
+      let short = ltb-false max_bytes (length (take 67108865 text)) t in
       ap reads (sym (take_all 67108865 text (omega (arith, length-take 67108865 text))))
 ]

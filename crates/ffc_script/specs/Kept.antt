@@ -1,6 +1,6 @@
 -- What a reader keeps true: the commands that were given are the first ones of the text, however it goes on.
 use Rattle.std.specs.Prelude.{◌≡◌, ℕ, ◌+◌, ◌≤◌, Bool, false, List, ◌++◌, length, take, None}
-use Rattle.ffc_lex.specs.declared.TheConstants.{MAX_BYTES}
+use Rattle.ffc_lex.specs.Limits.{max_bytes}
 use Rattle.ffc_lex.specs.Lexing.{Lexing}
 use Rattle.ffc_lex.specs.Reading.{forms_of}
 use Rattle.ffc_smt.specs.Trees.{Word}
@@ -23,6 +23,6 @@ pub record IsGoing (l : Lexing) (steps : List Step) (k : Known) : Type 0 where
   pub run : run_from limits first_state (trees_of l.text (take l.given (forms_of l.text))) ≡ Going steps k.state
 
 pub record IsKept (l : Lexing) (forms : List (List Word)) (over : Bool) : Type 0 where
-  pub limit : length l.text ≤ MAX_BYTES + 1
+  pub limit : length l.text ≤ max_bytes + 1
   pub first : AreFirst l.text (steps_from first_known forms)
   pub going : over ≡ false → IsGoing l (steps_from first_known forms) (known_of forms)

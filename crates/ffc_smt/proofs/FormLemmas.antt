@@ -8,7 +8,7 @@ use Rattle.ffc_lex.specs.declared.tokens.TokenKind.{TokenKind}
 use Rattle.ffc_lex.specs.declared.tokens.TokenKind.TheVariants as kinds
 use Rattle.ffc_lex.specs.declared.tokens.Token.{Token}
 use Rattle.ffc_lex.specs.declared.tokens.Place.{Place}
-use Rattle.ffc_lex.specs.declared.TheConstants.{MAX_DEPTH}
+use Rattle.ffc_lex.specs.Limits.{max_depth}
 use Rattle.ffc_lex.specs.Lexeme.{Lexeme, Skip, Token as Lexed, Bad, Unended, lexeme_at}
 use Rattle.ffc_lex.specs.Reading.{Open, Next, Halt, Move, Give, End, Reading, outside, past, origin, token_at, after_token, after_left, after_right, after_kind, after_lexeme, next_at, read, reading_of, forms_of, with_form}
 use Rattle.ffc_lex.proofs.DepthLemmas.{FitsDepth, LexemeFits, lexeme_fits}
@@ -104,10 +104,10 @@ module _ (text : List ℕ) where
 
   left_good : (place : Place) (o : Open) → IsOpen o → IsGood (after_left place o)
   left_good place o (inl (none, e)) =
-      halts_or (o.depth == MAX_DEPTH) _ _
+      halts_or (o.depth == max_depth) _ _
       (inr (omega arith, token_at kinds.LeftParen 1 place, [], ap (λ xs. xs ++ token_at kinds.LeftParen 1 place ∷ []) e, subst (Nests []) (let one : 1 ≡ o.depth + 1 = omega arith in one) nests_none))
   left_good place o (inr h) =
-      halts_or (o.depth == MAX_DEPTH) _ _
+      halts_or (o.depth == max_depth) _ _
       (one_token o (token_at kinds.LeftParen 1 place) (o.depth + 1) (if o.depth == 0 then place else o.first) (omega arith) h.0 (inr h) (λ i g. nested_opened _ i o.depth h.0 g))
 
   is_one : (n : ℕ) → n ≡ 1 → (n == 1) ≡ true

@@ -2,7 +2,7 @@
 use Rattle.std.proofs.Common.{◌≡◌, ℕ, zero, suc, ◌+◌, ◌-◌, ◌<◌, ◌≤◌, ◌^◌, Bool, true, false, List, [], ◌∷◌, ◌++◌, length, take, Some, None, Option, refl, sym, ap, ◌∙◌, subst, arith, append-nil, append_assoc}
 use Rattle.std.proofs.lemmas.List.{take_all, length_push}
 use Rattle.ffc_lex.specs.Lexing.{extended}
-use Rattle.ffc_lex.specs.declared.TheConstants.{MAX_BYTES}
+use Rattle.ffc_lex.specs.Limits.{max_bytes}
 use Rattle.ffc_smt.specs.CommandReading.{limits}
 use Rattle.ffc_smt.specs.Scripts.{Step, Script, End, Done, AtFault, reads}
 use Rattle.ffc_smt.specs.TableChecks.{TableCheck, table_check_of, table_checks}
@@ -129,7 +129,7 @@ few_by n h = omega arith
 -- A whole script
 
 pub fed_whole : (script : List ℕ) → length script ≤ 67108865 → extended [] script ≡ script
-fed_whole script h = take_all (MAX_BYTES + 1) script (omega arith)
+fed_whole script h = take_all (max_bytes + 1) script (omega arith)
 
 -- so many checks were given
 pub record HasCounted (script : List ℕ) (p : Progress) (count : ℕ) : Type 0 where
