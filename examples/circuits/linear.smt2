@@ -1,0 +1,8 @@
+(set-logic QF_FF)
+(define-sort F () (_ FiniteField 2013265921))
+(declare-const x0 F)
+(declare-const x1 F)
+(assert (= (ff.add (as ff0 F) (ff.mul (as ff615 F) x0) (ff.mul (as ff327 F) x1)) (as ff1 F)))
+(assert (= (ff.add (as ff0 F) (ff.mul (as ff739 F) x0) (ff.mul (as ff451 F) x1)) (as ff1 F)))
+(assert (= (ff.add (as ff0 F) (ff.mul (as ff1354 F) x0) (ff.mul (as ff778 F) x1)) (as ff3 F)))
+(check-sat)
