@@ -89,6 +89,37 @@ coefficient_at-shifted_zero zero k = refl
 coefficient_at-shifted_zero (suc n) zero = refl
 coefficient_at-shifted_zero (suc n) (suc k) = coefficient_at-shifted_zero n k
 
+-- a sum behind the first n coefficients
+pub spliced : (p n : ℕ) (a b c : Coefficients) → n ≤ length a → SameUnivariate p b (plus (drop n a) c) → SameUnivariate p (take n a ++ b) (plus a (shifted n c))
+spliced p zero a b c h e = e
+spliced p (suc n) [] b c h e = absurd (omega arith)
+spliced p (suc n) (x ∷ a) b c h e = elim [
+  | zero ↦ ap (λ m. m % p) (let same : x ≡ x + 0 = omega arith in same)
+  | suc k ↦ spliced p n a b c (omega arith) e k
+]
+
+-- one row more of a product, with a zero put behind the sum so far
+pub product_step : (p n x : ℕ) (a b c rest all : Coefficients) → SameUnivariate p c (plus (a ++ 0 ∷ []) (shifted n (multiple x b))) → SameUnivariate p (plus a (shifted n (times (x ∷ rest) b))) all → SameUnivariate p (plus c (shifted (suc n) (times rest b))) all
+product_step p n x a b c rest all e same k =
+    let row = shifted n (multiple x b) in
+    let later = shifted n (0 ∷ times rest b) in
+    let behind : coefficient_at (shifted (suc n) (times rest b)) k ≡ coefficient_at later k =
+    ap (λ l. coefficient_at l k) (sym (shifted-cons n (times rest b))) in
+    let joined : coefficient_at (plus (a ++ 0 ∷ []) row) k + coefficient_at later k ≡ coefficient_at (plus a (shifted n (times (x ∷ rest) b))) k =
+    omega (arith, coefficient_at-plus (a ++ 0 ∷ []) row k, coefficient_at-zero_behind a k, coefficient_at-plus a (shifted n (times (x ∷ rest) b)) k, coefficient_at-shifted_plus n (multiple x b) (0 ∷ times rest b) k) in
+    ap (λ m. m % p) (coefficient_at-plus c (shifted (suc n) (times rest b)) k ∙ ap (λ m. coefficient_at c k + m) behind)
+    ∙ sum_alike p (coefficient_at c k) (coefficient_at (plus (a ++ 0 ∷ []) row) k) (coefficient_at later k) (coefficient_at later k) (e k) refl
+    ∙ ap (λ m. m % p) joined ∙ same k
+
+-- no row is left
+pub product_end : (p n : ℕ) (a b : Coefficients) → SameUnivariate p (plus a (shifted n (times [] b))) a
+product_end p n a b k =
+    ap (λ m. m % p) (coefficient_at-plus a (shifted n []) k ∙ omega (arith, coefficient_at-shifted_zero n k))
+
+-- zeros are no summand
+pub zeros_added : (p : ℕ) (a b : Coefficients) → SameUnivariate p a [] → SameUnivariate p (plus a b) b
+zeros_added p a b e k = plus_alike p a [] b b e (λ j. refl) k
+
 -- once a polynomial is the polynomial
 pub multiple_by_one : (p c : ℕ) (a : Coefficients) → c % p ≡ 1 % p → SameUnivariate p (multiple c a) a
 multiple_by_one p c a e k =

@@ -1,6 +1,7 @@
 -- Rows of elements of a field, seen as lists of residues.
 use Rattle.std.proofs.Common.{◌≡◌, ◌≢◌, ℕ, zero, suc, ◌+◌, ◌-◌, ◌%◌, ◌<◌, ◌≤◌, List, [], ◌∷◌, ◌++◌, length, get_or, map, take, drop, set, replicate, refl, sym, ap, ap₂, ◌∙◌, arith, append_assoc, drop-cons, add-one, Some, None}
-use Rattle.std.proofs.lemmas.List.{take_at, take_more_set, drop-set-lt, map-append, take-append-drop}
+use borrow.Rule.Slice.PartMut.{put_mid}
+use Rattle.std.proofs.lemmas.List.{append-nil, drop_all, length-drop, take_at, take_more_set, drop-set-lt, map-append, take-append-drop}
 use Rattle.ffc_uni.specs.Univariate.{Coefficients, coefficient_at, SameUnivariate, IsNormal}
 use Rattle.ffc_uni.specs.Rows.{leading}
 use Rattle.ffc_uni.proofs.Coefficients.{coefficient_at-zero_behind}
@@ -27,6 +28,12 @@ unwritten_behind xs i y = drop-set-lt (i + 1) xs i y (omega arith)
 -- what a slice of a whole vector is written back as
 pub written_back : {A : Type 0} (n : ℕ) (xs ys : List A) → length xs ≡ n → take n (xs ++ drop (length xs) ys) ≡ xs
 written_back n xs ys e = take_at xs (drop (length xs) ys) n e
+
+-- the same of a slice from a place on
+pub part_written_back : {A : Type 0} (n : ℕ) (xs ys : List A) → n ≤ length xs → put_mid n (length xs - n) xs ys ≡ take n xs ++ ys
+part_written_back n xs ys h =
+    let none : drop (length xs - n) (drop n xs) ≡ [] = drop_all (length xs - n) (drop n xs) (omega (arith, length-drop n xs)) in
+    ap (λ l. take n xs ++ (ys ++ l)) none ∙ ap (λ l. take n xs ++ l) (append-nil ys)
 
 module _ {F : Type 0} (value : F → ℕ) where
   pub length-residues : (xs : List F) → length (map value xs) ≡ length xs

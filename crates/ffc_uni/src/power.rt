@@ -80,15 +80,7 @@ pub fn pow_mod<F: Field>(
     for place in (0..64u32).rev() {
         let front = exponent >> place;
         if front > 0 {
-            power = next_power(
-                &power,
-                base,
-                front % 2 == 1,
-                f,
-                inverse,
-                &mut buffer,
-                meter,
-            )?;
+            power = next_power(&power, base, front % 2 == 1, f, inverse, &mut buffer, meter)?;
         }
     }
     Ok(power)

@@ -162,12 +162,7 @@ pub fn leading_inverse<F: Field>(row: &[F]) -> F
 }
 
 /// The quotient, from the highest coefficient on.
-fn quotient<F: Field>(
-    alloc: Global,
-    row: &[F],
-    by: &[F],
-    inverse: F,
-) -> Result<Vec<F>, AllocError>
+fn quotient<F: Field>(alloc: Global, row: &[F], by: &[F], inverse: F) -> Result<Vec<F>, AllocError>
     requires nonzero { 1 ≤ length by.now }
     requires inverse { mul_mod F.ORDER (leading (map F.value by.now)) (F.value inverse) ≡ 1 }
     ensures long { IfOk result (λ q. length q.items ≡ length row.now - (length by.now - 1)) }
