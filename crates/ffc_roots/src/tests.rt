@@ -1,3 +1,5 @@
+mod known;
+
 use crate::{RootStop, from_univariate, roots, to_univariate};
 use ffc_base::Meter;
 use ffc_field::{BabyBear, F2, F3, F5, F17, F65537, Field, Goldilocks, KoalaBear};

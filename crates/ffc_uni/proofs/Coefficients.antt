@@ -84,7 +84,7 @@ coefficient_at-shifted_plus zero a b k = coefficient_at-plus a b k
 coefficient_at-shifted_plus (suc n) a b zero = refl
 coefficient_at-shifted_plus (suc n) a b (suc k) = coefficient_at-shifted_plus n a b k
 
-coefficient_at-shifted_zero : (n k : ℕ) → coefficient_at (shifted n []) k ≡ 0
+pub coefficient_at-shifted_zero : (n k : ℕ) → coefficient_at (shifted n []) k ≡ 0
 coefficient_at-shifted_zero zero k = refl
 coefficient_at-shifted_zero (suc n) zero = refl
 coefficient_at-shifted_zero (suc n) (suc k) = coefficient_at-shifted_zero n k

@@ -2,6 +2,7 @@ pub mod ChainLemmas
 pub mod Coefficients
 pub mod DigitLemmas
 pub mod EqualityLemmas
+pub mod Convolutions
 pub mod Divisions
 pub mod Passes
 pub mod PowerLemmas

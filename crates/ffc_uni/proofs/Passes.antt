@@ -23,12 +23,12 @@ negated_product p a y c positive within =
     whole_added p ((p - a) * y + c) (c + (p - a * y % p)) (a * y / p + 1) y (omega arith)
 
 -- what was subtracted is added again
-pub restored : (p q b c : ℕ) → 0 < p → (q * b + sub_mod p c (mul_mod p q b)) % p ≡ c % p
-restored p q b c positive =
-    let whole : p * (q * b / p) + q * b % p ≡ q * b = div-add-mod (q * b) p in
-    let below : q * b % p < p = mod-lt (q * b) positive in
-    add-mod-mod (q * b) (c + (p - q * b % p)) p
-    ∙ whole_added p (q * b + (c + (p - q * b % p))) c 0 (q * b / p + 1) (omega arith)
+pub restored : (p t c : ℕ) → 0 < p → (t + sub_mod p c (t % p)) % p ≡ c % p
+restored p t c positive =
+    let whole : p * (t / p) + t % p ≡ t = div-add-mod t p in
+    let below : t % p < p = mod-lt t positive in
+    add-mod-mod t (c + (p - t % p)) p
+    ∙ whole_added p (t + (c + (p - t % p))) c 0 (t / p + 1) (omega arith)
 
 pub added_product : (p y c r : ℕ) → add_mod p y (mul_mod p c r) % p ≡ (y + c * r) % p
 added_product p y c r = mod-mod (y + c * r % p) p ∙ add-mod-mod y (c * r) p
@@ -92,24 +92,3 @@ SameUnivariate-root_row p a row positive within k =
     (coefficient_at-plus (multiple (p - a) row) (0 ∷ row) k
     ∙ ap (λ n. coefficient_at (multiple (p - a) row) k + n) (shift_once row k)
     ∙ sym (coefficient_at-plus (multiple (p - a) row) (0 ∷ times (1 ∷ []) row) k))
-
--- ---- q times a divisor, taken from c and a window behind it
-
-abbrev pub reduced : ℕ → ℕ → ℕ → Coefficients → Coefficients → Coefficients
-reduced p q c [] by = []
-reduced p q c (y ∷ row) [] = []
-reduced p q c (y ∷ row) (b ∷ by) = sub_mod p c (mul_mod p q b) ∷ reduced p q y row by
-
-pub SameUnivariate-reduced : (p q c : ℕ) (row by : Coefficients) → 0 < p → length by ≡ suc (length row) → mul_mod p q (leading by) ≡ leading (c ∷ row) → SameUnivariate p (plus (multiple q by) (reduced p q c row by)) (c ∷ row)
-SameUnivariate-reduced p q c [] [] positive long top = absurd (omega arith)
-SameUnivariate-reduced p q c [] (b ∷ []) positive long top = elim [
-  | zero ↦ sym (mod-mod (q * b) p) ∙ ap (λ n. n % p) top
-  | suc k ↦ refl
-]
-SameUnivariate-reduced p q c [] (b ∷ d ∷ by) positive long top = absurd (omega arith)
-SameUnivariate-reduced p q c (y ∷ row) [] positive long top = absurd (omega arith)
-SameUnivariate-reduced p q c (y ∷ row) (b ∷ []) positive long top = absurd (omega arith)
-SameUnivariate-reduced p q c (y ∷ row) (b ∷ d ∷ by) positive long top = elim [
-  | zero ↦ restored p q b c positive
-  | suc k ↦ SameUnivariate-reduced p q y row (d ∷ by) positive (omega arith) top k
-]

@@ -2,8 +2,6 @@
 use Rattle.std.proofs.Common.{◌≡◌, ◌≢◌, ℕ, zero, suc, ◌+◌, ◌-◌, ◌%◌, ◌<◌, ◌≤◌, List, [], ◌∷◌, ◌++◌, length, get_or, map, take, drop, set, replicate, refl, sym, ap, ap₂, ◌∙◌, arith, append_assoc, drop-cons, add-one, Some, None}
 use borrow.Rule.Slice.PartMut.{put_mid}
 use Rattle.std.proofs.lemmas.List.{append-nil, drop_all, length-drop, take_at, take_more_set, drop-set-lt, map-append, take-append-drop}
-use Rattle.std.proofs.lemmas.Option.{get_or_from_slice_get, slice_get-get_or}
-use Rattle.std.specs.List.{slice_get}
 use Rattle.ffc_uni.specs.Univariate.{Coefficients, coefficient_at, SameUnivariate, IsNormal}
 use Rattle.ffc_uni.specs.Rows.{leading}
 use Rattle.ffc_uni.proofs.Coefficients.{coefficient_at-zero_behind}
@@ -74,15 +72,6 @@ module _ {F : Type 0} (value : F → ℕ) where
   leading_at (y ∷ []) (suc i) x h e = absurd (omega arith)
   leading_at (y ∷ z ∷ ys) zero x h e = absurd (omega arith)
   leading_at (y ∷ z ∷ ys) (suc i) x h e = leading_at (z ∷ ys) i x (omega arith) e
-
-  -- the same of an element that was looked up
-  pub leading_read : (c : ℕ) (xs : List F) (x : F) → Some x ≡ slice_get xs (length xs - 1) → leading (c ∷ map value xs) ≡ value x
-  leading_read c [] x e = absurd (cc e)
-  leading_read c (y ∷ ys) x e = leading_at (y ∷ ys) (length (y ∷ ys) - 1) x (omega arith) (sym (get_or_from_slice_get (y ∷ ys) (length (y ∷ ys) - 1) x x (sym e)))
-
-  pub leading_alone : (c : ℕ) (xs : List F) → None ≡ slice_get xs (length xs - 1) → leading (c ∷ map value xs) ≡ c
-  leading_alone c [] e = refl
-  leading_alone c (y ∷ ys) e = absurd (let some = slice_get-get_or (y ∷ ys) (length (y ∷ ys) - 1) y (omega arith) in cc (e, some))
 
 -- the leading coefficient is not 0
 pub leading-nonzero : (p : ℕ) (a : Coefficients) → IsNormal p a → 1 ≤ length a → leading a ≢ 0

@@ -9,6 +9,7 @@ ghost use Rattle.ffc_field.specs.Modular.{mul_mod};
 ghost use Rattle.ffc_uni.specs.Rows.{leading};
 ghost use Rattle.ffc_uni.specs.Units.{chained, IsCounted};
 
+use crate::row;
 use crate::stop::UniStop;
 use crate::uni::Uni;
 use ffc_base::{Meter, Unit};
@@ -87,12 +88,14 @@ fn indeterminate<F: Field>(alloc: Global) -> Result<Uni<F>, AllocError>
     Uni::from_coefs(alloc, &coefs)
 }
 
-/// The product of two polynomials, divided by f, whose leading coefficient has this inverse. One Chain is taken first.
+/// The product of two polynomials, divided by f, whose leading coefficient has this inverse. One Chain is taken first. The
+/// buffer holds the product, so that many products make it once.
 pub(crate) fn divided_product<F: Field>(
     a: &Uni<F>,
     b: &Uni<F>,
     f: &Uni<F>,
     inverse: F,
+    buffer: &mut Vec<F>,
     meter: &mut Meter,
 ) -> Result<(Uni<F>, Uni<F>), UniStop>
     requires f { f.now ≢ [] }
@@ -103,8 +106,28 @@ pub(crate) fn divided_product<F: Field>(
     ensures counted { IsCounted 1 meter.old meter.new result }
 {
     meter.take(Unit::Chain)?;
-    let product = a.mul(b)?;
-    Ok(product.div_rem_with(f, inverse)?)
+    row::multiply_into(buffer, a.coefs(), b.coefs())?;
+    Ok(f.divide(buffer.as_slice(), inverse)?)
+}
+
+/// The same of a square.
+pub(crate) fn divided_square<F: Field>(
+    a: &Uni<F>,
+    f: &Uni<F>,
+    inverse: F,
+    buffer: &mut Vec<F>,
+    meter: &mut Meter,
+) -> Result<(Uni<F>, Uni<F>), UniStop>
+    requires f { f.now ≢ [] }
+    requires inverse { mul_mod F.ORDER (leading f.now) (F.value inverse) ≡ 1 }
+    ensures division { IfOk result (λ s. IsDivision F.ORDER f.now (times a.now a.now) s) }
+    ensures lower { IfOk result (λ s. length s.1 < length f.now) }
+    ensures short { IfOk result (λ s. length s.0 ≤ length a.now + (length a.now - 1) - (length f.now - 1)) }
+    ensures counted { IsCounted 1 meter.old meter.new result }
+{
+    meter.take(Unit::Chain)?;
+    row::square_into(buffer, a.coefs())?;
+    Ok(f.divide(buffer.as_slice(), inverse)?)
 }
 
 /// Appends the steps of one more binary digit: the square, and where the digit is 1 the product with `x`.
@@ -114,6 +137,7 @@ fn append_digit<F: Field>(
     f: &Uni<F>,
     inverse: F,
     one: bool,
+    buffer: &mut Vec<F>,
     meter: &mut Meter,
 ) -> Result<(), UniStop>
     requires x { SameUnivariate F.ORDER x.now polynomials.indeterminate }
@@ -124,11 +148,10 @@ fn append_digit<F: Field>(
     ensures steps { OnOk result (IsWithDigit F.ORDER f.now one steps.old steps.new) }
     ensures counted { IsCounted (pairs_over (one ∷ [])) meter.old meter.new result }
 {
-    let last = steps.last_remainder(x);
-    let square = divided_product(last, last, f, inverse, meter)?;
+    let square = divided_square(steps.last_remainder(x), f, inverse, buffer, meter)?;
     steps.push(square)?;
     if one {
-        let next = divided_product(x, steps.last_remainder(x), f, inverse, meter)?;
+        let next = divided_product(x, steps.last_remainder(x), f, inverse, buffer, meter)?;
         steps.push(next)?;
     }
     Ok(())
@@ -144,11 +167,12 @@ fn digit_steps<F: Field>(alloc: Global, f: &Uni<F>, meter: &mut Meter) -> Result
     let x = indeterminate(alloc)?;
     let inverse = f.leading_inverse();
     let mut steps = Steps::new(alloc);
+    let mut buffer = Vec::new(alloc);
     let mut place = 63 - F::ORDER.leading_zeros();
     while place > 0 {
         place -= 1;
         let one = (F::ORDER >> place) % 2 == 1;
-        append_digit(&mut steps, &x, f, inverse, one, meter)?;
+        append_digit(&mut steps, &x, f, inverse, one, &mut buffer, meter)?;
     }
     Ok(steps)
 }

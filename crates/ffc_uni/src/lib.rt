@@ -2,6 +2,7 @@
 #![tactic(auto)]
 
 mod chain;
+mod coefficient;
 pub mod laws;
 mod power;
 mod row;

@@ -7,7 +7,7 @@ ghost use Rattle.ffc_uni.specs.Rows.{leading};
 ghost use Rattle.ffc_uni.specs.Univariate.{Coefficients, SameUnivariate, IsRemainder, raised, with_factor};
 ghost use Rattle.ffc_uni.specs.Units.{chained, IsAtMost};
 
-use crate::chain::divided_product;
+use crate::chain::{divided_product, divided_square};
 use crate::stop::UniStop;
 use crate::uni::Uni;
 use ffc_base::Meter;
@@ -32,6 +32,7 @@ fn next_power<F: Field>(
     one_more: bool,
     f: &Uni<F>,
     inverse: F,
+    buffer: &mut Vec<F>,
     meter: &mut Meter,
 ) -> Result<Uni<F>, UniStop>
     requires f { f.now ≢ [] }
@@ -44,11 +45,11 @@ fn next_power<F: Field>(
     ensures within { OnOk result (total meter.new ≤ meter.new.budget) }
     ensures full { IsErrOf result stops.Spent → total meter.new ≡ meter.new.budget }
 {
-    let (_, square) = divided_product(power, power, f, inverse, meter)?;
+    let (_, square) = divided_square(power, f, inverse, buffer, meter)?;
     if !one_more {
         return Ok(square);
     }
-    let (_, product) = divided_product(base, &square, f, inverse, meter)?;
+    let (_, product) = divided_product(base, &square, f, inverse, buffer, meter)?;
     Ok(product)
 }
 
@@ -75,10 +76,11 @@ pub fn pow_mod<F: Field>(
 {
     let inverse = f.leading_inverse();
     let mut power = one(alloc)?;
+    let mut buffer = Vec::new(alloc);
     for place in (0..64u32).rev() {
         let front = exponent >> place;
         if front > 0 {
-            power = next_power(&power, base, front % 2 == 1, f, inverse, meter)?;
+            power = next_power(&power, base, front % 2 == 1, f, inverse, &mut buffer, meter)?;
         }
     }
     Ok(power)

@@ -1,9 +1,10 @@
 //! Rows: slices of coefficients from the lowest.
-ghost use Rattle.std.specs.Prelude.{◌≡◌, ◌+◌, ◌-◌, ◌<◌, ◌≤◌, suc, [], ◌∷◌, ◌++◌, length, map, max, take, IfOk};
+ghost use Rattle.std.specs.Prelude.{◌≡◌, ℕ, ◌+◌, ◌-◌, ◌*◌, ◌%◌, ◌<◌, ◌≤◌, [], ◌∷◌, ◌++◌, length, map, max, min, take, IfOk, OnOk};
 ghost use Rattle.ffc_field.specs.Modular.{mul_mod};
-ghost use Rattle.ffc_uni.specs.Univariate.{SameUnivariate, IsNormal, plus, multiple, times, product_of_roots, value_of};
-ghost use Rattle.ffc_uni.specs.Rows.{leading, shifted};
+ghost use Rattle.ffc_uni.specs.Univariate.{SameUnivariate, IsNormal, coefficient_at, plus, multiple, times, product_of_roots, value_of};
+ghost use Rattle.ffc_uni.specs.Rows.{leading};
 
+use crate::coefficient::{coefficient, coefficient_from, coefficient_of_square};
 use ffc_field::Field;
 use std::alloc::{AllocError, Global};
 
@@ -54,26 +55,70 @@ pub fn sum<F: Field>(alloc: Global, a: &[F], c: F, b: &[F]) -> Result<Vec<F>, Al
     Ok(out)
 }
 
-/// Adds c*X^place times a row.
-fn add_shifted<F: Field>(out: &mut [F], place: usize, c: F, row: &[F])
-    requires { place + length row.now ≤ length out.old }
-    ensures { SameUnivariate F.ORDER (map F.value out.new) (plus (map F.value out.old) (shifted place (multiple (F.value c) (map F.value row.now)))) }
+/// Appends the coefficients of the product of two rows to an empty one.
+fn append_product<F: Field>(
+    out: &mut Vec<F>,
+    a: &[F],
+    b: &[F],
+    count: usize,
+) -> Result<(), AllocError>
+    requires empty { out.old.items ≡ [] }
+    requires some { 1 ≤ length b.now }
+    requires all { count ≡ length a.now + (length b.now - 1) }
+    ensures product { OnOk result (SameUnivariate F.ORDER (map F.value out.new.items) (times (map F.value a.now) (map F.value b.now))) }
+    ensures long { OnOk result (length out.new.items ≡ count) }
 {
-    add_multiple(&mut out[place..], c, row);
+    for place in 0..count {
+        let next = coefficient(a, b, place);
+        out.push(next)?;
+    }
+    Ok(())
 }
 
-/// The product, with a multiple of b for each coefficient of a, all in one buffer.
-pub fn product<F: Field>(alloc: Global, a: &[F], b: &[F]) -> Result<Vec<F>, AllocError>
-    ensures product { IfOk result (λ v. SameUnivariate F.ORDER (map F.value v.items) (times (map F.value a.now) (map F.value b.now))) }
-    ensures short { IfOk result (λ v. length v.items ≤ length a.now + (length b.now - 1)) }
+/// The product, in place of what the buffer had: each pair of coefficients is multiplied once, and each coefficient of the
+/// product is reduced once.
+pub fn multiply_into<F: Field>(out: &mut Vec<F>, a: &[F], b: &[F]) -> Result<(), AllocError>
+    ensures product { OnOk result (SameUnivariate F.ORDER (map F.value out.new.items) (times (map F.value a.now) (map F.value b.now))) }
+    ensures short { OnOk result (length out.new.items ≤ length a.now + (length b.now - 1)) }
 {
-    let mut out = Vec::new(alloc);
-    out.resize(b.len().saturating_sub(1), F::of(0))?;
-    for (place, coef) in a.iter().enumerate() {
-        out.push(F::of(0))?;
-        add_shifted(out.as_mut_slice(), place, *coef, b);
+    out.clear();
+    if b.is_empty() {
+        return Ok(());
     }
-    Ok(out)
+    match a.len().checked_add(b.len() - 1) {
+        Some(count) => append_product(out, a, b, count),
+        None => Err(AllocError),
+    }
+}
+
+/// Appends the coefficients of the square of a row to an empty one.
+fn append_square<F: Field>(out: &mut Vec<F>, a: &[F], count: usize) -> Result<(), AllocError>
+    requires empty { out.old.items ≡ [] }
+    requires some { 1 ≤ length a.now }
+    requires all { count ≡ length a.now + (length a.now - 1) }
+    ensures square { OnOk result (SameUnivariate F.ORDER (map F.value out.new.items) (times (map F.value a.now) (map F.value a.now))) }
+    ensures long { OnOk result (length out.new.items ≡ count) }
+{
+    for place in 0..count {
+        let next = coefficient_of_square(a, place);
+        out.push(next)?;
+    }
+    Ok(())
+}
+
+/// The square, in place of what the buffer had, with half as many products.
+pub fn square_into<F: Field>(out: &mut Vec<F>, a: &[F]) -> Result<(), AllocError>
+    ensures square { OnOk result (SameUnivariate F.ORDER (map F.value out.new.items) (times (map F.value a.now) (map F.value a.now))) }
+    ensures short { OnOk result (length out.new.items ≤ length a.now + (length a.now - 1)) }
+{
+    out.clear();
+    if a.is_empty() {
+        return Ok(());
+    }
+    match a.len().checked_add(a.len() - 1) {
+        Some(count) => append_square(out, a, count),
+        None => Err(AllocError),
+    }
 }
 
 /// Multiplies by X - root in one pass, and answers the leading coefficient, for which there is no place.
@@ -116,37 +161,46 @@ pub fn leading_inverse<F: Field>(row: &[F]) -> F
     }
 }
 
-/// Takes q times the divisor from X times the window and `low`, where the leading coefficients cancel, in one pass.
-fn subtract_shifted<F: Field>(window: &mut [F], low: F, q: F, by: &[F])
-    requires long { length by.now ≡ suc (length window.old) }
-    requires cancels { mul_mod F.ORDER (F.value q) (leading (map F.value by.now)) ≡ leading (F.value low ∷ map F.value window.old) }
-    ensures { SameUnivariate F.ORDER (plus (multiple (F.value q) (map F.value by.now)) (map F.value window.new)) (F.value low ∷ map F.value window.old) }
-{
-    let scale = q.neg();
-    let mut below = low;
-    for place in 0..window.len() {
-        let coef = window[place];
-        window[place] = below.add_scaled(scale, by[place]);
-        below = coef;
-    }
-}
-
-/// One step of a division: the window becomes the remainder of X times it and `low`. The answer is the quotient, a constant.
-fn divide_shifted<F: Field>(window: &mut [F], low: F, by: &[F], inverse: F) -> F
-    requires long { length by.now ≡ suc (length window.old) }
+/// The quotient, from the highest coefficient on.
+fn quotient<F: Field>(alloc: Global, row: &[F], by: &[F], inverse: F) -> Result<Vec<F>, AllocError>
+    requires nonzero { 1 ≤ length by.now }
     requires inverse { mul_mod F.ORDER (leading (map F.value by.now)) (F.value inverse) ≡ 1 }
-    ensures { SameUnivariate F.ORDER (plus (multiple (F.value result) (map F.value by.now)) (map F.value window.new)) (F.value low ∷ map F.value window.old) }
+    ensures long { IfOk result (λ q. length q.items ≡ length row.now - (length by.now - 1)) }
+    ensures cancels { IfOk result (λ q. (k : ℕ) → length by.now ≤ k + 1 → coefficient_at (times (map F.value q.items) (map F.value by.now)) k % F.ORDER ≡ coefficient_at (map F.value row.now) k % F.ORDER) }
 {
-    let top = match window.last() {
-        Some(top) => *top,
-        None => low,
-    };
-    let q = top.mul(inverse);
-    subtract_shifted(window, low, q, by);
-    q
+    let degree = by.len() - 1;
+    let places = row.len().saturating_sub(degree);
+    let mut quotient = Vec::new(alloc);
+    quotient.resize(places, F::of(0))?;
+    for place in (0..places).rev() {
+        let above = coefficient_from(quotient.as_slice(), by, place + 1, place + degree);
+        let top = row[place + degree].sub(above);
+        quotient[place] = top.mul(inverse);
+    }
+    Ok(quotient)
 }
 
-/// Quotient and remainder, by long division from the highest coefficient on: the window holds the remainder so far.
+/// The remainder, with the quotient at hand.
+fn remainder<F: Field>(
+    alloc: Global,
+    row: &[F],
+    by: &[F],
+    quotient: &[F],
+) -> Result<Vec<F>, AllocError>
+    requires nonzero { 1 ≤ length by.now }
+    ensures long { IfOk result (λ r. length r.items ≡ min (length row.now) (length by.now - 1)) }
+    ensures left { IfOk result (λ r. (k : ℕ) → k < length r.items → (coefficient_at (times (map F.value quotient.now) (map F.value by.now)) k + coefficient_at (map F.value r.items) k) % F.ORDER ≡ coefficient_at (map F.value row.now) k % F.ORDER) }
+{
+    let mut out = Vec::new(alloc);
+    for place in 0..row.len().min(by.len() - 1) {
+        let product = coefficient(quotient, by, place);
+        let left = row[place].sub(product);
+        out.push(left)?;
+    }
+    Ok(out)
+}
+
+/// Quotient and remainder, by long division. Each coefficient of both is a sum of products that is reduced once.
 pub fn quotient_and_remainder<F: Field>(
     alloc: Global,
     row: &[F],
@@ -159,13 +213,7 @@ pub fn quotient_and_remainder<F: Field>(
     ensures lower { IfOk result (λ d. length d.1.items < length by.now) }
     ensures short { IfOk result (λ d. length d.0.items ≡ length row.now - (length by.now - 1)) }
 {
-    let places = row.len().saturating_sub(by.len() - 1);
-    let mut window = Vec::new(alloc);
-    window.extend_from_slice(&row[places..])?;
-    let mut quotient = Vec::new(alloc);
-    for place in (0..places).rev() {
-        quotient.push(divide_shifted(window.as_mut_slice(), row[place], by, inverse))?;
-    }
-    quotient.reverse();
-    Ok((quotient, window))
+    let quotient = quotient(alloc, row, by, inverse)?;
+    let remainder = remainder(alloc, row, by, quotient.as_slice())?;
+    Ok((quotient, remainder))
 }

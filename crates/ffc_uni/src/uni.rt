@@ -139,8 +139,9 @@ impl<F: Field> Uni<F> {
         ensures short { IfOk result (λ r. length r ≤ length self.now + (length other.now - 1)) }
         ensures value { IfOk result (λ r. (x : ℕ) → value_of F.ORDER x r ≡ mul_mod F.ORDER (value_of F.ORDER x self.now) (value_of F.ORDER x other.now)) }
     {
-        let alloc = *self.coefs.allocator();
-        Ok(Self::from_row(row::product(alloc, self.coefs(), other.coefs())?))
+        let mut product = Vec::new(*self.coefs.allocator());
+        row::multiply_into(&mut product, self.coefs(), other.coefs())?;
+        Ok(Self::from_row(product))
     }
 
     /// The product of the X - root: one pass over it for each root.
@@ -160,14 +161,14 @@ impl<F: Field> Uni<F> {
     }
 
     /// Quotient Q and remainder R with self = Q*by + R, where R is 0 or of lower degree than `by`. The leading coefficient
-    /// of `by` is inverted once; then one pass over `by` for each coefficient of Q.
+    /// of `by` is inverted once. Each coefficient of Q and R is a sum of products that is reduced once.
     pub fn div_rem(&self, by: &Self) -> Result<(Self, Self), AllocError>
         requires { by.now ≢ [] }
         ensures division { IfOk result (λ d. SameUnivariate F.ORDER self.now (plus (times d.0 by.now) d.1)) }
         ensures lower { IfOk result (λ d. length d.1 < length by.now) }
         ensures short { IfOk result (λ d. length d.0 ≤ length self.now - (length by.now - 1)) }
     {
-        self.div_rem_with(by, by.leading_inverse())
+        by.divide(self.coefs(), by.leading_inverse())
     }
 
     /// The remainder of the division by another polynomial.
@@ -180,22 +181,17 @@ impl<F: Field> Uni<F> {
         Ok(remainder)
     }
 
-    /// As `div_rem`, with the inverse of the leading coefficient of `by` at hand, so that many divisions find it once.
-    pub(crate) fn div_rem_with(&self, by: &Self, inverse: F) -> Result<(Self, Self), AllocError>
-        requires nonzero { by.now ≢ [] }
-        requires inverse { mul_mod F.ORDER (leading by.now) (F.value inverse) ≡ 1 }
-        ensures division { IfOk result (λ d. SameUnivariate F.ORDER self.now (plus (times d.0 by.now) d.1)) }
-        ensures lower { IfOk result (λ d. length d.1 < length by.now) }
-        ensures short { IfOk result (λ d. length d.0 ≤ length self.now - (length by.now - 1)) }
+    /// Quotient and remainder of a row by this polynomial, with the inverse of its leading coefficient at hand, so that many
+    /// divisions find it once.
+    pub(crate) fn divide(&self, row: &[F], inverse: F) -> Result<(Self, Self), AllocError>
+        requires nonzero { self.now ≢ [] }
+        requires inverse { mul_mod F.ORDER (leading self.now) (F.value inverse) ≡ 1 }
+        ensures division { IfOk result (λ d. SameUnivariate F.ORDER (map F.value row.now) (plus (times d.0 self.now) d.1)) }
+        ensures lower { IfOk result (λ d. length d.1 < length self.now) }
+        ensures short { IfOk result (λ d. length d.0 ≤ length row.now - (length self.now - 1)) }
     {
         let alloc = *self.coefs.allocator();
-        let divisor = by.coefs();
-        let (quotient, remainder) = row::quotient_and_remainder(
-            alloc,
-            self.coefs(),
-            divisor,
-            inverse,
-        )?;
+        let (quotient, remainder) = row::quotient_and_remainder(alloc, row, self.coefs(), inverse)?;
         Ok((Self::from_row(quotient), Self::from_row(remainder)))
     }
 

@@ -19,14 +19,14 @@ returns-in_err-push-2-clause-counted g c =
 
 pub returns-in_ok-push-2-clause-steps : goal.returns-in_ok-push-2-clause-steps
 returns-in_ok-push-2-clause-steps g c =
-    with_next _ _ _ _ _ _ _ _ _ _ _ c.requires.x c.last_remainder-last.ensures c.last_remainder.ensures c.if-one.true
+    with_next _ _ _ _ _ _ _ _ _ _ _ c.requires.x c.last_remainder.ensures c.last_remainder-then-one.ensures c.if-one.true
     c.in_ok-square.ensures.division c.in_ok-square.ensures.lower
-    (omega (arith, c.in_ok-square.ensures.short, c.requires.f, ap length c.last_remainder-last.ensures, last_short c.args.f.now c.args.x.now c.args.steps.now (omega (arith, c.requires.short, c.requires.f)) c.requires.lower)) c.in_ok-push.ensures.ok
+    (omega (arith, c.in_ok-square.ensures.short, c.requires.f, ap length c.last_remainder.ensures, last_short c.args.f.now c.args.x.now c.args.steps.now (omega (arith, c.requires.short, c.requires.f)) c.requires.lower)) c.in_ok-push.ensures.ok
     c.in_ok-next.ensures.division c.in_ok-next.ensures.lower
-    (omega (arith, c.in_ok-next.ensures.short, c.requires.short, c.requires.f, c.in_ok-square.ensures.lower, ap length (c.last_remainder.ensures ∙ ap (last_remainder c.args.x.now) c.in_ok-push.ensures.ok ∙ last_remainder-push c.args.x.now c.args.steps.now c.in_ok-square.square))) c.in_ok-push-2.ensures.ok
+    (omega (arith, c.in_ok-next.ensures.short, c.requires.short, c.requires.f, c.in_ok-square.ensures.lower, ap length (c.last_remainder-then-one.ensures ∙ ap (last_remainder c.args.x.now) c.in_ok-push.ensures.ok ∙ last_remainder-push c.args.x.now c.args.steps.now c.in_ok-square.square))) c.in_ok-push-2.ensures.ok
 
 pub returns-else-one-clause-steps : goal.returns-else-one-clause-steps
 returns-else-one-clause-steps g c =
-    with_square _ _ _ _ _ _ _ _ c.requires.x c.last_remainder-last.ensures c.if-one.false
+    with_square _ _ _ _ _ _ _ _ c.requires.x c.last_remainder.ensures c.if-one.false
     c.in_ok-square.ensures.division c.in_ok-square.ensures.lower
-    (omega (arith, c.in_ok-square.ensures.short, c.requires.f, ap length c.last_remainder-last.ensures, last_short c.args.f.now c.args.x.now c.args.steps.now (omega (arith, c.requires.short, c.requires.f)) c.requires.lower)) c.in_ok-push.ensures.ok
+    (omega (arith, c.in_ok-square.ensures.short, c.requires.f, ap length c.last_remainder.ensures, last_short c.args.f.now c.args.x.now c.args.steps.now (omega (arith, c.requires.short, c.requires.f)) c.requires.lower)) c.in_ok-push.ensures.ok

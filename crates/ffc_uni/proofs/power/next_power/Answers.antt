@@ -15,9 +15,15 @@ returns-then-not-one_more-clause-power g c = λ a of.
 
 pub returns-in_err-product-clause-units : goal.returns-in_err-product-clause-units
 returns-in_err-product-clause-units g c =
-    at_most_later 1 1 c.args.meter.now c.divided_product.new.meter c.divided_product-2.new.meter
+    at_most_later 1 1 c.args.meter.now c.divided_square.new.meter c.divided_product.new.meter
     (1, omega arith, c.in_ok-square.ensures.counted.0)
-    (stopped_at_most 1 c.divided_product.new.meter c.divided_product-2.new.meter _ c.in_err-product.ensures.counted)
+    (stopped_at_most 1 c.divided_square.new.meter c.divided_product.new.meter _ c.in_err-product.ensures.counted)
+
+pub returns-clause-units : goal.returns-clause-units
+returns-clause-units g c =
+    at_most_later 1 1 c.args.meter.now c.divided_square.new.meter c.divided_product.new.meter
+    (1, omega arith, c.in_ok-square.ensures.counted.0)
+    (1, omega arith, c.in_ok-product.ensures.counted.0)
 
 pub returns-clause-power : goal.returns-clause-power
 returns-clause-power g c = λ a of.

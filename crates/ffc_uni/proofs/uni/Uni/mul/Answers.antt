@@ -10,6 +10,6 @@ returns-clause-value g c =
     let b = c.args.other.now in
     let same : SameUnivariate p c.from_row.result (times a b) = λ k.
     c.from_row.ensures.same k
-    ∙ c.in_ok-product.ensures.product k
+    ∙ c.in_ok-multiply_into.ensures.product k
     ∙ ap₂ (λ l m. coefficient_at (times l m) k % p) c.coefs.ensures.value c.coefs-2.ensures.value in
     λ x. one_value p x c.from_row.result (times a b) same ∙ value_of-times p x a b
