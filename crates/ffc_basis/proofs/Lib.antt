@@ -1,5 +1,6 @@
 pub mod AddedLemmas
 pub mod BoundLemmas
+pub mod ChainLemmas
 pub mod CoprimeLemmas
 pub mod FewLemmas
 pub mod LineLemmas

@@ -41,7 +41,7 @@ twice_negated p x h =
     dropped_mod p ((p - 1) * y) x y h (ap (λ k. k % p) first ∙ mul-mod_right p y ∙ sym (ap (λ k. k % p) (whole_times p x h) ∙ mul-mod_right p x))
 
 -- inverses of one number are the same
-inverse_only : (p k l c : ℕ) → mul_mod p k c ≡ 1 → mul_mod p l c ≡ 1 → k % p ≡ l % p
+pub inverse_only : (p k l c : ℕ) → mul_mod p k c ≡ 1 → mul_mod p l c ≡ 1 → k % p ≡ l % p
 inverse_only p k l c e f =
     ap (λ x. x % p) (sym (mul-one k) ∙ ap (λ x. k * x) (sym f)) ∙ mul-mod_second k (l * c) p ∙ ap (λ x. x % p) (mul_left_comm k l c)
     ∙ sym (mul-mod_second l (k * c) p) ∙ ap (λ x. (l * x) % p) e ∙ ap (λ x. x % p) (mul-one l)

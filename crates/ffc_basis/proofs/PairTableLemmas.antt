@@ -232,7 +232,7 @@ module _ (p : ℕ) (cmp : Monomial → Monomial → Ordering) where
   has_set (y ∷ rs) (suc place) r x i j h is e f (inl here) = inl here
   has_set (y ∷ rs) (suc place) r x i j h is e f (inr there) = inr (has_set rs place r x i j (omega arith) is e f there)
 
-  record_at : (gs : List Terms) (rs : List PairRecord) (place : ℕ) (x : PairRecord) → AreRecords p cmp gs rs → place < length rs → IsRecord p cmp gs (get_or rs place x)
+  pub record_at : (gs : List Terms) (rs : List PairRecord) (place : ℕ) (x : PairRecord) → AreRecords p cmp gs rs → place < length rs → IsRecord p cmp gs (get_or rs place x)
   record_at gs [] place x v h = absurd (omega arith)
   record_at gs (r ∷ rs) zero x v h = v.0
   record_at gs (r ∷ rs) (suc place) x v h = record_at gs rs place x v.1 (omega arith)
@@ -265,10 +265,24 @@ module _ (p : ℕ) (cmp : Monomial → Monomial → Ordering) where
 
   -- ---- no pair is pending
 
-  closed_by_first : (gs : List Terms) (n i j : ℕ) → n ≤ length gs → i < n → j < n → IsPairClosed p cmp (take n gs) i j → IsPairClosed p cmp gs i j
+  pub closed_by_first : (gs : List Terms) (n i j : ℕ) → n ≤ length gs → i < n → j < n → IsPairClosed p cmp (take n gs) i j → IsPairClosed p cmp gs i j
   closed_by_first gs n i j within low after closed =
       subst (λ hs. IsPairClosed p cmp hs i j) (take-append-drop n gs)
       (grown_pairs_close p cmp (take n gs) (drop n gs) i j (omega (arith, length-take-le n gs within)) (omega (arith, length-take-le n gs within)) closed)
+
+  -- what is closed by the first lines is so by all
+  closed_state : (gs : List Terms) (i j : ℕ) (s : PairState) (n : ℕ) → i < j → s ≡ Closed n → IsState p cmp gs i j s → AreBothClosed p cmp gs i j
+  closed_state gs i j s n low is v =
+      let w : IsState p cmp gs i j (Closed n) = subst (IsState p cmp gs i j) is v in (
+        closed_by_first gs n i j w.0 (omega (arith, w.1)) w.1 w.2.0,
+        closed_by_first gs n j i w.0 w.1 (omega (arith, w.1)) w.2.1,
+      )
+
+  -- a record says so of its pair
+  pub closed_record : (gs : List Terms) (rs : List PairRecord) (place : ℕ) (x : PairRecord) (n : ℕ) → AreRecords p cmp gs rs → place < length rs → get_or rs place x ≡ x → x.state ≡ Closed n → AreBothClosed p cmp gs x.first x.second
+  closed_record gs rs place x n v h is closed =
+      let r : IsRecord p cmp gs x = subst (IsRecord p cmp gs) is (record_at gs rs place x v h) in
+      closed_state gs x.first x.second x.state n r.ordered closed r.state
 
   listed_later : (s : PairState) (t : ℕ × ℕ) (ts : List (ℕ × ℕ)) (i j : ℕ) → IsListed ts i j → IsListed (with_over s t ts) i j
   listed_later Pending t ts i j v = v

@@ -40,7 +40,7 @@ middle p a o t r same m =
     (let whole : written o m + written t m + written r m ≡ written ((o ++ r) ++ t) m =
     omega (arith, written-append (o ++ r) t m, written-append o r m) in whole)
 
-combination-append : (gs : List Terms) (xs ys : Parts) → combination gs (xs ++ ys) ≡ combination gs xs ++ combination gs ys
+pub combination-append : (gs : List Terms) (xs ys : Parts) → combination gs (xs ++ ys) ≡ combination gs xs ++ combination gs ys
 combination-append gs [] ys = refl
 combination-append gs (x ∷ xs) ys =
     ap (λ k. product x.1 (get_or gs x.0 []) ++ k) (combination-append gs xs ys)

@@ -1,3 +1,4 @@
+pub mod Chains
 pub mod Completed
 pub mod Completion
 pub mod Lines

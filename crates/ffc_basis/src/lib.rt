@@ -2,6 +2,7 @@
 #![tactic(auto)]
 
 mod basis;
+mod chain;
 mod completion;
 #[cfg(test)]
 mod completion_tests;

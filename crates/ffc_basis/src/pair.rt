@@ -1,5 +1,5 @@
 //! Pairs of lines, and what is known of them.
-ghost use Rattle.std.specs.Prelude.{◌≡◌, ◌∷◌, ◌++◌, ◌↔◌, [], IsTrue, OnOk, OnErr};
+ghost use Rattle.std.specs.Prelude.{◌≡◌, ℕ, ◌∷◌, ◌++◌, ◌↔◌, [], IsTrue, OnOk, OnErr};
 ghost use Rattle.ffc_basis.specs.declared.pair.PairState.TheVariants as states;
 
 use crate::line::LineId;
@@ -74,6 +74,17 @@ impl PairRecord {
         match self.state {
             PairState::Pending => true,
             PairState::Closed(_) => false,
+            PairState::Over(_) => false,
+        }
+    }
+
+    /// Whether it is known to reduce to zero.
+    pub fn is_closed(&self) -> bool
+        ensures { IsTrue result → (n : ℕ) × (self.now.state ≡ states.Closed n) }
+    {
+        match self.state {
+            PairState::Pending => false,
+            PairState::Closed(_) => true,
             PairState::Over(_) => false,
         }
     }

@@ -6,10 +6,11 @@ ghost use Rattle.ffc_basis.specs.Lines.{polys_of, AreLines};
 ghost use Rattle.ffc_basis.specs.Completion.{IsConstantLine};
 ghost use Rattle.ffc_basis.specs.Completed.{IsFront, IsProgress, HasTaken};
 ghost use Rattle.ffc_basis.specs.Outcomes.{IsOutcome};
-ghost use Rattle.ffc_basis.specs.PairTable.{AreNeedless, ArePairs, AreFew, AreSettled, IsJoined, IsPendingAt, seconds, settled_count, known_by, forgotten, with_state, over_of, answer_of};
-ghost use Rattle.ffc_basis.specs.Units.{TakesReductions, IsPairsBound, IsCompletionBound};
+ghost use Rattle.ffc_basis.specs.PairTable.{AreNeedless, ArePairs, AreRecords, AreFew, AreSettled, IsJoined, IsPendingAt, seconds, settled_count, known_by, forgotten, with_state, over_of, answer_of};
+ghost use Rattle.ffc_basis.specs.Units.{TakesReductions, IsPairBound, IsPairsBound, IsCompletionBound};
 ghost use Rattle.ffc_basis.specs.declared.stop.BasisStop.TheVariants as stops;
 
+use crate::chain::is_chained;
 use crate::completion::{Completion, Progress};
 use crate::line::Line;
 use crate::pair::{PairRecord, PairState, Pairs};
@@ -102,7 +103,7 @@ fn forget_after(records: &mut Vec<PairRecord>, len: usize)
 
 /// Whether the S-polynomial of two polynomials has to be reduced: both are not 0, and a variable occurs in both leading
 /// monomials.
-fn is_needed<F: Field, O: MonoOrder>(a: &Poly<F, O>, b: &Poly<F, O>) -> bool
+pub(crate) fn is_needed<F: Field, O: MonoOrder>(a: &Poly<F, O>, b: &Poly<F, O>) -> bool
     ensures { OnFalse result (AreNeedless F.ORDER O.cmp a.now b.now) }
 {
     let _lengths = (a.len(), b.len());
@@ -322,7 +323,30 @@ fn settle<F: Field, O: MonoOrder>(
     }
 }
 
-/// Reduces the S-polynomial of the pair at a place.
+/// What the S-polynomial of two lines gives: it is reduced, where the second criterion doesn't show that it reduces to zero.
+fn outcome_of<F: Field, O: MonoOrder>(
+    alloc: Global,
+    lines: &[Line<F, O>],
+    records: &[PairRecord],
+    i: usize,
+    j: usize,
+    meter: &mut Meter,
+) -> Result<Outcome<F, O>, BasisStop>
+    requires first { i < length lines.now }
+    requires second { j < length lines.now }
+    requires records { AreRecords F.ORDER O.cmp (polys_of lines.now) records.now }
+    ensures outcome { IfOk result (IsOutcome F.ORDER O.cmp (polys_of lines.now) i j) }
+    ensures spent { IsErrOf result stops.Spent → total meter.new ≡ meter.new.budget }
+    ensures takes { TakesReductions meter.old meter.new }
+    ensures bound { IsPairBound F.ORDER O.cmp (polys_of lines.now) meter.old meter.new }
+{
+    if is_chained(alloc, lines, records, i, j)? {
+        return Ok(Outcome::Closed);
+    }
+    reduce_pair(alloc, lines, i, j, meter)
+}
+
+/// Settles the pair at a place.
 fn treat<F: Field, O: MonoOrder>(
     lines: &mut Vec<Line<F, O>>,
     pairing: &mut Pairing,
@@ -345,9 +369,10 @@ fn treat<F: Field, O: MonoOrder>(
 {
     let pair = pairing.records[place];
     meter.take(Unit::Reduction)?;
-    let outcome = reduce_pair(
+    let outcome = outcome_of(
         *lines.allocator(),
         lines.as_slice(),
+        pairing.records.as_slice(),
         pair.first,
         pair.second,
         meter,

@@ -25,7 +25,7 @@ use std::alloc::{AllocError, Global};
 pub(crate) struct SPolynomial<F: Field, O: MonoOrder> {
     first: Step<F>,
     second: Step<F>,
-    poly: Poly<F, O>,
+    pub poly: Poly<F, O>,
 }
 
 impl<F: Field, O: MonoOrder> Drop for SPolynomial<F, O> {
@@ -50,7 +50,7 @@ pub(crate) enum Outcome<F: Field, O: MonoOrder> {
 }
 
 /// The least common multiple of two borrowed monomials.
-fn lcm_of(alloc: Global, m: MonoRef<'_>, n: MonoRef<'_>) -> Result<Mono, PolyStop>
+pub(crate) fn lcm_of(alloc: Global, m: MonoRef<'_>, n: MonoRef<'_>) -> Result<Mono, PolyStop>
     ensures value { IfOk result (λ l. l ≡ mono_lcm m.entry.powers.now n.entry.powers.now) }
     ensures over { IfErr result (λ stop. stop ≢ PolyStop.Memory → 1024 < degree (mono_lcm m.entry.powers.now n.entry.powers.now)) }
 {
@@ -84,7 +84,7 @@ fn difference_of<F: Field, O: MonoOrder>(
 }
 
 /// The S-polynomial of two lines that are not 0.
-fn s_polynomial<F: Field, O: MonoOrder>(
+pub(crate) fn s_polynomial<F: Field, O: MonoOrder>(
     alloc: Global,
     lines: &[Line<F, O>],
     i: usize,

@@ -5,8 +5,10 @@ use Rattle.std.specs.declared.cmp.Ordering.{Ordering}
 use Rattle.ffc_ring.specs.Monomial.{Monomial}
 use Rattle.ffc_ring.specs.Polynomial.{Terms}
 use Rattle.ffc_basis.specs.declared.line.Line.{Line}
-use Rattle.ffc_basis.specs.Completed.{AreAdded}
+use Rattle.ffc_base.specs.Metering.{Spending}
+use Rattle.ffc_basis.specs.Completed.{AreAdded, IsFront}
 use Rattle.ffc_basis.specs.Lines.{Parts, polys_of, AreGenerators}
+use Rattle.ffc_basis.specs.Units.{IsCompletionBound}
 use Rattle.ffc_stack.specs.Generators.{IsGenerator, LeadsTo}
 
 -- the lines, and for each level how many lines there were when it began
@@ -81,6 +83,17 @@ abbrev pub IsCompletedWith : {F O : Type 0} → ℕ → (Monomial → Monomial �
 IsCompletedWith {F} {O} p cmp old new gens =
     (own : List (Line F O)) × (more : List (Line F O)) × (new.lines ≡ (old.lines ++ own) ++ more) × AreGenerators own gens
     × AreAdded p cmp (polys_of (old.lines ++ own)) more
+
+-- These generators, and lines that complete them, were appended when a push was stopped, and the units taken are bounded by
+-- those lines.
+abbrev pub IsStoppedWith : {F O : Type 0} → ℕ → (Monomial → Monomial → Ordering) → Stack F O → List Terms → Spending → Spending → Type 0
+IsStoppedWith {F} {O} p cmp old gens before after =
+    (reached : Stack F O) × IsCompletedWith p cmp old reached gens × IsCompletionBound p cmp (polys_of reached.lines) before after
+
+-- so were lines alone
+abbrev pub IsStoppedAfter : {F O : Type 0} → ℕ → (Monomial → Monomial → Ordering) → Stack F O → Spending → Spending → Type 0
+IsStoppedAfter {F} {O} p cmp old before after =
+    (reached : List (Line F O)) × IsFront p cmp old.lines reached × IsCompletionBound p cmp (polys_of reached) before after
 
 -- lines with parts are appended, and the levels stay
 abbrev pub GoesOn : {F O : Type 0} → Stack F O → Stack F O → Type 0

@@ -9,7 +9,7 @@ ghost use Rattle.ffc_basis.specs.Reduction.{ArePartsAtMost, IsReduced, IsStopped
 ghost use Rattle.ffc_basis.specs.Units.{Takes, TakesReductions, IsReductionBound, IsCompletionBound};
 ghost use Rattle.ffc_basis.specs.declared.stop.BasisStop.TheVariants as stops;
 ghost use Rattle.ffc_stack.specs.Generators.{AreGeneratorsOf};
-ghost use Rattle.ffc_stack.specs.Stacks.{stack_of, generators, levels, joined, LeadToLive, IsBegun, IsPushed, IsCompletedWith, GoesOn, IsPopped};
+ghost use Rattle.ffc_stack.specs.Stacks.{stack_of, generators, levels, joined, LeadToLive, IsBegun, IsPushed, IsCompletedWith, IsStoppedWith, IsStoppedAfter, GoesOn, IsPopped};
 
 use crate::generators::{generators_among, reached_from};
 use ffc_base::Meter;
@@ -67,6 +67,7 @@ impl<F: Field, O: MonoOrder> BasisStack<F, O> {
         ensures takes { Takes meter.old meter.new }
         ensures reductions { TakesReductions meter.old meter.new }
         ensures bound { OnOk result (IsCompletionBound F.ORDER O.cmp (polys_of self.new.lines) meter.old meter.new) }
+        ensures stopped { IsErrOf result stops.Spent → IsStoppedWith F.ORDER O.cmp self.old gens.now meter.old meter.new }
     {
         self.begin(gens)?;
         match self.basis.complete(meter) {
@@ -95,6 +96,7 @@ impl<F: Field, O: MonoOrder> BasisStack<F, O> {
         ensures takes { Takes meter.old meter.new }
         ensures reductions { TakesReductions meter.old meter.new }
         ensures bound { OnOk result (IsCompletionBound F.ORDER O.cmp (polys_of self.new.lines) meter.old meter.new) }
+        ensures stopped { IsErrOf result stops.Spent → IsStoppedWith F.ORDER O.cmp self.old gens.now meter.old meter.new }
     {
         self.begin(gens)?;
         match self.basis.complete_within(units, meter) {
@@ -118,6 +120,7 @@ impl<F: Field, O: MonoOrder> BasisStack<F, O> {
         ensures takes { Takes meter.old meter.new }
         ensures reductions { TakesReductions meter.old meter.new }
         ensures bound { OnOk result (IsCompletionBound F.ORDER O.cmp (polys_of self.new.lines) meter.old meter.new) }
+        ensures stopped { IsErrOf result stops.Spent → IsStoppedAfter F.ORDER O.cmp self.old meter.old meter.new }
     {
         let before = self.basis.lines().len();
         match self.basis.complete_within(units, meter) {

@@ -1,5 +1,6 @@
 use Rattle.std.proofs.Common.{List, length, sym, ap, subst, arith}
 use Rattle.ffc_basis.specs.declared.line.Line.{Line}
+use Rattle.ffc_basis.specs.PairTable.{AreRecords}
 use Rattle.ffc_basis.specs.Units.{IsPairBound}
 use Rattle.ffc_basis.proofs.BoundLemmas.{one_pair, no_pairs}
 use Rattle.ffc_basis.specs.Lines.{polys_of}
@@ -8,15 +9,15 @@ use Rattle.ffc_basis.proofs.Lists.{length-polys}
 use Rattle.ffc_basis.proofs.PairTableLemmas.{record_is}
 use Rattle.ffc_basis.proofs.pairing.treat.Goals as goal
 
-pub reduce_pair-requires-clause-first : goal.reduce_pair-requires-clause-first
-reduce_pair-requires-clause-first g c =
+pub outcome_of-requires-clause-first : goal.outcome_of-requires-clause-first
+outcome_of-requires-clause-first g c =
     let ls = c.args.lines.now.items in
     let pairing = c.args.pairing.now in
     let r = record_is g.F.Field.ORDER g.O.MonoOrder.cmp (polys_of ls) pairing.records.items pairing.joined c.args.place c.index-pair.result.now c.requires.pairs (pending_within pairing.records.items c.args.place c.requires.pending) (sym c.index-pair.ensures) in
     omega (arith, r.ordered, r.within, length-polys ls, ap length c.as_slice.ensures.value)
 
-pub reduce_pair-requires-clause-second : goal.reduce_pair-requires-clause-second
-reduce_pair-requires-clause-second g c =
+pub outcome_of-requires-clause-second : goal.outcome_of-requires-clause-second
+outcome_of-requires-clause-second g c =
     let ls = c.args.lines.now.items in
     let pairing = c.args.pairing.now in
     let r = record_is g.F.Field.ORDER g.O.MonoOrder.cmp (polys_of ls) pairing.records.items pairing.joined c.args.place c.index-pair.result.now c.requires.pairs (pending_within pairing.records.items c.args.place c.requires.pending) (sym c.index-pair.ensures) in
@@ -36,19 +37,27 @@ pub returns-in_err-outcome-clause-bound : goal.returns-in_err-outcome-clause-bou
 returns-in_err-outcome-clause-bound g c =
     let p = g.F.Field.ORDER in
     let cmp = g.O.MonoOrder.cmp in
-    one_pair p cmp (polys_of c.args.lines.now.items) c.args.meter.now c.take.new.self c.reduce_pair.new.meter c.in_ok-take.ensures.taken
-    (subst (λ (ls : List (Line g.row.F.Denot g.row.O.Denot)). IsPairBound p cmp (polys_of ls) c.take.new.self c.reduce_pair.new.meter) c.as_slice.ensures.value c.in_err-outcome.ensures.bound)
+    one_pair p cmp (polys_of c.args.lines.now.items) c.args.meter.now c.take.new.self c.outcome_of.new.meter c.in_ok-take.ensures.taken
+    (subst (λ (ls : List (Line g.row.F.Denot g.row.O.Denot)). IsPairBound p cmp (polys_of ls) c.take.new.self c.outcome_of.new.meter) c.as_slice.ensures.value c.in_err-outcome.ensures.bound)
 
 pub returns-in_err-settle-clause-bound : goal.returns-in_err-settle-clause-bound
 returns-in_err-settle-clause-bound g c =
     let p = g.F.Field.ORDER in
     let cmp = g.O.MonoOrder.cmp in
-    one_pair p cmp (polys_of c.args.lines.now.items) c.args.meter.now c.take.new.self c.reduce_pair.new.meter c.in_ok-take.ensures.taken
-    (subst (λ (ls : List (Line g.row.F.Denot g.row.O.Denot)). IsPairBound p cmp (polys_of ls) c.take.new.self c.reduce_pair.new.meter) c.as_slice.ensures.value c.in_ok-outcome.ensures.bound)
+    one_pair p cmp (polys_of c.args.lines.now.items) c.args.meter.now c.take.new.self c.outcome_of.new.meter c.in_ok-take.ensures.taken
+    (subst (λ (ls : List (Line g.row.F.Denot g.row.O.Denot)). IsPairBound p cmp (polys_of ls) c.take.new.self c.outcome_of.new.meter) c.as_slice.ensures.value c.in_ok-outcome.ensures.bound)
 
 pub returns-clause-bound : goal.returns-clause-bound
 returns-clause-bound g c =
     let p = g.F.Field.ORDER in
     let cmp = g.O.MonoOrder.cmp in
-    one_pair p cmp (polys_of c.args.lines.now.items) c.args.meter.now c.take.new.self c.reduce_pair.new.meter c.in_ok-take.ensures.taken
-    (subst (λ (ls : List (Line g.row.F.Denot g.row.O.Denot)). IsPairBound p cmp (polys_of ls) c.take.new.self c.reduce_pair.new.meter) c.as_slice.ensures.value c.in_ok-outcome.ensures.bound)
+    one_pair p cmp (polys_of c.args.lines.now.items) c.args.meter.now c.take.new.self c.outcome_of.new.meter c.in_ok-take.ensures.taken
+    (subst (λ (ls : List (Line g.row.F.Denot g.row.O.Denot)). IsPairBound p cmp (polys_of ls) c.take.new.self c.outcome_of.new.meter) c.as_slice.ensures.value c.in_ok-outcome.ensures.bound)
+
+pub outcome_of-requires-clause-records : goal.outcome_of-requires-clause-records
+outcome_of-requires-clause-records g c =
+    let p = g.F.Field.ORDER in
+    let cmp = g.O.MonoOrder.cmp in
+    let pairing = c.args.pairing.now in
+    subst (λ (ls : List (Line g.row.F.Denot g.row.O.Denot)). AreRecords p cmp (polys_of ls) c.as_slice-2.result.now) (sym c.as_slice.ensures.value)
+    (subst (AreRecords p cmp (polys_of c.args.lines.now.items)) (sym c.as_slice-2.ensures.value) c.requires.pairs.records)

@@ -1,4 +1,4 @@
-use Rattle.std.proofs.Common.{ap, ◌∙◌, subst}
+use Rattle.std.proofs.Common.{sym, ap, ◌∙◌, subst}
 use Rattle.ffc_basis.specs.Completed.{IsFront}
 use Rattle.ffc_stack.specs.Stacks.{Stack, stack_of, levels, GoesOn}
 use Rattle.ffc_stack.proofs.StackLemmas.{front_invariant, front_levels, front_goes_on}
@@ -22,3 +22,10 @@ returns-in-Ok-clause-level g c =
 pub returns-in-Ok-clause-added : goal.returns-in-Ok-clause-added
 returns-in-Ok-clause-added g c =
     subst (λ (s : Stack g.row.F.Denot g.row.O.Denot). IsFront g.F.Field.ORDER g.O.MonoOrder.cmp s.lines c.complete_within.new.self) c.self.view_is c.complete_within.ensures.stays
+
+pub returns-in-Err-clause-stopped : goal.returns-in-Err-clause-stopped
+returns-in-Err-clause-stopped g c = λ spent. (
+  c.complete_within.new.self,
+  subst (λ (s : Stack g.row.F.Denot g.row.O.Denot). IsFront g.F.Field.ORDER g.O.MonoOrder.cmp s.lines c.complete_within.new.self) c.self.view_is c.complete_within.ensures.stays,
+  c.in-Err.ensures.bound (λ memory. absurd (cc (sym spent ∙ memory))),
+)

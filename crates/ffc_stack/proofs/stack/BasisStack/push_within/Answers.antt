@@ -31,3 +31,16 @@ returns-in-Ok-clause-added g c =
     let begun : IsBegun old (stack_of inside.basis inside.marks.items) c.args.gens.now =
     subst (λ (s : Stack g.row.F.Denot g.row.O.Denot). IsBegun old s c.args.gens.now) (sym c.self.view_is) c.in_ok-begin.ensures.begun in
     front_completed g.F.Field.ORDER g.O.MonoOrder.cmp old inside.basis c.complete_within.new.self inside.marks.items c.args.gens.now begun c.complete_within.ensures.stays
+
+pub returns-in-Err-clause-stopped : goal.returns-in-Err-clause-stopped
+returns-in-Err-clause-stopped g c = λ spent.
+    let p = g.F.Field.ORDER in
+    let cmp = g.O.MonoOrder.cmp in
+    let inside = c.self.inside in
+    let old : Stack g.row.F.Denot g.row.O.Denot = c.args.self.now in
+    let begun : IsBegun old (stack_of inside.basis inside.marks.items) c.args.gens.now =
+    subst (λ (s : Stack g.row.F.Denot g.row.O.Denot). IsBegun old s c.args.gens.now) (sym c.self.view_is) c.in_ok-begin.ensures.begun in (
+      stack_of c.complete_within.new.self inside.marks.items,
+      front_completed p cmp old inside.basis c.complete_within.new.self inside.marks.items c.args.gens.now begun c.complete_within.ensures.stays,
+      c.in-Err.ensures.bound (λ memory. absurd (cc (sym spent ∙ memory))),
+    )
