@@ -4,11 +4,7 @@ use Rattle.std.specs.Prelude.{if◌then◌else◌, ◌⊎◌}
 use Rattle.std.specs.List.{AllByRecursion}
 use Rattle.ffc_cert.specs.declared.flaws.Flaw.{Flaw}
 use Rattle.ffc_cert.specs.Items.{◌>>=◌}
-
--- what may stand behind an item
-abbrev pub IsCut : List ℕ → Type 0
-IsCut [] = Unit {0}
-IsCut (c ∷ bytes) = c ≡ 32
+use Rattle.ffc_cert.specs.Cuts.{IsCut}
 
 -- no byte ends a line
 abbrev pub IsPlain : List ℕ → Type 0

@@ -16,7 +16,8 @@ use Rattle.ffc_cert.specs.Spelling.{number, literal, counted, multiple, order_it
 use Rattle.ffc_cert.specs.Ranges.{IsOrder, IsLine}
 use Rattle.ffc_cert.specs.WellFormed.{LineFitsVersion}
 use Rattle.ffc_cert.specs.Laws.{IsVersion}
-use Rattle.ffc_cert.proofs.Codes.{IsCut, IsPlain, IsText, IsCode, bound, branch, chosen, same_parts, Is}
+use Rattle.ffc_cert.specs.Cuts.{IsCut}
+use Rattle.ffc_cert.proofs.Codes.{IsPlain, IsText, IsCode, bound, branch, chosen, same_parts, Is}
 use Rattle.ffc_cert.proofs.NumberCodes.{IsItem, narrow_code, wide_code, literal_code, word_front, word_behind, front_behind, is_same, differs}
 use Rattle.ffc_cert.proofs.ListCodes.{counted_code, pair_reads, pair_gives, pair_plain, triple_reads, triple_gives, triple_plain}
 use Rattle.ffc_cert.proofs.TermCodes.{multiple_code}

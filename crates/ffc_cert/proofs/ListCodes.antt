@@ -5,7 +5,8 @@ use Rattle.ffc_cert.specs.declared.flaws.Flaw.{Flaw}
 use Rattle.ffc_cert.specs.Items.{◌>>=◌, many_at, counted_at}
 use Rattle.ffc_cert.specs.Spelling.{number, counted}
 use Rattle.ffc_cert.specs.Ranges.{IsCounted}
-use Rattle.ffc_cert.proofs.Codes.{IsCut, IsPlain, plain_append, IsText, IsCode, bound, same_parts}
+use Rattle.ffc_cert.specs.Cuts.{IsCut}
+use Rattle.ffc_cert.proofs.Codes.{IsPlain, plain_append, IsText, IsCode, bound, same_parts}
 use Rattle.ffc_cert.proofs.NumberCodes.{narrow_code}
 
 pub all_map : {A : Type 0} (P Q : A → Type 0) (xs : List A) → ((x : A) → P x → Q x) → AllByRecursion P xs → AllByRecursion Q xs

@@ -14,7 +14,8 @@ use Rattle.ffc_cert.specs.Items.{is_blank, first_item, behind_item, item_at, is_
 use Rattle.ffc_cert.specs.Spelling.{number, literal}
 use Rattle.ffc_cert.specs.Ranges.{IsNarrow, IsWide, IsLiteral}
 use Rattle.ffc_cert.proofs.NumberLemmas.{AreDigits, own, both, digits_parts}
-use Rattle.ffc_cert.proofs.Codes.{IsCut, IsPlain, IsText, IsCode, bound, chosen, Is, same_parts}
+use Rattle.ffc_cert.specs.Cuts.{IsCut, BeginsWith}
+use Rattle.ffc_cert.proofs.Codes.{IsPlain, IsText, IsCode, bound, chosen, Is, same_parts}
 
 -- an item without a blank
 abbrev pub IsItem : List ℕ → Type 0
@@ -176,6 +177,20 @@ module _ (limit : ℕ) (wide : limit ≤ 2 ^ 64) where
     gives = λ bytes n rest h. number_gives bytes n rest h;
   }
 
+canonical_digits : (ds : List ℕ) → AreDigits ds → is_canonical ds ≡ true → is_digits ds ≡ true
+unfolding is_digits is_canonical
+canonical_digits [] all h = absurd (cc)
+canonical_digits (d ∷ ds) all h = let tested : nat_lt 0 (length (d ∷ ds)) ≡ true = grind (arith, nat_tests) in rw (tested, all) refl
+
+-- a number at the front of a line, after a space
+pub number_reads : (bytes : List ℕ) (n : ℕ) (rest : List ℕ) → BeginsWith bytes n rest → (limit : ℕ) → n < limit → number_at limit (32 ∷ bytes) ≡ Ok (n, rest)
+unfolding number_at number_in number_of
+number_reads bytes n rest b limit small =
+    let some = canonical_digits b.digits b.are_digits b.canonical in
+    let value = b.value in
+    let below : nat_lt (digits_value 10 b.digits) limit ≡ true = grind (arith, nat_tests, value, small) in
+    rw (b.bytes_are, item_reads b.digits rest (digits_plain b.digits b.are_digits).1 b.cut, some, b.canonical, below) (ap (λ (m : ℕ). Ok (m, rest)) (sym value))
+
 pub narrow_code : IsCode narrow_at number IsNarrow
 narrow_code = number_code (2 ^ 32) (omega arith)
 
@@ -244,3 +259,13 @@ literal_code = record {
   reads = literal_reads;
   gives = literal_gives;
 }
+
+-- a literal at the front of a line, after a space
+pub literal_follows : (c : ℕ) (sign : Bool) → sign_of c ≡ Ok sign → (bytes : List ℕ) (n : ℕ) (rest : List ℕ) → BeginsWith bytes n rest → n < 2 ^ 32 → literal_at (32 ∷ (c ∷ bytes)) ≡ Ok ((sign, n), rest)
+unfolding literal_at literal_in number_in number_of
+literal_follows c sign h bytes n rest b small =
+    let some = canonical_digits b.digits b.are_digits b.canonical in
+    let value = b.value in
+    let below : nat_lt (digits_value 10 b.digits) (2 ^ 32) ≡ true = grind (arith, nat_tests, value, small) in
+    let plain : is_blank c ≡ false = subst (λ (x : ℕ). is_blank x ≡ false) (sym (sign_gives c sign h)) (sign_item sign).0 in
+    rw (b.bytes_are, item_reads (c ∷ b.digits) rest (plain, (digits_plain b.digits b.are_digits).1) b.cut, h, some, b.canonical, below) (ap (λ (m : ℕ). Ok ((sign, m), rest)) (sym value))

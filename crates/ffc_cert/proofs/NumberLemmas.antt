@@ -1,5 +1,5 @@
 -- Digits, and places of bytes.
-use Rattle.std.proofs.Common.{◌≡◌, ℕ, ◌<◌, ◌≤◌, ◌==◌, ◌^◌, ◌&&◌, Bool, true, false, zero, suc, ◌+◌, ◌*◌, ◌-◌, leb, ◌∷◌, [], List, length, get_or, take, refl, sym, ap, ◌∙◌, rules, arith, Option, Some, None}
+use Rattle.std.proofs.Common.{◌≡◌, ℕ, ◌<◌, ◌≤◌, ◌==◌, ◌^◌, ◌&&◌, Bool, true, false, zero, suc, ◌+◌, ◌*◌, ◌-◌, leb, ◌∷◌, [], List, length, get_or, take, refl, sym, ap, subst, ◌∙◌, rules, arith, Option, Some, None}
 use Rattle.std.specs.Prelude.{unwrap_or}
 use Rattle.std.specs.Char.{is_ascii_digit, digit_value}
 use Rattle.std.proofs.lemmas.Str.{digit_value_digit}
@@ -66,3 +66,30 @@ value_next ds i n h lt same = ap (λ (m : ℕ). m * 10 + (get_or ds i 0 - 48)) s
 -- it is below a limit where that of all digits is
 pub value_small : (ds : List ℕ) (i n : ℕ) → AreDigits ds → i < length ds → n ≡ digits_value 10 (take i ds) → digits_value 10 ds < 2 ^ 64 → n * 10 + (get_or ds i 0 - 48) < 2 ^ 64
 value_small ds i n h lt same small = omega (arith, value_next ds i n h lt same, digits_value-take-le 10 ds (i + 1) (omega arith), small)
+
+conj : (a b : Bool) → a ≡ true → b ≡ true → (a && b) ≡ true
+conj true b p q = q
+conj false b p q = absurd (cc)
+
+digits_more : (bytes : List ℕ) (k m : ℕ) → m ≡ k + 1 → k < length bytes → AreDigits (take k bytes) → is_ascii_digit (get_or bytes k 0) ≡ true → AreDigits (take m bytes)
+digits_more bytes k zero e lt h d = absurd (omega arith)
+digits_more [] k (suc m) e lt h d = absurd (omega arith)
+digits_more (c ∷ cs) zero (suc m) e lt h d =
+    let none : m ≡ 0 = omega arith in
+    conj (is_ascii_digit c) (list_all is_ascii_digit (take m cs)) d (subst (λ (j : ℕ). AreDigits (take j cs)) (sym none) refl)
+digits_more (c ∷ cs) (suc k) (suc m) e lt h d =
+    let p = both (is_ascii_digit c) (list_all is_ascii_digit (take k cs)) h in
+    conj (is_ascii_digit c) (list_all is_ascii_digit (take m cs)) p.0 (digits_more cs k m (omega arith) (omega arith) p.1 d)
+
+-- digits at the front, with one more
+pub front_more : (bytes : List ℕ) (count i n longer : ℕ) → count ≡ i → i < length bytes → n ≡ digits_value 10 (take count bytes) → AreDigits (take count bytes)
+    → is_ascii_digit (get_or bytes i 0) ≡ true → longer ≡ n * 10 + (get_or bytes i 0 - 48) → (longer ≡ digits_value 10 (take (count + 1) bytes)) × AreDigits (take (count + 1) bytes)
+front_more bytes count i n longer same lt value digits digit is =
+    let here = subst (λ (j : ℕ). is_ascii_digit (get_or bytes j 0) ≡ true) (sym same) digit in
+    let more = subst (λ (j : ℕ). longer ≡ n * 10 + (get_or bytes j 0 - 48)) (sym same) is in
+    let inside : count < length bytes = omega (arith, same, lt) in
+    let range = digit_range (get_or bytes count 0) here in
+    let last = digits_value_more 10 bytes count inside ∙ ap (λ (m : ℕ). digits_value 10 (take count bytes) * 10 + m) (digit_is (get_or bytes count 0) range.0 range.1) in (
+      more ∙ (ap (λ (m : ℕ). m * 10 + (get_or bytes count 0 - 48)) value ∙ sym last),
+      digits_more bytes count (count + 1) refl inside digits here,
+    )

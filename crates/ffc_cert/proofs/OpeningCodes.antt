@@ -14,7 +14,8 @@ use Rattle.ffc_cert.specs.Items.{◌>>=◌, first_item, behind_item, item_at, en
 use Rattle.ffc_cert.specs.Lines.{value_at, sat_at, unsat_at, steps_at, unknown_at, opening_form, opening_at}
 use Rattle.ffc_cert.specs.Spelling.{number, cause_items}
 use Rattle.ffc_cert.specs.Ranges.{IsNarrow, IsWide, IsValue, IsCause}
-use Rattle.ffc_cert.proofs.Codes.{IsCut, IsPlain, plain_append, bound, branch, chosen, same_parts, Is}
+use Rattle.ffc_cert.specs.Cuts.{IsCut}
+use Rattle.ffc_cert.proofs.Codes.{IsPlain, plain_append, bound, branch, chosen, same_parts, Is}
 use Rattle.ffc_cert.proofs.NumberCodes.{IsItem, narrow_code, wide_code, word_front, word_behind, front_behind, item_reads, item_gives, decimal_item, decimal_is_digits, number_in_reads, number_in_gives}
 use Rattle.ffc_cert.proofs.LineCodes.{whole, ended_gives}
 

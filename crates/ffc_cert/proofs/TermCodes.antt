@@ -7,7 +7,8 @@ use Rattle.ffc_cert.specs.declared.flaws.Flaw.TheVariants.{Form}
 use Rattle.ffc_cert.specs.Items.{variable_at, exponent_at, power_at, powers_at, term_at, multiple_at}
 use Rattle.ffc_cert.specs.Spelling.{number, counted, power, term, multiple}
 use Rattle.ffc_cert.specs.Ranges.{IsNarrow, IsPower, VariablesIncrease, IsTerm, IsMultiple}
-use Rattle.ffc_cert.proofs.Codes.{IsCut, IsPlain, plain_append, IsText, IsCode, bound, barred, same_parts}
+use Rattle.ffc_cert.specs.Cuts.{IsCut}
+use Rattle.ffc_cert.proofs.Codes.{IsPlain, plain_append, IsText, IsCode, bound, barred, same_parts}
 use Rattle.ffc_cert.proofs.NumberCodes.{narrow_code, wide_code}
 use Rattle.ffc_cert.proofs.ListCodes.{all_map, counted_code, pair_reads, pair_gives, pair_plain}
 

@@ -1,5 +1,6 @@
 pub mod Bounds
 pub mod Certificate
+pub mod Cuts
 pub mod Extending
 pub mod Grammar
 pub mod Items

@@ -1,9 +1,10 @@
 //! Items of a line, and how they are read.
-ghost use Rattle.std.specs.Prelude.{◌≡◌, ℕ, ◌+◌, ◌-◌, ◌*◌, ◌^◌, ◌<◌, ◌≤◌, ◌==◌, ◌↔◌, List, [], length, Result, IfOk, IsTrue, MatchResult, SomeIff, Ok};
+ghost use Rattle.std.specs.Prelude.{◌≡◌, ℕ, ◌+◌, ◌-◌, ◌*◌, ◌^◌, ◌<◌, ◌≤◌, ◌==◌, ◌↔◌, List, [], length, take, Result, IfOk, IfSome, IsTrue, true, MatchResult, SomeIff, Ok};
 ghost use Rattle.std.specs.Char.{is_ascii_digit};
 ghost use Rattle.std.specs.List.{position_or_len, list_all};
 ghost use Rattle.std.specs.Str.Parse.{digits_value};
 ghost use Rattle.ffc_cert.specs.Items.{Reads, Stops, is_digits, is_canonical, first_item, behind_item, item_at, number_in, sign_of, literal_in, number_at, literal_at, power_at};
+ghost use Rattle.ffc_cert.specs.Cuts.{IsCut, BeginsWith};
 
 use crate::entries::{Literal, Power};
 use crate::flaws::{Flaw, LineStop};
@@ -66,6 +67,72 @@ fn value_of(digits: &[u8]) -> Option<u64>
     Some(number)
 }
 
+/// A number with one more byte, where that is a digit and the number is below 2^64.
+fn with_byte(number: u64, byte: u8) -> Option<u64>
+    ensures { IfSome result (λ n. (is_ascii_digit byte ≡ true) × (n ≡ number * 10 + (byte - 48))) }
+{
+    if byte.is_ascii_digit() {
+        with_digit(number, byte)
+    } else {
+        None
+    }
+}
+
+/// How many digits bytes begin with and the number that they write, up to the first digit with which it isn't below 2^64.
+fn leading_digits(bytes: &[u8]) -> (usize, u64)
+    ensures within { result.0 ≤ length bytes.now }
+    ensures digits { list_all is_ascii_digit (take result.0 bytes.now) ≡ true }
+    ensures value { result.1 ≡ digits_value 10 (take result.0 bytes.now) }
+{
+    let mut number = 0;
+    let mut count = 0;
+    for digit in bytes {
+        match with_byte(number, *digit) {
+            Some(longer) => number = longer,
+            None => return (count, number),
+        }
+        count += 1;
+    }
+    (count, number)
+}
+
+/// Whether an item may end where these bytes follow it.
+fn is_cut(bytes: &[u8]) -> bool
+    ensures { result ≡ true → IsCut bytes.now }
+{
+    match bytes {
+        [] => true,
+        [first, ..] => *first == b' ',
+    }
+}
+
+/// The number that bytes begin with and the bytes after it, found in one pass. None says nothing of the bytes.
+fn front_number(bytes: &[u8]) -> Option<(u64, &[u8])>
+    ensures { IfSome result (λ r. BeginsWith bytes.now r.0 r.1.now) }
+{
+    let (count, number) = leading_digits(bytes);
+    let digits = &bytes[..count];
+    let rest = &bytes[count..];
+    if is_canonical(digits) && is_cut(rest) {
+        Some((number, rest))
+    } else {
+        None
+    }
+}
+
+/// The number that a line goes on with and the bytes after it. None says nothing of the line.
+#[tactic(auto, using(crate::proofs::NumberCodes::number_reads))]
+fn plain_number(line: &[u8]) -> Option<(u64, &[u8])>
+    ensures { IfSome result (λ r. (limit : ℕ) → r.0 < limit → number_at limit line.now ≡ Ok (r.0, r.1.now)) }
+{
+    let (first, behind) = line.split_first()?;
+    if *first != b' ' {
+        return None;
+    }
+    let (number, rest) = front_number(behind)?;
+    Some((number, rest))
+}
+
 /// An item as a number that is at most this one.
 #[tactic(auto, unfolding(crate::specs::Items::number_in, crate::specs::Items::number_of))]
 fn number_in(most: u64, item: &[u8]) -> Result<u64, Flaw>
@@ -116,6 +183,24 @@ fn literal_in(item: &[u8]) -> Result<Literal, Flaw>
             Ok((sign, node))
         }
     }
+}
+
+/// The literal that a line goes on with and the bytes after it. None says nothing of the line.
+#[tactic(auto, using(crate::proofs::NumberCodes::literal_follows))]
+fn plain_literal(line: &[u8]) -> Option<(Literal, &[u8])>
+    ensures { IfSome result (λ r. literal_at line.now ≡ Ok (r.0, r.1.now)) }
+{
+    let (first, signed) = line.split_first()?;
+    if *first != b' ' {
+        return None;
+    }
+    let (sign, behind) = signed.split_first()?;
+    let sign = sign_of(*sign).ok()?;
+    let (number, rest) = front_number(behind)?;
+    if number >= 1 << 32 {
+        return None;
+    }
+    Some(((sign, number as u32), rest))
 }
 
 /// What is left of a line. Clauses see its bytes.
@@ -178,6 +263,12 @@ impl<'a> Items<'a> {
         ensures value { Reads result self.new (number_at (most + 1) self.old) }
         ensures within { IfOk result (λ n. n ≤ most) }
     {
+        if let Some((n, rest)) = plain_number(self.rest) {
+            if n <= most {
+                self.rest = rest;
+                return Ok(n);
+            }
+        }
         let item = self.next()?;
         Ok(number_in(most, item)?)
     }
@@ -201,6 +292,10 @@ impl<'a> Items<'a> {
     pub fn literal(&mut self) -> Result<Literal, LineStop>
         ensures { Reads result self.new (literal_at self.old) }
     {
+        if let Some((literal, rest)) = plain_literal(self.rest) {
+            self.rest = rest;
+            return Ok(literal);
+        }
         let item = self.next()?;
         Ok(literal_in(item)?)
     }

@@ -200,6 +200,7 @@ pub fn write_entry(
     ensures ok { OnOk result (out.new.items ≡ out.old.items ++ entry_text entry.now) }
     ensures err { OnErr result (out.new.items ≡ out.old.items) }
 {
+    out.reserve(text_len(version, entry) as usize)?;
     let length = out.len();
     if let Err(stop) = append_entry(entry, out) {
         out.truncate(length);
