@@ -4,7 +4,8 @@ ghost use Rattle.ffc_base.specs.Metering.{total};
 ghost use Rattle.ffc_basis.specs.Units.{Takes};
 ghost use Rattle.ffc_engine.specs.declared.stop.EngineStop.TheVariants as stops;
 
-use crate::generators::{Generator, GeneratorStop, generators, variables_of};
+use crate::generators::{Generator, GeneratorStop, differences, with_inverse};
+use crate::ranking::Ranking;
 use crate::stop::EngineStop;
 use ffc_base::{Meter, Spent, Unit};
 use ffc_basis::{Completion, Progress};
@@ -12,21 +13,25 @@ use ffc_cdcl::Lit;
 use ffc_cert::CertLine;
 use ffc_field::{Field, FieldId, ForField};
 use ffc_mono::GradedReverseLex;
-use ffc_search::{Found, SearchStop, search};
+use ffc_search::{Found, reduced_within, search};
 use ffc_stack::BasisStack;
 use ffc_term::NodeTable;
 use std::alloc::{AllocError, Global};
 
-/// Of the units that are left, the completion of one level takes at most one part in this many.
-const PARTS: u64 = 4;
+/// Of the units that are left, the equalities that hold are completed with at most one part in each of these, one after the
+/// other.
+const PARTS: [u64; 3] = [64, 16, 4];
+
+/// Of the units that are left, the other equalities are completed with at most one part in this many.
+const LAST_PARTS: u64 = 4;
 
 /// What is known of some equalities of one field.
 #[derive(Drop)]
 pub enum Answer {
     /// Values of their variables with which they hold.
     Values(Vec<(u32, u64)>),
-    /// They do not hold together: a tree whose generators are those of the first so many equalities.
-    Closed(usize, Vec<CertLine>),
+    /// They do not hold together: a tree whose generators are those of these equalities, and whose variables are ranks.
+    Closed(Vec<Lit>, Ranking, Vec<CertLine>),
     /// Nothing was found with the units of the share.
     Unfinished,
     /// Polynomials pass a limit.
@@ -52,27 +57,12 @@ fn units_left(meter: &Meter) -> u64
         - meter.count(Unit::Chain)
 }
 
-/// Completes the basis of some generators in part, and says whether they have a combination that is a constant.
-fn push<F: Field>(
-    stack: &mut BasisStack<F, GradedReverseLex>,
-    gens: &[Generator<F>],
-    meter: &mut Meter,
-) -> Result<bool, EngineStop> {
-    let units = units_left(meter) / PARTS;
-    match stack.push_within(gens, units, meter)? {
-        Progress::Done(Completion::Constant(_)) => Ok(true),
-        _ => Ok(false),
+/// One of so many parts of the units that are left.
+fn part_of_left(meter: &Meter, parts: u64) -> u64 {
+    if parts == 0 {
+        return 0;
     }
-}
-
-/// How many of the equalities hold.
-fn holding(equalities: &[Lit]) -> usize {
-    for (k, equality) in equalities.iter().enumerate() {
-        if !equality.positive {
-            return k;
-        }
-    }
-    equalities.len()
+    units_left(meter) / parts
 }
 
 /// Variables with their values.
@@ -88,53 +78,180 @@ fn paired<F: Field>(
     Ok(pairs)
 }
 
-/// Pushes the generators, first those of the equalities that hold, and says how many there are: not the others where the
-/// first ones have a combination that is a constant.
-fn push_all<F: Field>(
+/// What the equalities that hold say of those that do not.
+#[derive(Drop)]
+enum Finding {
+    /// They do not hold together by themselves.
+    Refuted,
+    /// The sides of this one are equal too.
+    Equal(usize),
+    /// The sides of these may be equal or not; those of the others are not.
+    Open(Vec<usize>),
+}
+
+/// What the lines say of differences that are not zero.
+fn compare<F: Field>(
+    alloc: Global,
     stack: &mut BasisStack<F, GradedReverseLex>,
-    gens: &[Generator<F>],
-    holding: usize,
+    unequal: &[Generator<F>],
     meter: &mut Meter,
-) -> Result<usize, EngineStop> {
-    if holding > gens.len() {
-        return Err(EngineStop::Memory);
+) -> Result<Finding, GeneratorStop> {
+    let mut open = Vec::new(alloc);
+    for (k, poly) in unequal.iter().enumerate() {
+        match reduced_within(stack, poly, meter)? {
+            Some(reduced) => {
+                if reduced.rest.is_zero() {
+                    return Ok(Finding::Equal(k));
+                }
+                if !reduced.rest.is_constant() {
+                    open.push(k)?;
+                }
+            }
+            None => open.push(k)?,
+        }
     }
-    let (first, others) = gens.split_at(holding);
-    if push(stack, first, meter)? {
-        return Ok(holding);
+    Ok(Finding::Open(open))
+}
+
+/// Completes the lines of the equalities that hold, further and further, until they settle the others.
+fn settle<F: Field>(
+    alloc: Global,
+    stack: &mut BasisStack<F, GradedReverseLex>,
+    equal: &[Generator<F>],
+    unequal: &[Generator<F>],
+    meter: &mut Meter,
+) -> Result<Finding, GeneratorStop> {
+    stack.push_within(equal, 0, meter)?;
+    let mut found = Finding::Open(Vec::new(alloc));
+    for parts in PARTS {
+        let progress = stack.go_on(part_of_left(meter, parts), meter)?;
+        if let Progress::Done(Completion::Constant(_)) = progress {
+            return Ok(Finding::Refuted);
+        }
+        found = compare(alloc, stack, unequal, meter)?;
+        if is_settled(&progress, &found) {
+            return Ok(found);
+        }
     }
-    push(stack, others, meter)?;
-    Ok(gens.len())
+    Ok(found)
+}
+
+/// Whether further completion says no more.
+fn is_settled(progress: &Progress, found: &Finding) -> bool {
+    matches!(progress, Progress::Done(_)) || matches!(found, Finding::Equal(_))
+}
+
+/// The equalities that hold.
+fn holding(alloc: Global, equalities: &[Lit]) -> Result<Vec<Lit>, AllocError> {
+    let mut found = Vec::new(alloc);
+    for equality in equalities {
+        if equality.positive {
+            found.push(*equality)?;
+        }
+    }
+    Ok(found)
+}
+
+/// The variable that is the inverse for the equality at a place.
+fn inverse_of(first: u32, place: usize) -> Option<u32> {
+    let place = u32::try_from(place).ok()?;
+    first.checked_add(place)
 }
 
 impl Problem<'_> {
-    /// Searches for values of the generators' variables.
+    /// Appends those equalities that say that sides with these differences are not equal, and their generators. Each has a
+    /// variable for the inverse of its difference, in the order in which they are appended.
+    fn append_unequal<F: Field>(
+        self,
+        unequal: &[Generator<F>],
+        places: &[usize],
+        ranking: &Ranking,
+        chosen: &mut Vec<Lit>,
+    ) -> Result<Vec<Generator<F>>, GeneratorStop> {
+        let before = self.equalities.len().saturating_sub(unequal.len());
+        let mut gens = Vec::new(self.alloc);
+        for place in places {
+            let equality = self.equalities.get(before.saturating_add(*place));
+            let variable = inverse_of(self.table.len(), chosen.len());
+            let rank = variable.and_then(|name| ranking.rank(name));
+            match (equality, unequal.get(*place), rank) {
+                (Some(equality), Some(poly), Some(rank)) => {
+                    gens.push(with_inverse(self.alloc, poly, rank)?)?;
+                    chosen.push(*equality)?;
+                }
+                _ => return Err(GeneratorStop::Over),
+            }
+        }
+        Ok(gens)
+    }
+    /// Pushes the generators of those equalities that say that sides with these differences are not equal.
+    fn push_unequal<F: Field>(
+        self,
+        stack: &mut BasisStack<F, GradedReverseLex>,
+        unequal: &[Generator<F>],
+        places: &[usize],
+        ranking: &Ranking,
+        chosen: &mut Vec<Lit>,
+        meter: &mut Meter,
+    ) -> Result<(), GeneratorStop> {
+        let gens = self.append_unequal(unequal, places, ranking, chosen)?;
+        stack.push_within(gens.as_slice(), part_of_left(meter, LAST_PARTS), meter)?;
+        Ok(())
+    }
+
+    /// Searches for values, where these are the differences of the equalities' sides in ranks.
     fn answer<F: Field>(
         self,
-        gens: &[Generator<F>],
+        polys: &[Generator<F>],
+        ranking: Ranking,
         meter: &mut Meter,
-    ) -> Result<Answer, EngineStop> {
-        let variables = variables_of(self.alloc, gens)?;
+    ) -> Result<Answer, GeneratorStop> {
+        let mut chosen = holding(self.alloc, self.equalities)?;
+        let count = chosen.len();
+        if count > polys.len() {
+            return Err(GeneratorStop::Memory);
+        }
+        let (equal, unequal) = polys.split_at(count);
         let mut stack = BasisStack::new(self.alloc);
-        let pushed = push_all(&mut stack, gens, holding(self.equalities), meter)?;
-        match search(self.alloc, &mut stack, variables.as_slice(), meter) {
-            Ok(Found::Values(values)) => {
-                let pairs = paired(self.alloc, variables.as_slice(), values.as_slice())?;
+        match settle(self.alloc, &mut stack, equal, unequal, meter)? {
+            Finding::Refuted => {}
+            Finding::Equal(place) => {
+                self.push_unequal(&mut stack, unequal, &[place], &ranking, &mut chosen, meter)?
+            }
+            Finding::Open(places) => {
+                let places = places.as_slice();
+                self.push_unequal(&mut stack, unequal, places, &ranking, &mut chosen, meter)?
+            }
+        }
+        let ranks = ranking.ranks(self.alloc)?;
+        match search(self.alloc, &mut stack, ranks.as_slice(), meter)? {
+            Found::Values(values) => {
+                let pairs = paired(self.alloc, ranking.variables(), values.as_slice())?;
                 Ok(Answer::Values(pairs))
             }
-            Ok(Found::Closed(tree)) => Ok(Answer::Closed(pushed, tree)),
-            Err(SearchStop::Spent) => Ok(Answer::Unfinished),
-            // Also where a line passes a limit. Where no memory is left, the caller's next allocation says so.
-            Err(SearchStop::Memory) => Ok(Answer::Over),
+            Found::Closed(tree) => Ok(Answer::Closed(chosen, ranking, tree)),
         }
+    }
+
+    /// The answer over the field `F`, on its own units.
+    fn searched<F: Field>(self, meter: &mut Meter) -> Result<Answer, GeneratorStop> {
+        let polys = differences::<F>(self.alloc, self.table, self.equalities)?;
+        let holding = holding(self.alloc, self.equalities)?.len();
+        let Some(first) = inverse_of(self.table.len(), holding) else {
+            return Err(GeneratorStop::Over);
+        };
+        let inverses = polys.len().saturating_sub(holding);
+        let ranking = Ranking::of(self.alloc, polys.as_slice(), first, inverses)?;
+        let ranked = ranking.ranked(self.alloc, polys.as_slice())?;
+        self.answer(ranked.as_slice(), ranking, meter)
     }
 
     /// The answer over the field `F`.
     fn over<F: Field>(self, meter: &mut Meter) -> Result<Answer, EngineStop> {
-        let first_inverse = self.table.len();
-        match generators::<F>(self.alloc, self.table, self.equalities, first_inverse) {
-            Ok(gens) => self.answer(gens.as_slice(), meter),
+        match self.searched::<F>(meter) {
+            Ok(answer) => Ok(answer),
             Err(GeneratorStop::Over) => Ok(Answer::Over),
+            Err(GeneratorStop::Spent) => Err(EngineStop::Spent),
             Err(GeneratorStop::Memory) => Err(EngineStop::Memory),
         }
     }

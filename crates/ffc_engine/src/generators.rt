@@ -1,21 +1,25 @@
 //! What equalities say as polynomials that are zero.
 use crate::equalities::{is_of_order, sides};
+use ffc_basis::BasisStop;
 use ffc_cdcl::Lit;
 use ffc_encode::{EncodeStop, poly_of};
 use ffc_field::Field;
 use ffc_mono::{GradedReverseLex, Mono, MonoStop};
 use ffc_poly::{Poly, PolyStop};
+use ffc_search::SearchStop;
 use ffc_term::{NodeId, NodeTable, distinct};
 use std::alloc::{AllocError, AllocFailed, Global};
 
 /// The polynomials of the engine.
 pub type Generator<F> = Poly<F, GradedReverseLex>;
 
-/// Why polynomials are not made.
+/// Why polynomials are not made, or not completed.
 #[derive(Clone, Copy, Debug, PartialEq, Eq)]
 pub enum GeneratorStop {
     /// A limit of polynomials was passed.
     Over,
+    /// The units of the share are taken.
+    Spent,
     /// Out of memory.
     Memory,
 }
@@ -59,6 +63,25 @@ impl From<MonoStop> for GeneratorStop {
     }
 }
 
+impl From<BasisStop> for GeneratorStop {
+    fn from(stop: BasisStop) -> GeneratorStop {
+        match stop {
+            BasisStop::Spent => GeneratorStop::Spent,
+            BasisStop::Memory => GeneratorStop::Memory,
+        }
+    }
+}
+
+impl From<SearchStop> for GeneratorStop {
+    // Out of memory is also where a line passes a limit. Where no memory is left, the caller's next allocation says so.
+    fn from(stop: SearchStop) -> GeneratorStop {
+        match stop {
+            SearchStop::Spent => GeneratorStop::Spent,
+            SearchStop::Memory => GeneratorStop::Over,
+        }
+    }
+}
+
 /// The polynomial of a field node.
 fn node_poly<F: Field>(
     alloc: Global,
@@ -93,7 +116,7 @@ fn constant<F: Field>(alloc: Global, value: F) -> Result<Generator<F>, Generator
 }
 
 /// Says that a polynomial has an inverse, which is a variable: their product minus 1.
-fn with_inverse<F: Field>(
+pub fn with_inverse<F: Field>(
     alloc: Global,
     poly: &Generator<F>,
     variable: u32,
@@ -103,27 +126,15 @@ fn with_inverse<F: Field>(
     Ok(minus_one.add_multiple(F::of(1), inverse.as_ref(), poly)?)
 }
 
-/// What the equalities say of their sides: each that holds that its sides' difference is zero, and each other one that the
-/// difference has an inverse. The inverse for the k-th equality is the variable `first + k`.
-pub fn generators<F: Field>(
+/// The differences of the sides of equalities: zero where an equality holds.
+pub fn differences<F: Field>(
     alloc: Global,
     table: &NodeTable,
     equalities: &[Lit],
-    first: u32,
 ) -> Result<Vec<Generator<F>>, GeneratorStop> {
     let mut made = Vec::new(alloc);
-    let mut variable = first;
     for equality in equalities {
-        let poly = difference::<F>(alloc, table, equality.node)?;
-        if equality.positive {
-            made.push(poly)?;
-        } else {
-            made.push(with_inverse(alloc, &poly, variable)?)?;
-        }
-        let Some(next) = variable.checked_add(1) else {
-            return Err(GeneratorStop::Over);
-        };
-        variable = next;
+        made.push(difference::<F>(alloc, table, equality.node)?)?;
     }
     Ok(made)
 }

@@ -1,4 +1,5 @@
 //! Lemmas: clauses over equalities of one field, with the case trees that show them.
+use crate::ranking::Ranking;
 use crate::renumber::Uses;
 use ffc_cdcl::{Lit, Literals};
 use ffc_cert::{CertLine, Sequence};
@@ -25,16 +26,23 @@ fn negations(alloc: Global, equalities: &[Lit], uses: &Uses) -> Result<Literals,
 }
 
 impl Lemma {
-    /// The lemma that a tree shows of equalities, of which the first ones are its generators: just those that it uses are
-    /// named. None where a number does not fit.
+    /// The lemma that a tree in ranks shows of equalities, of which the first ones are its generators: just those that it uses
+    /// are named. None where a number does not fit.
     pub fn of(
         alloc: Global,
         order: u64,
         equalities: &[Lit],
         first_inverse: u32,
+        ranking: &Ranking,
         tree: Vec<CertLine>,
     ) -> Result<Option<Self>, AllocError> {
-        let uses = Uses::of(alloc, equalities.len(), first_inverse, tree.as_slice())?;
+        let uses = Uses::of(
+            alloc,
+            equalities.len(),
+            first_inverse,
+            ranking,
+            tree.as_slice(),
+        )?;
         let lits = negations(alloc, equalities, &uses)?;
         match uses.renumbered(alloc, tree)? {
             Some(tree) => Ok(Some(Lemma { order, lits, tree })),

@@ -15,6 +15,7 @@ mod justify;
 mod lemma;
 mod models;
 mod proposing;
+mod ranking;
 mod renumber;
 mod stop;
 #[cfg(test)]

@@ -124,7 +124,7 @@ fn judge_field(
     ensures spent { IsErrOf result stops.Spent → total meter.new ≡ meter.new.budget }
     ensures takes { Takes meter.old meter.new }
 {
-    let mut equalities = of_field(alloc, check.table, field, needed)?;
+    let equalities = of_field(alloc, check.table, field, needed)?;
     if equalities.is_empty() {
         return Ok(Verdict::Fine);
     }
@@ -138,14 +138,14 @@ fn judge_field(
             residues.set(pairs.as_slice());
             Ok(Verdict::Fine)
         }
-        Answer::Closed(count, tree) => {
-            equalities.truncate(count);
+        Answer::Closed(chosen, ranking, tree) => {
             let first_inverse = check.table.len();
             let lemma = Lemma::of(
                 alloc,
                 field.order(),
-                equalities.as_slice(),
+                chosen.as_slice(),
                 first_inverse,
+                &ranking,
                 tree,
             )?;
             Ok(match lemma {

@@ -1,25 +1,30 @@
-//! Trees over fewer generators.
+//! Trees over fewer generators, with variables in place of ranks.
+use crate::ranking::Ranking;
 use ffc_cert::{CertLine, Multiple, Power, Sequence, Term};
 use std::alloc::{AllocError, Global};
 
 /// Which generators a tree uses: those of which a line is a multiple or a case, and those whose inverse occurs.
 #[derive(Drop)]
-pub struct Uses {
+pub struct Uses<'a> {
     marks: Vec<bool>,
     first_inverse: u32,
+    ranking: &'a Ranking,
 }
 
-impl Uses {
-    /// What a tree uses of so many generators. The inverse for the k-th generator is the variable `first_inverse + k`.
+impl<'a> Uses<'a> {
+    /// What a tree in ranks uses of so many generators. The inverse for the k-th generator is the variable
+    /// `first_inverse + k`.
     pub fn of(
         alloc: Global,
         generators: usize,
         first_inverse: u32,
+        ranking: &'a Ranking,
         tree: &[CertLine],
     ) -> Result<Self, AllocError> {
         let mut uses = Uses {
             marks: vec![in alloc; false; generators]?,
             first_inverse,
+            ranking,
         };
         if let Some(CertLine::Close) = tree.first() {
             uses.mark_last();
@@ -43,7 +48,10 @@ impl Uses {
         }
     }
 
-    fn mark_variable(&mut self, variable: u32) {
+    fn mark_variable(&mut self, rank: u32) {
+        let Some(variable) = self.ranking.variable(rank) else {
+            return;
+        };
         if let Some(place) = variable.checked_sub(self.first_inverse) {
             self.mark(place as usize);
         }
@@ -69,11 +77,11 @@ impl Uses {
                     self.mark_multiple(multiple);
                 }
             }
-            CertLine::Chain(line, variable, _) | CertLine::Split(line, variable, _) => {
+            CertLine::Chain(line, rank, _) | CertLine::Split(line, rank, _) => {
                 self.mark(*line as usize);
-                self.mark_variable(*variable);
+                self.mark_variable(*rank);
             }
-            CertLine::Values(variable, _) => self.mark_variable(*variable),
+            CertLine::Values(rank, _) => self.mark_variable(*rank),
             _ => {}
         }
     }
@@ -87,7 +95,7 @@ impl Uses {
     }
 
     /// The numbers that lines and variables have where the other generators are left out.
-    fn numbering(&self, alloc: Global) -> Result<Numbering, AllocError> {
+    fn numbering(&self, alloc: Global) -> Result<Numbering<'a>, AllocError> {
         let mut numbers = Vec::new(alloc);
         let mut next = 0u32;
         for mark in self.marks.as_slice() {
@@ -100,6 +108,7 @@ impl Uses {
             numbers,
             kept: next,
             first_inverse: self.first_inverse,
+            ranking: self.ranking,
         })
     }
 
@@ -121,15 +130,16 @@ impl Uses {
     }
 }
 
-/// New numbers of generators, of the lines after them and of the inverses.
+/// New numbers of generators, of the lines after them and of the inverses, and what the variables of ranks are.
 #[derive(Drop)]
-struct Numbering {
+struct Numbering<'a> {
     numbers: Vec<u32>,
     kept: u32,
     first_inverse: u32,
+    ranking: &'a Ranking,
 }
 
-impl Numbering {
+impl Numbering<'_> {
     fn line_number(&self, line: u32) -> Option<u32> {
         match self.numbers.get(line as usize) {
             Some(number) => Some(*number),
@@ -141,7 +151,8 @@ impl Numbering {
         }
     }
 
-    fn variable(&self, variable: u32) -> Option<u32> {
+    fn variable(&self, rank: u32) -> Option<u32> {
+        let variable = self.ranking.variable(rank)?;
         match variable.checked_sub(self.first_inverse) {
             Some(place) => match self.numbers.get(place as usize) {
                 Some(number) => self.first_inverse.checked_add(*number),
@@ -163,6 +174,7 @@ impl Numbering {
                 None => return Ok(None),
             }
         }
+        made.sort_unstable();
         Ok(Some(Sequence::from_vec(made)))
     }
 
@@ -205,30 +217,30 @@ impl Numbering {
         Ok(Some(CertLine::Combine(Sequence::from_vec(made))))
     }
 
-    fn chain(&self, line: u32, variable: u32, steps: u32) -> Option<CertLine> {
+    fn chain(&self, line: u32, rank: u32, steps: u32) -> Option<CertLine> {
         let line = self.line_number(line)?;
-        let variable = self.variable(variable)?;
+        let variable = self.variable(rank)?;
         Some(CertLine::Chain(line, variable, steps))
     }
 
-    fn split(&self, line: u32, variable: u32, zeros: Sequence<u64>) -> Option<CertLine> {
-        match (self.line_number(line), self.variable(variable)) {
+    fn split(&self, line: u32, rank: u32, zeros: Sequence<u64>) -> Option<CertLine> {
+        match (self.line_number(line), self.variable(rank)) {
             (Some(line), Some(variable)) => Some(CertLine::Split(line, variable, zeros)),
             _ => None,
         }
     }
 
-    fn values(&self, variable: u32, trees: u32) -> Option<CertLine> {
-        let variable = self.variable(variable)?;
+    fn values(&self, rank: u32, trees: u32) -> Option<CertLine> {
+        let variable = self.variable(rank)?;
         Some(CertLine::Values(variable, trees))
     }
 
     fn line(&self, alloc: Global, line: CertLine) -> Result<Option<CertLine>, AllocError> {
         match line {
             CertLine::Combine(multiples) => self.multiples(alloc, multiples),
-            CertLine::Chain(line, variable, steps) => Ok(self.chain(line, variable, steps)),
-            CertLine::Split(line, variable, zeros) => Ok(self.split(line, variable, zeros)),
-            CertLine::Values(variable, trees) => Ok(self.values(variable, trees)),
+            CertLine::Chain(line, rank, steps) => Ok(self.chain(line, rank, steps)),
+            CertLine::Split(line, rank, zeros) => Ok(self.split(line, rank, zeros)),
+            CertLine::Values(rank, trees) => Ok(self.values(rank, trees)),
             other => Ok(Some(other)),
         }
     }

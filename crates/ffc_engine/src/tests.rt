@@ -1,6 +1,7 @@
 use crate::clauses::Origin;
 use crate::entry::{is_proved, refutation};
 use crate::lemma::Lemma;
+use crate::ranking::Ranking;
 use ffc_cdcl::{Hint, HintedClause, Lit, Literals};
 use ffc_cert::{CertLine, Entry, Multiple, Sequence};
 use std::alloc::{AllocError, Global};
@@ -70,11 +71,12 @@ fn spelled(alloc: Global, lines: &[CertLine]) -> Result<String, AllocError> {
 fn lemma(alloc: Global) -> Result<Option<Lemma>, AllocError> {
     let equalities = [literal(7, true), literal(8, true), literal(9, false)];
     let tree = vec![in alloc;
-        combine(alloc, 1, 102)?,
-        CertLine::Split(3, 5, Sequence::new(alloc)),
+        combine(alloc, 1, 0)?,
+        CertLine::Split(3, 1, Sequence::new(alloc)),
         CertLine::Close,
     ]?;
-    Lemma::of(alloc, 17, &equalities, 100, tree)
+    let ranking = Ranking::from_variables(alloc, vec![in alloc; 102, 5]?)?;
+    Lemma::of(alloc, 17, &equalities, 100, &ranking, tree)
 }
 
 #[test]

@@ -21,5 +21,6 @@ mod tree;
 mod written;
 
 pub use answers::Found;
+pub use reducing::reduced_within;
 pub use searching::search;
 pub use stop::SearchStop;

@@ -62,7 +62,8 @@ fn count_polynomial<F: Field, O: MonoOrder>(
     Ok(())
 }
 
-/// The variable of the greatest use among those that are not linear, the lowest of them.
+/// The variable of the greatest use among those that are not linear, the highest of them: in an order that is graded by
+/// reverse lexicographic comparison it leads last, and lines rather say what others are by it.
 fn greatest_use(uses: &Uses, linear: &BTreeSet<u32>) -> Option<u32> {
     let mut best: Option<(u32, u64)> = None;
     for (x, count) in uses.iter() {
@@ -70,7 +71,7 @@ fn greatest_use(uses: &Uses, linear: &BTreeSet<u32>) -> Option<u32> {
             continue;
         }
         let more = match best {
-            Some((_, most)) => *count > most,
+            Some((_, most)) => *count >= most,
             None => true,
         };
         if more {

@@ -158,7 +158,7 @@ fn bits(rt: HostRuntime) -> Result<(), Fail> {
 fn guesses(rt: HostRuntime) -> Result<(), Fail> {
     let alloc = rt.alloc();
     let product: [&[Row<'_>]; 1] = [&[(1, &[0, 1]), (-6, &[])]];
-    assert!(rt; finds::<BabyBear>(alloc, &product, &[0, 1], &[1, 6])?);
+    assert!(rt; finds::<BabyBear>(alloc, &product, &[0, 1], &[6, 1])?);
     assert!(rt; finds::<F5>(alloc, &product, &[0, 1], &[1, 1])?);
     let stop = answer::<BabyBear, Lex>(alloc, &product, &[0, 1], 2)?;
     assert_eq!(rt; stop.0, Kind::Stopped);
