@@ -2,6 +2,7 @@
 //! Moskewicz and Malik 2001), with the hints by which it follows.
 use crate::answer::Hint;
 use crate::literal::Lit;
+use crate::packed::Packed;
 use crate::search::Search;
 use ffc_term::NodeId;
 use std::alloc::{AllocError, Global};
@@ -13,14 +14,14 @@ pub struct Lesson {
     /// Its first literal is true from then on, and the second one has the level to go back to.
     pub clause: Vec<Lit>,
     pub hints: Vec<Hint>,
-    pub level: usize,
+    pub level: u32,
     pub spread: u32,
 }
 
 /// A resolution that is under way.
 #[derive(Drop)]
 struct Resolution {
-    level: usize,
+    level: u32,
     /// How many marked literals of the level are still to be resolved.
     open: usize,
     marked: Vec<NodeId>,
@@ -32,7 +33,7 @@ struct Resolution {
 }
 
 impl Resolution {
-    fn new(alloc: Global, level: usize) -> Self {
+    fn new(alloc: Global, level: u32) -> Self {
         Resolution {
             level,
             open: 0,
@@ -45,7 +46,7 @@ impl Resolution {
 }
 
 /// How many different numbers a list has.
-fn count_different(numbers: &mut Vec<usize>) -> u32 {
+fn count_different(numbers: &mut Vec<u32>) -> u32 {
     numbers.sort_unstable();
     let mut count = 0u32;
     let mut last = None;
@@ -61,7 +62,7 @@ fn count_different(numbers: &mut Vec<usize>) -> u32 {
 impl Search {
     /// The level of a literal's node.
     #[inline(always)]
-    pub fn level_of(&self, literal: Lit) -> usize {
+    pub fn level_of(&self, literal: Lit) -> u32 {
         match self.trail.entry(literal.node) {
             Some(entry) => entry.level,
             None => 0,
@@ -96,11 +97,12 @@ impl Search {
     }
 
     /// The hints by which one literal of a clause follows, or none, where the others are false at level 0.
-    pub fn unit_hints(&self, left: Option<Lit>, clause: usize) -> Result<Vec<Hint>, AllocError> {
+    pub fn unit_hints(&self, left: Option<Lit>, clause: u32) -> Result<Vec<Hint>, AllocError> {
         let mut hints = Vec::new(self.alloc);
-        for literal in self.arena.literals_of(clause) {
+        for word in self.arena.literals_of(clause) {
+            let literal = Packed(*word).literal();
             let is_left = match left {
-                Some(other) => other.is_same(*literal),
+                Some(other) => other.is_same(literal),
                 None => false,
             };
             if !is_left {
@@ -116,10 +118,10 @@ impl Search {
     }
 
     /// The highest level of a clause's literals.
-    pub fn highest_level(&self, clause: usize) -> usize {
+    pub fn highest_level(&self, clause: u32) -> u32 {
         let mut highest = 0;
-        for literal in self.arena.literals_of(clause) {
-            highest = self.level_of(*literal).max(highest);
+        for word in self.arena.literals_of(clause) {
+            highest = self.level_of(Packed(*word).literal()).max(highest);
         }
         highest
     }
@@ -149,17 +151,10 @@ impl Search {
     }
 
     /// Takes the literals of a clause into a resolution.
-    fn take_clause(
-        &mut self,
-        resolution: &mut Resolution,
-        clause: usize,
-    ) -> Result<(), AllocError> {
-        let Some((start, end)) = self.arena.span(clause) else {
-            return Ok(());
-        };
-        for k in start..end {
-            if let Some(literal) = self.arena.literals.as_slice().get(k).copied() {
-                self.take_literal(resolution, literal)?;
+    fn take_clause(&mut self, resolution: &mut Resolution, clause: u32) -> Result<(), AllocError> {
+        for k in 0..self.arena.literals_of(clause).len() {
+            if let Some(word) = self.arena.literals_of(clause).get(k).copied() {
+                self.take_literal(resolution, Packed(word).literal())?;
             }
         }
         Ok(())
@@ -192,7 +187,7 @@ impl Search {
     }
 
     /// The clause by which a literal was propagated.
-    pub fn reason_of(&self, literal: Lit) -> Option<usize> {
+    pub fn reason_of(&self, literal: Lit) -> Option<u32> {
         match self.trail.entry(literal.node) {
             Some(entry) => entry.reason,
             None => None,
@@ -200,10 +195,11 @@ impl Search {
     }
 
     /// The clause by which a literal is left out, where all other literals of that clause are marked or of level 0.
-    fn reason_left_out(&self, literal: Lit) -> Option<usize> {
+    fn reason_left_out(&self, literal: Lit) -> Option<u32> {
         let reason = self.reason_of(literal)?;
-        for other in self.arena.literals_of(reason) {
-            if !self.is_marked(other.node) && self.level_of(*other) > 0 {
+        for word in self.arena.literals_of(reason) {
+            let other = Packed(*word).literal();
+            if !self.is_marked(other.node) && self.level_of(other) > 0 {
                 return None;
             }
         }
@@ -215,7 +211,7 @@ impl Search {
     fn minimize(
         &mut self,
         resolution: &mut Resolution,
-    ) -> Result<(Vec<Lit>, Vec<(usize, usize)>), AllocError> {
+    ) -> Result<(Vec<Lit>, Vec<(u32, u32)>), AllocError> {
         let mut kept = Vec::new(self.alloc);
         let mut left_out = Vec::new(self.alloc);
         let clause = mem::replace(&mut resolution.clause, Vec::new(self.alloc));
@@ -241,8 +237,8 @@ impl Search {
     fn gather(
         &self,
         resolution: &Resolution,
-        left_out: &[(usize, usize)],
-        conflict: usize,
+        left_out: &[(u32, u32)],
+        conflict: u32,
     ) -> Result<Vec<Hint>, AllocError> {
         let mut hints = Vec::new(self.alloc);
         for unit in resolution.units.as_slice() {
@@ -263,7 +259,7 @@ impl Search {
     }
 
     /// Puts a literal of the highest level second, and gives that level and how many levels there are.
-    fn arrange(&self, clause: &mut Vec<Lit>) -> Result<(usize, u32), AllocError> {
+    fn arrange(&self, clause: &mut Vec<Lit>) -> Result<(u32, u32), AllocError> {
         let mut highest = 0;
         let mut place = 1;
         let mut levels = Vec::new(self.alloc);
@@ -289,7 +285,7 @@ impl Search {
     }
 
     /// What a conflict teaches whose highest level is the trail's.
-    pub fn analyze(&mut self, conflict: usize) -> Result<Option<Lesson>, AllocError> {
+    pub fn analyze(&mut self, conflict: u32) -> Result<Option<Lesson>, AllocError> {
         let mut resolution = Resolution::new(self.alloc, self.trail.level());
         self.take_clause(&mut resolution, conflict)?;
         let Some(point) = self.resolve(&mut resolution)? else {

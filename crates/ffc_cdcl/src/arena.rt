@@ -3,93 +3,175 @@ ghost use Rattle.std.specs.Prelude.{◌≤◌, IfSome, length};
 
 use crate::answer::Hint;
 use crate::literal::Lit;
+use crate::packed::Packed;
 use std::alloc::{AllocError, Global};
+use std::mem;
 
-/// Where a clause lies in the buffer. Heads are short, since propagation reads one for each clause that it reads.
+/// How many words a clause has before its literals: its length and its number.
+const HEAD: usize = 2;
+
+/// What is kept of a clause beside its literals.
 #[derive(Clone, Copy)]
-pub struct Head {
-    pub start: usize,
-    /// How many literals it has; a clause of 2^32 - 1 or more is not read.
-    pub length: u32,
-    /// How many levels it had when it was learned, up to 2^16 - 1.
-    pub spread: u16,
-    pub dropped: bool,
+pub struct Record {
+    /// Where it lies in the buffer, and None where it was dropped.
+    pub place: Option<u32>,
+    /// How many levels it had when it was learned.
+    pub spread: u32,
+    /// Which clause of the solver it is.
+    pub hint: Hint,
 }
 
 /// Clauses by number. Every access is tested, so that it needs no invariant.
 #[derive(Drop)]
 pub struct Arena {
-    pub literals: Vec<Lit>,
-    pub heads: Vec<Head>,
-    /// Which clause of the solver each one is.
-    pub hints: Vec<Hint>,
+    alloc: Global,
+    /// Of each clause its length, its number and its literals, each a `Packed`.
+    pub words: Vec<u32>,
+    pub records: Vec<Record>,
+}
+
+/// The literals of the clause at a place of a buffer.
+#[inline(always)]
+fn span_in(words: &[u32], place: u32) -> Option<(usize, usize)>
+    ensures after { IfSome result (λ r. place ≤ r.0) }
+    ensures order { IfSome result (λ r. r.0 ≤ r.1) }
+    ensures within { IfSome result (λ r. r.1 ≤ length words.now) }
+{
+    let place = place as usize;
+    if place >= words.len() {
+        return None;
+    }
+    let start = place + HEAD;
+    let end = start.saturating_add(words[place] as usize);
+    if end > words.len() {
+        return None;
+    }
+    Some((start, end))
 }
 
 impl Arena {
     /// No clauses. It takes no memory.
     pub fn new(alloc: Global) -> Self {
         Arena {
-            literals: Vec::new(alloc),
-            heads: Vec::new(alloc),
-            hints: Vec::new(alloc),
+            alloc,
+            words: Vec::new(alloc),
+            records: Vec::new(alloc),
         }
     }
 
-    /// Where a clause lies, also a dropped one.
+    /// Where the literals of the clause at a place lie.
     #[inline(always)]
-    pub fn span(&self, clause: usize) -> Option<(usize, usize)>
+    pub fn span(&self, place: u32) -> Option<(usize, usize)>
         ensures order { IfSome result (λ r. r.0 ≤ r.1) }
-        ensures within { IfSome result (λ r. r.1 ≤ length self.now.literals.items) }
+        ensures within { IfSome result (λ r. r.1 ≤ length self.now.words.items) }
     {
-        if clause >= self.heads.len() {
-            return None;
-        }
-        let head = self.heads[clause];
-        let end = head.start.saturating_add(head.length as usize);
-        if end > self.literals.len() {
-            return None;
-        }
-        Some((head.start, end))
+        span_in(self.words.as_slice(), place)
     }
 
-    /// Whether a clause was dropped.
+    /// The number of the clause at a place.
     #[inline(always)]
-    pub fn is_dropped(&self, clause: usize) -> bool {
-        clause < self.heads.len() && self.heads[clause].dropped
+    pub fn number_at(&self, place: u32) -> u32 {
+        match self.words.as_slice().get(place as usize + 1) {
+            Some(number) => *number,
+            None => u32::MAX,
+        }
     }
 
-    /// The literals of a clause, also of a dropped one.
-    pub fn literals_of(&self, clause: usize) -> &[Lit] {
-        match self.span(clause) {
-            Some((start, end)) => &self.literals[start..end],
+    /// What is kept of a clause.
+    #[inline(always)]
+    pub fn record(&self, clause: u32) -> Option<Record> {
+        self.records.as_slice().get(clause as usize).copied()
+    }
+
+    /// How many clauses there were, also those that were dropped.
+    pub fn count(&self) -> u32 {
+        u32::try_from(self.records.len()).unwrap_or(u32::MAX)
+    }
+
+    /// Where a clause lies in the buffer, and None where it was dropped.
+    #[inline(always)]
+    pub fn place_of(&self, clause: u32) -> Option<u32> {
+        self.record(clause)?.place
+    }
+
+    /// The literals of a clause, each a `Packed`, or none where it was dropped.
+    pub fn literals_of(&self, clause: u32) -> &[u32] {
+        let Some(place) = self.place_of(clause) else {
+            return &[];
+        };
+        match self.span(place) {
+            Some((start, end)) => &self.words[start..end],
             None => &[],
         }
     }
 
     /// Which clause of the solver this one is.
-    pub fn hint(&self, clause: usize) -> Option<Hint> {
-        self.hints.as_slice().get(clause).copied()
-    }
-
-    /// Adds a clause, and gives its number.
-    pub fn add(&mut self, literals: &[Lit], hint: Hint, spread: u32) -> Result<usize, AllocError> {
-        let start = self.literals.len();
-        self.literals.extend_from_slice(literals)?;
-        let number = self.heads.len();
-        self.hints.push(hint)?;
-        self.heads.push(Head {
-            start,
-            length: u32::try_from(literals.len()).unwrap_or(u32::MAX),
-            spread: spread.min(u32::from(u16::MAX)) as u16,
-            dropped: false,
-        })?;
-        Ok(number)
-    }
-
-    /// Drops a clause from the watches.
-    pub fn drop_clause(&mut self, clause: usize) {
-        if clause < self.heads.len() {
-            self.heads[clause].dropped = true;
+    pub fn hint(&self, clause: u32) -> Option<Hint> {
+        match self.record(clause) {
+            Some(record) => Some(record.hint),
+            None => None,
         }
+    }
+
+    /// Adds a clause, and gives its place and its number.
+    pub fn add(
+        &mut self,
+        literals: &[Lit],
+        hint: Hint,
+        spread: u32,
+    ) -> Result<(u32, u32), AllocError> {
+        let (Ok(place), Ok(number), Ok(length)) = (
+            u32::try_from(self.words.len()),
+            u32::try_from(self.records.len()),
+            u32::try_from(literals.len()),
+        ) else {
+            return Err(AllocError);
+        };
+        self.words.push(length)?;
+        self.words.push(number)?;
+        for literal in literals {
+            self.words.push(Packed::of(*literal).0)?;
+        }
+        self.records.push(Record {
+            place: Some(place),
+            spread,
+            hint,
+        })?;
+        Ok((place, number))
+    }
+
+    fn set_place(&mut self, clause: u32, place: Option<u32>) {
+        if (clause as usize) < self.records.len() {
+            self.records[clause as usize].place = place;
+        }
+    }
+
+    /// Drops a clause. Its literals stay in the buffer until `compact`.
+    pub fn drop_clause(&mut self, clause: u32) {
+        self.set_place(clause, None);
+    }
+
+    /// Appends the clause at a place of another buffer, and gives its place here.
+    fn copy_from(&mut self, words: &[u32], place: u32) -> Result<Option<u32>, AllocError> {
+        let Ok(copied) = u32::try_from(self.words.len()) else {
+            return Err(AllocError);
+        };
+        let Some((_, end)) = span_in(words, place) else {
+            return Ok(None);
+        };
+        self.words.extend_from_slice(&words[place as usize..end])?;
+        Ok(Some(copied))
+    }
+
+    /// Moves the clauses that were not dropped together, in the order of their numbers.
+    pub fn compact(&mut self) -> Result<(), AllocError> {
+        let words = mem::replace(&mut self.words, Vec::new(self.alloc));
+        for clause in 0..self.count() {
+            if let Some(place) = self.place_of(clause) {
+                let copied = self.copy_from(words.as_slice(), place)?;
+                self.set_place(clause, copied);
+            }
+        }
+        Ok(())
     }
 }

@@ -58,7 +58,7 @@ impl Solver {
     pub(crate) fn refute(
         &mut self,
         search: &mut Search,
-        conflict: usize,
+        conflict: u32,
     ) -> Result<Vec<HintedClause>, CdclStop>
         ensures refuted { IfOk result (λ steps. IsRefutationBy (IsKept self.new.lemmas) self.new.added steps.items) }
         ensures same { SameClauses self.old self.new }
@@ -80,7 +80,7 @@ impl Solver {
     pub(crate) fn learn_from(
         &mut self,
         search: &mut Search,
-        conflict: usize,
+        conflict: u32,
         meter: &mut Meter,
     ) -> Result<Option<Vec<HintedClause>>, CdclStop>
         ensures refuted { IfOk result (λ found. IfSome found (λ steps. IsRefutationBy (IsKept self.new.lemmas) self.new.added steps.items)) }

@@ -12,6 +12,7 @@ mod literal;
 mod loading;
 mod order;
 mod pace;
+mod packed;
 mod refute;
 mod search;
 mod settled;

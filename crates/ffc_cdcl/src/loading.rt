@@ -6,7 +6,6 @@ use crate::answer::Hint;
 use crate::literal::Lit;
 use crate::search::Search;
 use crate::solver::Solver;
-use crate::watches::Watcher;
 use std::alloc::AllocError;
 
 /// A solver has at most so many learned clauses when a search begins, else it drops them all.
@@ -47,31 +46,17 @@ impl Search {
     }
 
     /// Adds a clause whose first two literals are to be watched.
-    pub fn attach(&mut self, clause: &[Lit], hint: Hint, spread: u32) -> Result<usize, AllocError>
+    pub fn attach(&mut self, clause: &[Lit], hint: Hint, spread: u32) -> Result<u32, AllocError>
         ensures { self.new.trail ≡ self.old.trail }
     {
-        let number = self.arena.add(clause, hint, spread)?;
+        let (place, number) = self.arena.add(clause, hint, spread)?;
         self.order.insert_all(clause)?;
         if clause.len() < 2 {
             self.short.push(number)?;
             return Ok(number);
         }
-        let first = clause[0];
-        let second = clause[1];
-        self.watches.push(
-            first,
-            Watcher {
-                clause: number,
-                blocker: second,
-            },
-        )?;
-        self.watches.push(
-            second,
-            Watcher {
-                clause: number,
-                blocker: first,
-            },
-        )?;
+        let literals = self.arena.literals_of(number);
+        self.watches.watch(literals, place, number)?;
         Ok(number)
     }
 
@@ -90,7 +75,7 @@ impl Search {
     }
 
     /// Adds a clause that is false on the trail, so that it watches its literals of the highest levels.
-    pub fn attach_false(&mut self, clause: &[Lit], hint: Hint) -> Result<usize, AllocError> {
+    pub fn attach_false(&mut self, clause: &[Lit], hint: Hint) -> Result<u32, AllocError> {
         let mut literals = Vec::new(self.alloc);
         for literal in clause {
             literals.push(*literal)?;

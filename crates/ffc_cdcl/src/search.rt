@@ -5,12 +5,12 @@ ghost use Rattle.ffc_cdcl.specs.Trails.{Pays};
 
 use crate::answer::Hint;
 use crate::arena::Arena;
-use crate::literal::Lit;
 use crate::order::Order;
+use crate::packed::Packed;
 use crate::theory::CdclStop;
 use crate::trail::Trail;
 use crate::walk::Walk;
-use crate::watches::{Watched, Watcher, Watches, watch_another};
+use crate::watches::{Pair, Watched, Watcher, Watches, watch_another};
 use ffc_base::Meter;
 use std::alloc::{AllocError, Global};
 
@@ -29,7 +29,7 @@ pub struct Search {
     /// How many of the trail's literals were propagated.
     pub propagated: usize,
     /// Clauses of at most one literal, which nothing watches.
-    pub short: Vec<usize>,
+    pub short: Vec<u32>,
     /// The clause of one literal that gives a node its value at level 0.
     pub units: Vec<Option<Hint>>,
     /// How many of the trail's literals have such a clause.
@@ -49,17 +49,17 @@ pub struct Search {
 }
 
 /// At which conflict learned clauses are first dropped.
-const FIRST_REDUCTION: u64 = 2000;
+pub const FIRST_REDUCTION: u64 = 1000;
 
 /// What became of a watcher: it stays, with a blocking literal, or it is gone.
 #[derive(Clone, Copy)]
 struct Visit {
-    blocker: Option<Lit>,
+    blocker: Option<Packed>,
     is_conflict: bool,
 }
 
 /// A watcher that stays.
-fn kept_with(blocker: Lit) -> Visit {
+fn kept_with(blocker: Packed) -> Visit {
     Visit {
         blocker: Some(blocker),
         is_conflict: false,
@@ -106,38 +106,36 @@ impl Search {
     /// Visits a clause whose watched literal became false.
     fn visit(
         &mut self,
-        clause: usize,
-        blocker: Lit,
-        falsified: Lit,
+        watcher: Watcher,
+        falsified: Packed,
         meter: &mut Meter,
     ) -> Result<Visit, CdclStop>
         ensures pays { Pays self.old.trail self.new.trail meter.old meter.new }
         ensures spent { IsErrOf result CdclStop.Spent → total meter.new ≡ meter.new.budget }
         ensures room { IsErrOf result CdclStop.Spent → length self.new.trail.literals < self.new.trail.nodes }
     {
-        if self.trail.is_true(blocker) {
+        let Watcher { place, blocker } = watcher;
+        if self.trail.has(blocker) {
             return Ok(kept_with(blocker));
         }
-        if self.arena.is_dropped(clause) {
-            return Ok(gone());
-        }
-        let Some((start, end)) = self.arena.span(clause) else {
+        let Some((start, end)) = self.arena.span(place) else {
             return Ok(gone());
         };
-        let literals = &mut self.arena.literals[start..end];
+        let literals = &mut self.arena.words[start..end];
         match watch_another(&self.trail, literals, falsified) {
             Watched::Short => Ok(gone()),
             Watched::True(blocker) => Ok(kept_with(blocker)),
             Watched::Moved { to, other } => {
                 let watcher = Watcher {
-                    clause,
+                    place,
                     blocker: other,
                 };
                 self.watches.push(to, watcher)?;
                 Ok(gone())
             }
             Watched::Unit(literal) => {
-                let is_new = self.trail.assign(literal, Some(clause), meter)?;
+                let clause = self.arena.number_at(place);
+                let is_new = self.trail.assign(literal.literal(), Some(clause), meter)?;
                 Ok(Visit {
                     blocker: Some(literal),
                     is_conflict: !is_new,
@@ -146,8 +144,30 @@ impl Search {
         }
     }
 
-    /// Visits the clauses that watch a literal which became false. Gives one that is false, if one is.
-    fn visit_all(&mut self, falsified: Lit, meter: &mut Meter) -> Result<Option<usize>, CdclStop>
+    /// Visits the clauses of two literals one of which became false. Gives one that is false, if one is.
+    fn visit_pairs(&mut self, falsified: Packed, meter: &mut Meter) -> Result<Option<u32>, CdclStop>
+        ensures pays { Pays self.old.trail self.new.trail meter.old meter.new }
+        ensures spent { IsErrOf result CdclStop.Spent → total meter.new ≡ meter.new.budget }
+        ensures room { IsErrOf result CdclStop.Spent → length self.new.trail.literals < self.new.trail.nodes }
+    {
+        let list = self.watches.take_pairs(falsified);
+        let mut conflict = None;
+        for k in 0..list.len() {
+            let Pair { clause, other } = list[k];
+            if self.trail.has(other) {
+                continue;
+            }
+            if !self.trail.assign(other.literal(), Some(clause), meter)? {
+                conflict = Some(clause);
+                break;
+            }
+        }
+        self.watches.put_pairs(falsified, list);
+        Ok(conflict)
+    }
+
+    /// Visits the longer clauses that watch a literal which became false. Gives one that is false, if one is.
+    fn visit_all(&mut self, falsified: Packed, meter: &mut Meter) -> Result<Option<u32>, CdclStop>
         ensures pays { Pays self.old.trail self.new.trail meter.old meter.new }
         ensures spent { IsErrOf result CdclStop.Spent → total meter.new ≡ meter.new.budget }
         ensures room { IsErrOf result CdclStop.Spent → length self.new.trail.literals < self.new.trail.nodes }
@@ -156,16 +176,17 @@ impl Search {
         let mut kept = 0;
         let mut conflict = None;
         for k in 0..list.len() {
-            let Watcher { clause, blocker } = list[k];
+            let watcher = list[k];
+            let place = watcher.place;
             let visit = match conflict {
-                None => self.visit(clause, blocker, falsified, meter)?,
-                Some(_) => kept_with(blocker),
+                None => self.visit(watcher, falsified, meter)?,
+                Some(_) => kept_with(watcher.blocker),
             };
             if visit.is_conflict {
-                conflict = Some(clause);
+                conflict = Some(self.arena.number_at(place));
             }
             if let Some(blocker) = visit.blocker {
-                list[kept] = Watcher { clause, blocker };
+                list[kept] = Watcher { place, blocker };
                 kept += 1;
             }
         }
@@ -175,7 +196,7 @@ impl Search {
     }
 
     /// Propagates until nothing is left to propagate. Gives a clause that is false, if one is found.
-    pub fn propagate(&mut self, meter: &mut Meter) -> Result<Option<usize>, CdclStop>
+    pub fn propagate(&mut self, meter: &mut Meter) -> Result<Option<u32>, CdclStop>
         ensures pays { Pays self.old.trail self.new.trail meter.old meter.new }
         ensures spent { IsErrOf result CdclStop.Spent → total meter.new ≡ meter.new.budget }
         ensures room { IsErrOf result CdclStop.Spent → length self.new.trail.literals < self.new.trail.nodes }
@@ -185,8 +206,11 @@ impl Search {
             if self.propagated >= literals.len() {
                 break;
             }
-            let falsified = literals[self.propagated].negated();
+            let falsified = Packed::of(literals[self.propagated]).negated();
             self.propagated += 1;
+            if let Some(conflict) = self.visit_pairs(falsified, meter)? {
+                return Ok(Some(conflict));
+            }
             if let Some(conflict) = self.visit_all(falsified, meter)? {
                 return Ok(Some(conflict));
             }
@@ -195,16 +219,17 @@ impl Search {
     }
 
     /// Gives the nodes of clauses with one literal their values. Gives a clause that is false, if one is.
-    pub fn assign_short(&mut self, meter: &mut Meter) -> Result<Option<usize>, CdclStop>
+    pub fn assign_short(&mut self, meter: &mut Meter) -> Result<Option<u32>, CdclStop>
         ensures pays { Pays self.old.trail self.new.trail meter.old meter.new }
         ensures spent { IsErrOf result CdclStop.Spent → total meter.new ≡ meter.new.budget }
         ensures room { IsErrOf result CdclStop.Spent → length self.new.trail.literals < self.new.trail.nodes }
     {
         for k in 0..self.short.len() {
             let clause = self.short[k];
-            let Some(literal) = self.arena.literals_of(clause).first().copied() else {
+            let Some(word) = self.arena.literals_of(clause).first().copied() else {
                 return Ok(Some(clause));
             };
+            let literal = Packed(word).literal();
             if self.trail.is_false(literal) {
                 return Ok(Some(clause));
             }
@@ -214,7 +239,7 @@ impl Search {
     }
 
     /// Takes the trail back to a level.
-    pub fn backjump(&mut self, level: usize) -> Result<(), AllocError> {
+    pub fn backjump(&mut self, level: u32) -> Result<(), AllocError> {
         for _ in 0..self.trail.nodes().saturating_add(1) {
             let Some(literal) = self.trail.pop_above(level) else {
                 break;
@@ -226,6 +251,7 @@ impl Search {
             self.order.insert(node)?;
         }
         self.propagated = self.propagated.min(self.trail.literals().len());
+        let level = level as usize;
         if level < self.cursors.len() {
             self.cursor = self.cursors[level];
             self.cursors.truncate(level);

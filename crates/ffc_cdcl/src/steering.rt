@@ -16,11 +16,7 @@ use std::alloc::AllocError;
 
 impl Search {
     /// `settle`, without its clause on the trail.
-    fn settle_all(
-        &mut self,
-        added: &[Literals],
-        meter: &mut Meter,
-    ) -> Result<Option<usize>, CdclStop>
+    fn settle_all(&mut self, added: &[Literals], meter: &mut Meter) -> Result<Option<u32>, CdclStop>
         ensures settled { IfOk result (λ conflict. conflict ≡ None → All (IsSettled self.new.trail) added.now) }
         ensures pays { Pays self.old.trail self.new.trail meter.old meter.new }
         ensures spent { IsErrOf result CdclStop.Spent → total meter.new ≡ meter.new.budget }
@@ -42,11 +38,7 @@ impl Search {
 
     /// Propagates before any decision. Gives a clause that is false, if one is; else propagation has nothing left to do with the
     /// added clauses.
-    pub fn settle(
-        &mut self,
-        added: &[Literals],
-        meter: &mut Meter,
-    ) -> Result<Option<usize>, CdclStop>
+    pub fn settle(&mut self, added: &[Literals], meter: &mut Meter) -> Result<Option<u32>, CdclStop>
         ensures settled { IfOk result (λ conflict. conflict ≡ None → All (IsSettled self.new.trail) added.now) }
         ensures distinct { NamesNoNodeTwice self.new.trail.literals }
         ensures pays { Pays self.old.trail self.new.trail meter.old meter.new }
@@ -117,7 +109,7 @@ impl Search {
         &mut self,
         clause: &[Lit],
         hint: Hint,
-        level: usize,
+        level: u32,
         spread: u32,
         meter: &mut Meter,
     ) -> Result<(), CdclStop>

@@ -6,6 +6,7 @@ ghost use Rattle.ffc_cdcl.specs.Literals.{NamesNoNodeTwice};
 ghost use Rattle.ffc_cdcl.specs.Trails.{IsOpen, Pays};
 
 use crate::literal::Lit;
+use crate::packed::Packed;
 use crate::theory::CdclStop;
 use ffc_base::{Meter, Unit};
 use ffc_term::NodeId;
@@ -15,10 +16,15 @@ use std::marker::Model;
 /// When and why a node's literal was put on the trail.
 #[derive(Clone, Copy)]
 pub struct Entry {
-    pub level: usize,
-    pub position: usize,
+    pub level: u32,
+    pub position: u32,
     /// The clause of a propagated literal.
-    pub reason: Option<usize>,
+    pub reason: Option<u32>,
+}
+
+/// A level or a position; there are fewer than 2^32 of either on a trail, which has a literal for each.
+fn short(count: usize) -> u32 {
+    u32::try_from(count).unwrap_or(u32::MAX)
 }
 
 /// Clauses see the literals and the number of nodes. Levels begin at decisions; level 0 has none.
@@ -103,6 +109,12 @@ impl Trail {
         self.value_of(literal.node) == Some(!literal.positive)
     }
 
+    /// Whether the trail has a literal that a clause of the search has.
+    #[inline(always)]
+    pub fn has(&self, literal: Packed) -> bool {
+        self.value_of(literal.node()) == Some(literal.is_positive())
+    }
+
     /// Whether the trail has neither a literal of this node nor its negation.
     pub fn is_open(&self, node: NodeId) -> bool
         ensures { result ≡ true → IsOpen self.now node }
@@ -137,13 +149,13 @@ impl Trail {
         self.values.len()
     }
 
-    pub fn level(&self) -> usize {
-        self.starts.len()
+    pub fn level(&self) -> u32 {
+        short(self.starts.len())
     }
 
     /// How many literals the levels up to this one have.
-    pub fn end_of(&self, level: usize) -> usize {
-        match self.starts.as_slice().get(level) {
+    pub fn end_of(&self, level: u32) -> usize {
+        match self.starts.as_slice().get(level as usize) {
             Some(end) => *end,
             None => self.literals.len(),
         }
@@ -161,7 +173,7 @@ impl Trail {
     pub fn assign(
         &mut self,
         literal: Lit,
-        reason: Option<usize>,
+        reason: Option<u32>,
         meter: &mut Meter,
     ) -> Result<bool, CdclStop>
         ensures put { IfOk result (λ put. put ≡ true → self.new.literals ≡ self.old.literals ++ literal ∷ []) }
@@ -174,8 +186,8 @@ impl Trail {
             return Ok(false);
         }
         let entry = Entry {
-            level: self.starts.len(),
-            position: self.literals.len(),
+            level: short(self.starts.len()),
+            position: short(self.literals.len()),
             reason,
         };
         if let Err(_) = self.literals.push(literal) {
@@ -200,13 +212,13 @@ impl Trail {
     }
 
     /// Takes the last literal off the trail where it is above a level. Where none is, the level is the last one from there on.
-    pub fn pop_above(&mut self, level: usize) -> Option<Lit>
+    pub fn pop_above(&mut self, level: u32) -> Option<Lit>
         ensures { self.new.nodes ≡ self.old.nodes }
     {
         if self.literals.len() > self.end_of(level) {
             return self.pop();
         }
-        self.starts.truncate(level);
+        self.starts.truncate(level as usize);
         None
     }
 }

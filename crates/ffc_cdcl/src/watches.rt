@@ -1,6 +1,6 @@
 //! Which clauses watch which literals (two watched literals with blocking literals; Moskewicz and others 2001, Eén and Sörensson
 //! 2003).
-use crate::literal::Lit;
+use crate::packed::Packed;
 use crate::trail::Trail;
 use std::alloc::{AllocError, Global};
 use std::mem;
@@ -8,30 +8,48 @@ use std::mem;
 /// A clause that watches a literal, with another literal of it: where that one is true, the clause need not be read.
 #[derive(Clone, Copy)]
 pub struct Watcher {
-    pub clause: usize,
-    pub blocker: Lit,
+    /// Where the clause lies in the buffer.
+    pub place: u32,
+    pub blocker: Packed,
 }
 
-/// Lists of watchers by the place of the watched literal.
+/// A clause of two literals that watches one of them. It is never read while its literals are propagated.
+#[derive(Clone, Copy)]
+pub struct Pair {
+    /// The number of the clause.
+    pub clause: u32,
+    pub other: Packed,
+}
+
+/// Lists of clauses by the place of the watched literal.
 #[derive(Drop)]
 pub struct Watches {
     alloc: Global,
     lists: Vec<Vec<Watcher>>,
+    pairs: Vec<Vec<Pair>>,
 }
 
 impl Watches {
     /// Empty lists for the literals of the nodes below a number.
     pub fn new(alloc: Global, nodes: usize) -> Result<Self, AllocError> {
         let mut lists = Vec::new(alloc);
+        let mut pairs = Vec::new(alloc);
         for _ in 0..nodes {
             lists.push(Vec::new(alloc))?;
             lists.push(Vec::new(alloc))?;
+            pairs.push(Vec::new(alloc))?;
+            pairs.push(Vec::new(alloc))?;
         }
-        Ok(Watches { alloc, lists })
+        Ok(Watches {
+            alloc,
+            lists,
+            pairs,
+        })
     }
 
     /// Lets a clause watch a literal.
-    pub fn push(&mut self, literal: Lit, watcher: Watcher) -> Result<(), AllocError> {
+    #[inline(always)]
+    pub fn push(&mut self, literal: Packed, watcher: Watcher) -> Result<(), AllocError> {
         let place = literal.place();
         if place < self.lists.len() {
             self.lists[place].push(watcher)?;
@@ -39,8 +57,67 @@ impl Watches {
         Ok(())
     }
 
+    fn push_pair(&mut self, literal: Packed, pair: Pair) -> Result<(), AllocError> {
+        let place = literal.place();
+        if place < self.pairs.len() {
+            self.pairs[place].push(pair)?;
+        }
+        Ok(())
+    }
+
+    /// Lets a clause watch its first two literals, where it has two.
+    pub fn watch(&mut self, literals: &[u32], place: u32, clause: u32) -> Result<(), AllocError> {
+        if literals.len() < 2 {
+            return Ok(());
+        }
+        let first = Packed(literals[0]);
+        let second = Packed(literals[1]);
+        if literals.len() == 2 {
+            self.push_pair(
+                first,
+                Pair {
+                    clause,
+                    other: second,
+                },
+            )?;
+            self.push_pair(
+                second,
+                Pair {
+                    clause,
+                    other: first,
+                },
+            )?;
+            return Ok(());
+        }
+        self.push(
+            first,
+            Watcher {
+                place,
+                blocker: second,
+            },
+        )?;
+        self.push(
+            second,
+            Watcher {
+                place,
+                blocker: first,
+            },
+        )
+    }
+
+    /// Empties all lists. They keep their memory.
+    pub fn clear(&mut self) {
+        for k in 0..self.lists.len() {
+            self.lists[k].truncate(0);
+        }
+        for k in 0..self.pairs.len() {
+            self.pairs[k].truncate(0);
+        }
+    }
+
     /// Takes out the list of a literal.
-    pub fn take(&mut self, literal: Lit) -> Vec<Watcher> {
+    #[inline(always)]
+    pub fn take(&mut self, literal: Packed) -> Vec<Watcher> {
         let place = literal.place();
         let empty = Vec::new(self.alloc);
         if place < self.lists.len() {
@@ -51,10 +128,32 @@ impl Watches {
     }
 
     /// Puts the list of a literal back.
-    pub fn put(&mut self, literal: Lit, list: Vec<Watcher>) {
+    #[inline(always)]
+    pub fn put(&mut self, literal: Packed, list: Vec<Watcher>) {
         let place = literal.place();
         if place < self.lists.len() {
             self.lists[place] = list;
+        }
+    }
+
+    /// Takes out the clauses of two literals that watch a literal.
+    #[inline(always)]
+    pub fn take_pairs(&mut self, literal: Packed) -> Vec<Pair> {
+        let place = literal.place();
+        let empty = Vec::new(self.alloc);
+        if place < self.pairs.len() {
+            mem::replace(&mut self.pairs[place], empty)
+        } else {
+            empty
+        }
+    }
+
+    /// Puts them back.
+    #[inline(always)]
+    pub fn put_pairs(&mut self, literal: Packed, list: Vec<Pair>) {
+        let place = literal.place();
+        if place < self.pairs.len() {
+            self.pairs[place] = list;
         }
     }
 }
@@ -62,31 +161,31 @@ impl Watches {
 /// What becomes of a clause whose watched literal became false.
 pub enum Watched {
     /// Its other watched literal is true.
-    True(Lit),
+    True(Packed),
     /// It watches `to` from now on; the other watched literal is `other`.
-    Moved { to: Lit, other: Lit },
+    Moved { to: Packed, other: Packed },
     /// All its literals but perhaps this one are false.
-    Unit(Lit),
+    Unit(Packed),
     /// It has fewer than two literals.
     Short,
 }
 
 /// Finds another literal to watch. The watched literals are the first two.
 #[inline(always)]
-pub fn watch_another(trail: &Trail, literals: &mut [Lit], falsified: Lit) -> Watched {
+pub fn watch_another(trail: &Trail, literals: &mut [u32], falsified: Packed) -> Watched {
     if literals.len() < 2 {
         return Watched::Short;
     }
-    if literals[0].is_same(falsified) {
+    if literals[0] == falsified.0 {
         literals.swap(0, 1);
     }
-    let first = literals[0];
-    if trail.is_true(first) {
+    let first = Packed(literals[0]);
+    if trail.has(first) {
         return Watched::True(first);
     }
     for k in 2..literals.len() {
-        let literal = literals[k];
-        if !trail.is_false(literal) {
+        let literal = Packed(literals[k]);
+        if !trail.has(literal.negated()) {
             literals.swap(1, k);
             return Watched::Moved {
                 to: literal,
