@@ -202,6 +202,46 @@ fn is_closed_between<F: Field, O: MonoOrder>(
     }
 }
 
+/// Whether the leading monomial of a polynomial divides a monomial.
+fn is_led_by_divisor<F: Field, O: MonoOrder>(poly: &Poly<F, O>, m: &Mono) -> bool {
+    match poly.lead() {
+        Some((_, lead)) => lead.divides(m.as_ref()),
+        None => false,
+    }
+}
+
+/// Whether a third line's leading monomial divides the least common multiple of those of two lines. This is seen before any
+/// S-polynomial is made, since on sparse lines there is mostly none.
+fn has_third<F: Field, O: MonoOrder>(
+    alloc: Global,
+    lines: &[Line<F, O>],
+    i: usize,
+    j: usize,
+) -> Result<bool, AllocError>
+    requires first { i < length lines.now }
+    requires second { j < length lines.now }
+{
+    let Some(m) = lines[i].poly.lead() else {
+        return Ok(false);
+    };
+    let Some(n) = lines[j].poly.lead() else {
+        return Ok(false);
+    };
+    let lcm = match lcm_of(alloc, m.1, n.1) {
+        Ok(lcm) => lcm,
+        Err(stop) => {
+            past_limit(stop)?;
+            return Ok(false);
+        }
+    };
+    for third in 0..lines.len() {
+        if third != i && third != j && is_led_by_divisor(&lines[third].poly, &lcm) {
+            return Ok(true);
+        }
+    }
+    Ok(false)
+}
+
 /// Whether the pair of two lines follows from its pairs with a third one, which are done.
 fn is_chained_by<F: Field, O: MonoOrder>(
     alloc: Global,
@@ -219,10 +259,7 @@ fn is_chained_by<F: Field, O: MonoOrder>(
     requires records { AreRecords F.ORDER O.cmp (polys_of lines.now) records.now }
     ensures { IfOk result (λ b. IsTrue b → AreBothClosed F.ORDER O.cmp (polys_of lines.now) i j) }
 {
-    let Some((_, lead)) = lines[third].poly.lead() else {
-        return Ok(false);
-    };
-    if !lead.divides(whole.lcm.as_ref()) {
+    if !is_led_by_divisor(&lines[third].poly, &whole.lcm) {
         return Ok(false);
     }
     if !is_closed_between(lines, records, i, third) {
@@ -247,6 +284,9 @@ pub(crate) fn is_chained<F: Field, O: MonoOrder>(
     requires records { AreRecords F.ORDER O.cmp (polys_of lines.now) records.now }
     ensures { IfOk result (λ b. IsTrue b → AreBothClosed F.ORDER O.cmp (polys_of lines.now) i j) }
 {
+    if !has_third(alloc, lines, i, j)? {
+        return Ok(false);
+    }
     let Some(whole) = top_of(alloc, lines, i, j)? else {
         return Ok(false);
     };
