@@ -30,7 +30,7 @@ literal_of positive n = if n == 0 then None else Some (Literal (positive, n - 1)
 abbrev pub end_or_literal : ℕ → Option Item
 end_or_literal n = if n == 0 then Some End else literal_of true n
 
--- what a word of a clause means: `0` is its end, `-` stands before a negated variable
+-- what a word of a clause means: `0` is its end, `-` comes before a negated variable
 abbrev pub item_of : List ℕ → Option Item
 item_of [] = None
 item_of (b ∷ bs) = if b == 45 then option_and_then (literal_of false) (number_of bs) else option_and_then end_or_literal (number_of (b ∷ bs))

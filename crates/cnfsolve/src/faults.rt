@@ -1,7 +1,7 @@
 //! Why a text in the DIMACS format is refused.
 use std::alloc::AllocError;
 
-/// What was expected in place of the first word that cannot stand where it does.
+/// What was expected in place of the first word that is not allowed at its place.
 #[derive(Clone, Copy, Debug, PartialEq, Eq)]
 pub enum Cause {
     /// The words `p cnf` and two numbers below 2^32.

@@ -1,7 +1,8 @@
 //! Formulas in the DIMACS format, one after another in one text.
 ghost use Rattle.std.specs.Prelude.{◌≡◌, [], All, OnOk, IfOk, IfErr};
 ghost use Rattle.std.specs.Str.{bytes_eq};
-ghost use Rattle.cnfsolve.specs.Reading.{start, expecting, take_item, take_at, take_word, take_byte, reading_from, finished, formulas_of};
+ghost use Rattle.cnfsolve.specs.Reading.{start, expecting, take_item, take_at, take_word, take_byte, reading_from};
+ghost use Rattle.cnfsolve.specs.Reading.{finished, formulas_of};
 ghost use Rattle.cnfsolve.specs.Reading.{take_plain, refused, without_clauses};
 ghost use Rattle.cnfsolve.specs.Steps.{Stops};
 
@@ -128,7 +129,7 @@ impl Reader {
         self.expect(clauses)
     }
 
-    /// Takes a word where it stands.
+    /// Takes a word at its place.
     fn take_at(&mut self, word: &[u8]) -> Result<(), ReadStop>
         ensures ok { OnOk result (take_at self.old.stage word.now self.old ≡ Ok self.new) }
         ensures err { IfErr result (Stops (take_at self.old.stage word.now self.old)) }

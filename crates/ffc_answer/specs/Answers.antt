@@ -136,7 +136,7 @@ core_answer (Some l) =
       | Some numbers ↦ listed (map written_symbol (names_at (names_in_force l.check) numbers))
     ]
 
--- the text of each active term that is an assumption; assertions stand before them
+-- the text of each active term that is an assumption; assertions come before them
 abbrev pub assumption_texts : TableCheck → List Asked → List (Option (List ℕ))
 assumption_texts check asked = map (λ _. None) check.check.assertions ++ map (λ a. Some (asked_text a)) asked
 

@@ -63,7 +63,7 @@ definition_head name = codes "(define-fun " ++ name ++ codes " () "
 abbrev pub definition_text : List ℕ → Sort → Value → List ℕ
 definition_text name s value = line (definition_head name ++ typed_text s value ++ codes ")")
 
--- where values of nodes stand at their numbers
+-- where values of nodes are at their numbers
 unfoldable pub definition_with : List Value → Declared → List ℕ
 definition_with values d = definition_text (written_symbol d.name) d.sort (value_in values d.node)
 

@@ -53,7 +53,7 @@ abbrev pub IsFreshAs : Option Last → Bool → Type 0
 IsFreshAs None fresh = Unit {0}
 IsFreshAs (Some l) fresh = fresh ≡ l.fresh
 
--- the numbers that the last entry uses of the list in force at its check
+-- the numbers that the last entry uses of the active list at its check
 abbrev pub numbers_of : Option Last → List ℕ
 numbers_of None = []
 numbers_of (Some l) = core l.entry (length (nodes_in_force l.check))

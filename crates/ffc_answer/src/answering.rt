@@ -57,7 +57,8 @@ pub fn write_answer(
     out: &mut Vec<u8>,
 ) -> Result<(), AllocError>
     requires view { (l : Option Last) × (x : Step) × IsView view.now command.now l x }
-    ensures ok { OnOk result ((l : Option Last) (x : Step) → IsView view.now command.now l x → out.new.items ≡ out.old.items ++ answer_of l x) }
+    ensures ok { OnOk result ((l : Option Last) (x : Step) → IsView view.now command.now l x → out.new.items
+        ≡ out.old.items ++ answer_of l x) }
     ensures err { OnErr result (out.new.items ≡ out.old.items) }
 {
     let mut answer = Vec::new(alloc);

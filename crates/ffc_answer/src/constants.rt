@@ -21,7 +21,7 @@ fn constant_count(table: &NodeTable) -> usize
     count
 }
 
-/// Gives the constant of this node, if it is one, the value that a number stands for.
+/// Gives the constant of this node, if it is one, the value of a number.
 fn give(node: &Node, number: u64, values: &mut [Value])
     ensures { values.new ≡ slice_set values.old (number_of_constant node.now) (value_of_number node.now number) }
 {
@@ -38,8 +38,10 @@ fn give(node: &Node, number: u64, values: &mut [Value])
 /// Gives constants, by their nodes, their values. Of a constant that is listed twice the first value counts.
 fn give_listed(table: &NodeTable, pairs: &[(u32, u64)], values: &mut [Value])
     requires within { All (λ p. p.0 < length table.now) pairs.now }
-    requires clear { (k : ℕ) → k < length values.old → slice_index_or values.old k (value.Bool false) ≡ value.Bool false }
-    ensures { (k : ℕ) → k < length values.old → slice_index_or values.new k (value.Bool false) ≡ listed_value table.now pairs.now k }
+    requires clear { (k : ℕ) → k < length values.old → slice_index_or values.old k (value.Bool false)
+        ≡ value.Bool false }
+    ensures { (k : ℕ) → k < length values.old → slice_index_or values.new k (value.Bool false)
+        ≡ listed_value table.now pairs.now k }
 {
     for i in 0..pairs.len() {
         let pair = pairs[pairs.len() - 1 - i];
@@ -73,7 +75,9 @@ pub(crate) fn values_of(
     requires ids { All (λ id. id < length table.now) ids.now }
     requires pairs { All (λ p. p.0 < length table.now) pairs.now }
     ensures long { IfOk result (λ values. length values.items ≡ length table.now) }
-    ensures at { IfOk result (λ values. All (λ id. value_in values.items id ≡ value_at table.now (listed_assignment table.now pairs.now) id) ids.now) }
+    ensures at { IfOk result
+        (λ values. All (λ id. value_in values.items id ≡ value_at table.now (listed_assignment table.now pairs.now) id)
+        ids.now) }
 {
     let assignment = assignment_of(alloc, table, pairs)?;
     let cone = table.nodes_of(ids)?;

@@ -49,7 +49,7 @@ pub(crate) fn symbols_at(
     Ok(texts)
 }
 
-/// The assumption at a number, where there is one; so many assertions stand before them.
+/// The assumption at a number, where there is one; so many assertions come before them.
 fn assumption_at(assertions: usize, asked: &[Asked], number: u64) -> Option<&Text>
     ensures { option_copied result ≡ name_at (assumed_texts assertions asked.now) number }
 {

@@ -2,7 +2,9 @@
 ghost use Rattle.std.specs.Prelude.{◌≡◌, ◌<◌, ◌++◌, length, map, Some, All, IfOk, OnOk};
 ghost use Rattle.std.specs.List.{flat_map};
 ghost use Rattle.std.specs.Option.{option_copied};
-ghost use Rattle.ffc_answer.specs.Seen.{AreAskedWithin, FitsModel, definition_head, definition_text, definition_with, model_by, model_seen, pair_with, pairs_seen, typed_text, values_by, values_seen};
+ghost use Rattle.ffc_answer.specs.Seen.{AreAskedWithin, FitsModel, definition_head, definition_text, definition_with};
+ghost use Rattle.ffc_answer.specs.Seen.{model_by, model_seen, pair_with, pairs_seen, typed_text, values_by};
+ghost use Rattle.ffc_answer.specs.Seen.{values_seen};
 
 use crate::constants::values_of;
 use crate::texts::{append_error, append_line, append_list, append_sort, append_value};

@@ -10,7 +10,7 @@ pub struct View<'a> {
     pub last: Option<&'a Entry>,
     /// Whether no command since has ended its model.
     pub fresh: bool,
-    /// The numbers of the list in force that the entry uses; none where it is no refutation.
+    /// The numbers of the active list that the entry uses; none where it is no refutation.
     pub core: &'a [u64],
     /// The assumptions of the last check, where it was a check under assumptions.
     pub asked: Option<&'a [Asked]>,

@@ -1,4 +1,4 @@
--- A count of faults that stands after Ok and goes up after Err.
+-- A count of faults that stays after Ok and goes up after Err.
 use Rattle.std.proofs.Common.{◌≡◌, ℕ, ◌≤◌, Result, Ok, Err, OnOk, OnErr, IfOk, arith}
 use Rattle.ffc_base.specs.Outside.{Rose}
 use Rattle.ffc_base.specs.Counts.{counted}

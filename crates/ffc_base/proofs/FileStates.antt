@@ -3,7 +3,7 @@ use Rattle.std.proofs.Common.{◌≡◌, ℕ, List, Option, Some, Result, Ok, Er
 use Rattle.ffc_base.specs.Counts.{counted}
 use Rattle.ffc_base.specs.Files.{FileState}
 
--- the count stands where the state does
+-- the count stays where the state does
 pub steady_faults : {T E : Type 0} → (r : Result T E) (old new : FileState) → OnOk r (new ≡ old) → OnOk r (new.faults ≡ old.faults)
 steady_faults (Ok x) old new ok = cc
 steady_faults (Err e) old new ok = tt

@@ -43,7 +43,7 @@ pub record SinkState : Type 0 where
 abbrev pub IsSinkState : SinkState → Type 0
 IsSinkState s = s.faults ≤ 18446744073709551615
 
--- where the sink's next call is one of those that fail, the length that stands with the first entry of its number
+-- where the sink's next call is one of those that fail, the length in the first entry of its number
 abbrev pub next_prefix : SinkState → Option ℕ
 next_prefix s = option_map (λ entry. entry.1) (find (λ entry. entry.0 == counted s.calls) s.fails)
 

@@ -1,5 +1,6 @@
 //! A source and a sink in memory whose calls fail by number.
-ghost use Rattle.std.specs.Prelude.{◌≡◌, ℕ, ◌<◌, ◌≤◌, ◌↔◌, List, [], ◌++◌, length, take, drop, min, Option, Some, IsErr, IsSome, IsNone, IfOk, IfErr, IfSome, OnOk, OnErr, IsErrOf, None};
+ghost use Rattle.std.specs.Prelude.{◌≡◌, ℕ, ◌<◌, ◌≤◌, ◌↔◌, List, [], ◌++◌, length, take, drop, min, Option, Some};
+ghost use Rattle.std.specs.Prelude.{IsErr, IsSome, IsNone, IfOk, IfErr, IfSome, OnOk, OnErr, IsErrOf, None};
 ghost use Rattle.ffc_base.specs.Contents.{left_of, advanced, rewound};
 ghost use Rattle.ffc_base.specs.Failing.{SourceState, IsSourceState, NextFails, source_after_call, source_after_fault};
 ghost use Rattle.ffc_base.specs.Failing.{SinkState, IsSinkState, next_prefix, sink_after_call, sink_after_fault};
@@ -11,7 +12,7 @@ use std::marker::Model;
 /// Bytes in memory as a source whose calls fail by number.
 ///
 /// Calls of `read` and `open_named` are counted together, from 1; the count stays at 2^64 - 1 once it is there. Those
-/// whose numbers are listed fail, and change the counts alone. Every name stands for its one content: `open_named`
+/// whose numbers are listed fail, and change the counts alone. Every name refers to the one content: `open_named`
 /// begins it again.
 #[derive(Debug, Drop)]
 pub struct MemSource {
@@ -126,9 +127,9 @@ impl NamedSource for MemSource {
 /// Bytes in memory as a sink whose calls fail by number.
 ///
 /// Calls of `write` and `create` are counted together, from 1; the count stays at 2^64 - 1 once it is there. With each
-/// listed number stands the length of the prefix that a write of this number still appends, at most all its bytes; of a
+/// listed number is the length of the prefix that a write of this number still appends, at most all its bytes; of a
 /// number listed twice the first entry counts. A listed `create` changes the counts alone. A call for which memory
-/// wants changes nothing, so it is not counted. Every name stands for its one content: `create` empties it.
+/// wants changes nothing, so it is not counted. Every name refers to the one content: `create` empties it.
 #[derive(Debug, Drop)]
 pub struct MemSink {
     bytes: Vec<u8>,

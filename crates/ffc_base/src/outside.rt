@@ -1,5 +1,6 @@
 //! The traits through which the programs reach the outside.
-ghost use Rattle.std.specs.Prelude.{◌≡◌, ℕ, ◌<◌, ◌≤◌, List, [], length, Option, Some, IfOk, IfSome, OnOk, OnErr, IsErrOf};
+ghost use Rattle.std.specs.Prelude.{◌≡◌, ℕ, ◌<◌, ◌≤◌, List, [], length, Option, Some, IfOk, IfSome, OnOk, OnErr};
+ghost use Rattle.std.specs.Prelude.{IsErrOf};
 ghost use Rattle.ffc_base.specs.Outside.{Rose, MovesFront, Appends, AppendsPrefix, Becomes};
 
 /// A read failed; the source's count of faults says so.
@@ -11,7 +12,7 @@ pub struct Failed;
 pub enum WriteStop {
     /// The outside failed; the object's count of faults says so.
     Failed,
-    /// Memory was wanting.
+    /// Out of memory.
     Memory,
 }
 
@@ -31,7 +32,7 @@ pub trait Source {
     /// The bytes that are left, where the source tells them.
     ghost left: { Self → Option (List ℕ) };
 
-    /// How often a call has failed. It stands still at 2^64 - 1.
+    /// How often a call has failed. It stays at 2^64 - 1.
     ghost faults: { Self → ℕ };
 
     /// Moves the next bytes to the front of `buf`, and says how many. 0 is the end of the input.
@@ -52,7 +53,7 @@ pub trait Sink {
     /// The name under which its contents were created last, where it tells that; the empty name before the first one.
     ghost name: { Self → Option (List ℕ) };
 
-    /// How often a call has failed. It stands still at 2^64 - 1.
+    /// How often a call has failed. It stays at 2^64 - 1.
     ghost faults: { Self → ℕ };
 
     /// Appends all of `bytes`.
@@ -67,7 +68,7 @@ pub trait Sink {
 
 /// A source whose contents are found by name.
 pub trait NamedSource: Source {
-    /// The contents of each name, where they are told.
+    /// The contents of each name, where they are stated.
     ghost contents: { Self → List ℕ → Option (List ℕ) };
 
     /// Makes the named contents what is left.

@@ -1,5 +1,6 @@
 //! A source and a sink in memory whose calls never fail.
-ghost use Rattle.std.specs.Prelude.{◌≡◌, ℕ, ◌≤◌, List, [], ◌++◌, length, take, drop, min, Option, Some, Ok, IsOk, IfOk, OnOk, OnErr, IfErr, None};
+ghost use Rattle.std.specs.Prelude.{◌≡◌, ℕ, ◌≤◌, List, [], ◌++◌, length, take, drop, min, Option, Some, Ok, IsOk, IfOk};
+ghost use Rattle.std.specs.Prelude.{OnOk, OnErr, IfErr, None};
 ghost use Rattle.ffc_base.specs.Contents.{Contents, left_of, advanced, rewound};
 
 use crate::outside::{Failed, NamedSink, NamedSource, Sink, Source, WriteStop};
@@ -8,7 +9,7 @@ use std::marker::Model;
 
 /// Bytes in memory as a source. No call fails, and the count of faults is 0 throughout.
 ///
-/// Every name stands for its one content: `open_named` begins it again.
+/// Every name refers to the one content: `open_named` begins it again.
 #[derive(Debug, Drop)]
 pub struct SureSource {
     bytes: Vec<u8>,
@@ -63,7 +64,7 @@ impl NamedSource for SureSource {
 
 /// Bytes in memory as a sink. No call fails, and the count of faults is 0 throughout; a write may want memory.
 ///
-/// Every name stands for its one content: `create` empties it.
+/// Every name refers to the one content: `create` empties it.
 #[derive(Debug, Drop)]
 pub struct SureSink {
     bytes: Vec<u8>,

@@ -23,7 +23,7 @@ AllBelow nodes clause = All (λ (l : Literal). l.1 < nodes) clause
 abbrev pub kept_clauses : List Kept → List Clause
 kept_clauses kept = map (λ (lemma : Kept). lemma.1) kept
 
--- each kept lemma stands in this list at its number
+-- each kept lemma is in this list at its number
 abbrev pub AreListed : List Clause → List Kept → Type 0
 AreListed lemmas kept = All (λ (lemma : Kept). slice_get lemmas lemma.0 ≡ Some lemma.1) kept
 

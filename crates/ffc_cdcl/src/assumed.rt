@@ -2,7 +2,7 @@
 ghost use Rattle.std.specs.Prelude.{◌≡◌, ℕ, ◌<◌, ◌==◌, ◌&&◌, not, [], ◌∷◌, length, OnOk};
 ghost use Rattle.std.specs.List.{list_any};
 ghost use Rattle.ffc_clause.specs.Clauses.{is_among};
-ghost use Rattle.ffc_cdcl.specs.Literals.{place_of, mark_at};
+ghost use Rattle.ffc_clause.specs.Marks.{place_of, mark_at};
 
 use crate::literal::Lit;
 use std::alloc::{AllocError, Global};
@@ -19,7 +19,7 @@ pub struct Assumed {
 impl Model for Assumed {
     ghost use Rattle.std.specs.Prelude.{List, reverse};
     ghost use Rattle.ffc_clause.specs.Clauses.{Literal as ClauseLiteral};
-    ghost use Rattle.ffc_cdcl.specs.Literals.{AreMarked};
+    ghost use Rattle.ffc_clause.specs.Marks.{AreMarked};
 
     ghost Value = { List ClauseLiteral };
 
@@ -41,7 +41,8 @@ fn reach(marks: &mut Vec<bool>, place: usize) -> Result<(), AllocError>
 
 /// Clears the marks of these literals.
 fn clear_all(marks: &mut [bool], literals: &[Lit])
-    ensures { (k : ℕ) → mark_at marks.new k ≡ (mark_at marks.old k && not (list_any (λ l. place_of l == k) literals.now)) }
+    ensures { (k : ℕ) → mark_at marks.new k
+        ≡ (mark_at marks.old k && not (list_any (λ l. place_of l == k) literals.now)) }
 {
     for literal in literals {
         let k = literal.place();

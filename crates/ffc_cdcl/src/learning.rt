@@ -83,7 +83,8 @@ impl Solver {
         conflict: u32,
         meter: &mut Meter,
     ) -> Result<Option<Vec<HintedClause>>, CdclStop>
-        ensures refuted { IfOk result (λ found. IfSome found (λ steps. IsRefutationBy (IsKept self.new.lemmas) self.new.added steps.items)) }
+        ensures refuted { IfOk result
+            (λ found. IfSome found (λ steps. IsRefutationBy (IsKept self.new.lemmas) self.new.added steps.items)) }
         ensures same { SameClauses self.old self.new }
         ensures lemmas { self.new.lemmas ≡ self.old.lemmas }
         ensures spent { IsErrOf result CdclStop.Spent → total meter.new ≡ meter.new.budget }
@@ -121,9 +122,11 @@ impl Solver {
         number: u64,
         meter: &mut Meter,
     ) -> Result<Option<Vec<HintedClause>>, CdclStop>
-        ensures refuted { IfOk result (λ found. IfSome found (λ steps. IsRefutationBy (IsKept self.new.lemmas) self.new.added steps.items)) }
+        ensures refuted { IfOk result
+            (λ found. IfSome found (λ steps. IsRefutationBy (IsKept self.new.lemmas) self.new.added steps.items)) }
         ensures same { SameClauses self.old self.new }
-        ensures lemmas { (self.new.lemmas ≡ self.old.lemmas) ⊎ (self.new.lemmas ≡ self.old.lemmas ++ (number, lemma.now) ∷ []) }
+        ensures lemmas { (self.new.lemmas ≡ self.old.lemmas) ⊎ (self.new.lemmas ≡ self.old.lemmas ++ (number, lemma.now)
+            ∷ []) }
         ensures spent { IsErrOf result CdclStop.Spent → total meter.new ≡ meter.new.budget }
         ensures meter { OnlyTakes meter.old meter.new }
     {

@@ -1,7 +1,7 @@
 //! Literals, and lists of them.
 ghost use Rattle.std.specs.Prelude.{◌≡◌, ◌++◌, ◌∷◌, [], ◌↔◌, IsTrue, IfOk, OnOk, OnErr, length};
 ghost use Rattle.ffc_clause.specs.Clauses.{negated, same_literal};
-ghost use Rattle.ffc_cdcl.specs.Literals.{place_of};
+ghost use Rattle.ffc_clause.specs.Marks.{place_of};
 
 use ffc_term::NodeId;
 use std::alloc::{AllocError, Global};

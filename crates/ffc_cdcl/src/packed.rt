@@ -2,7 +2,7 @@
 use crate::literal::Lit;
 use ffc_term::NodeId;
 
-/// Twice a node, and one more where the literal is positive. Nodes of 2^31 and more are not told apart from smaller ones; what
+/// Twice a node, and one more where the literal is positive. Nodes of 2^31 and more are not distinguished from smaller ones; what
 /// is learned from one in place of another does not follow by its hints, so the search ends.
 #[derive(Clone, Copy)]
 pub struct Packed(pub u32);

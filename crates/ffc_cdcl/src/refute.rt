@@ -45,7 +45,8 @@ impl Solver {
         steps: &'a [HintedClause],
         numbers: &[usize],
     ) -> Option<(Hint, &'a [Lit])>
-        ensures { IfSome result (λ named. Names (IsKept self.now.lemmas) self.now.added (clauses_of steps.now) named.0 named.1.now) }
+        ensures { IfSome result (λ named. Names (IsKept self.now.lemmas) self.now.added (clauses_of steps.now) named.0
+            named.1.now) }
     {
         match hint {
             Hint::Added(k) => {
@@ -72,7 +73,10 @@ impl Solver {
         steps: &[HintedClause],
         numbers: &[usize],
     ) -> Result<Option<HintedClause>, AllocError>
-        ensures { IfOk result (λ found. IfSome found (λ step. FollowsBy (Names (IsKept self.now.lemmas) self.now.added (clauses_of steps.now)) step.lits step.hints.items)) }
+        ensures { IfOk result
+            (λ found. IfSome found
+            (λ step. FollowsBy (Names (IsKept self.now.lemmas) self.now.added (clauses_of steps.now)) step.lits
+            step.hints.items)) }
     {
         let mut hints = Vec::new(self.alloc);
         walk.begin(learned.clause.as_slice())?;
@@ -95,7 +99,8 @@ impl Solver {
         &self,
         walk: &mut Walk,
     ) -> Result<Option<Vec<HintedClause>>, AllocError>
-        ensures { IfOk result (λ found. IfSome found (λ steps. IsRefutationBy (IsKept self.now.lemmas) self.now.added steps.items)) }
+        ensures { IfOk result
+            (λ found. IfSome found (λ steps. IsRefutationBy (IsKept self.now.lemmas) self.now.added steps.items)) }
     {
         let marks = reached(self.alloc, self.learned.as_slice())?;
         let mut numbers = vec![in self.alloc; 0; self.learned.len()]?;

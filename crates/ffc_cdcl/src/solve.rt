@@ -24,7 +24,8 @@ impl Solver {
     ) -> Result<Option<Outcome>, CdclStop>
         requires { AreListed (T.lemmas theory.old) self.old.lemmas }
         ensures model { IfOk result (OnSomeModel (λ trail. IsModel self.old.added trail × T.fits theory.new trail)) }
-        ensures refuted { IfOk result (OnSomeRefuted (λ steps. IsRefutation self.old.added (T.lemmas theory.new) steps)) }
+        ensures refuted { IfOk result
+            (OnSomeRefuted (λ steps. IsRefutation self.old.added (T.lemmas theory.new) steps)) }
         ensures same { SameClauses self.old self.new }
         ensures listed { AreListed (T.lemmas theory.new) self.new.lemmas }
         ensures kept { KeepsLemmas (T.lemmas theory.old) (T.lemmas theory.new) }
@@ -83,7 +84,8 @@ impl Solver {
         meter: &mut Meter,
     ) -> Result<Option<Vec<HintedClause>>, CdclStop>
         requires { search.old.trail ≡ record { nodes = self.old.nodes; literals = [] } }
-        ensures refuted { IfOk result (λ found. IfSome found (λ steps. IsRefutationBy (IsKept self.new.lemmas) self.new.added steps.items)) }
+        ensures refuted { IfOk result
+            (λ found. IfSome found (λ steps. IsRefutationBy (IsKept self.new.lemmas) self.new.added steps.items)) }
         ensures settled { IfOk result (λ found. found ≡ None → IsRefutedByPropagation self.old.added → ⊥) }
         ensures same { SameClauses self.old self.new }
         ensures lemmas { self.new.lemmas ≡ self.old.lemmas }
@@ -106,7 +108,8 @@ impl Solver {
         ensures listed { AreListed (T.lemmas theory.new) self.new.lemmas }
         ensures kept { KeepsLemmas (T.lemmas theory.old) (T.lemmas theory.new) }
         ensures spent { IsErrOf result CdclStop.Spent → total meter.new ≡ meter.new.budget }
-        ensures bound { IsErrOf result CdclStop.Spent → IsRefutedByPropagation self.old.added → meter.old.budget < total meter.old + self.old.nodes }
+        ensures bound { IsErrOf result CdclStop.Spent → IsRefutedByPropagation self.old.added → meter.old.budget
+            < total meter.old + self.old.nodes }
         ensures meter { OnlyTakes meter.old meter.new }
     {
         self.forget();
@@ -132,7 +135,8 @@ impl Solver {
         ensures lemmas { KeepsLemmas (T.lemmas theory.old) (T.lemmas theory.new) }
         ensures follow { LearnedFollow self.new }
         ensures spent { IsErrOf result CdclStop.Spent → total meter.new ≡ meter.new.budget }
-        ensures propagates { IsErrOf result CdclStop.Spent → IsRefutedByPropagation self.old.added → meter.old.budget < total meter.old + self.old.nodes }
+        ensures propagates { IsErrOf result CdclStop.Spent → IsRefutedByPropagation self.old.added → meter.old.budget
+            < total meter.old + self.old.nodes }
         ensures meter { OnlyTakes meter.old meter.new }
     {
         let answer = self.answer(theory, meter);

@@ -1,5 +1,6 @@
 //! What a solver has between its calls: added clauses in scopes, lemmas of the theory, and learned clauses.
-ghost use Rattle.std.specs.Prelude.{◌≡◌, ◌<◌, ◌≤◌, ◌↔◌, ◌++◌, IsTrue, ℕ, true, false, ◌∷◌, [], All, IfOk, IfSome, OnOk, OnErr, length, map, take};
+ghost use Rattle.std.specs.Prelude.{◌≡◌, ◌<◌, ◌≤◌, ◌↔◌, ◌++◌, IsTrue, ℕ, true, false, ◌∷◌, [], All, IfOk, IfSome, OnOk};
+ghost use Rattle.std.specs.Prelude.{OnErr, length, map, take};
 ghost use Rattle.ffc_cdcl.specs.State.{AllBelow, Implies, kept_clauses, LearnedFollow};
 
 use crate::answer::Hint;
@@ -121,7 +122,8 @@ impl Solver {
 
     /// Opens a scope.
     pub fn push_scope(&mut self) -> Result<(), AllocError>
-        ensures ok { OnOk result (self.new ≡ record self.old { scopes = self.old.scopes ++ length self.old.added ∷ [] }) }
+        ensures ok { OnOk result
+            (self.new ≡ record self.old { scopes = self.old.scopes ++ length self.old.added ∷ [] }) }
         ensures err { OnErr result (self.new ≡ self.old) }
     {
         self.scopes.push(self.added.len())?;
@@ -131,7 +133,8 @@ impl Solver {
     /// Closes the last scope: the clauses that were added in it are dropped, and what was learned from them.
     pub fn pop_scope(&mut self)
         requires { 0 < length self.old.scopes }
-        ensures dropped { (count : ℕ) × (self.old.scopes ≡ self.new.scopes ++ count ∷ []) × (self.new.added ≡ take count self.old.added) }
+        ensures dropped { (count : ℕ) × (self.old.scopes ≡ self.new.scopes ++ count ∷ [])
+            × (self.new.added ≡ take count self.old.added) }
         ensures nodes { self.new.nodes ≡ self.old.nodes }
         ensures lemmas { self.new.lemmas ≡ self.old.lemmas }
         ensures learned { (count : ℕ) × (self.new.learned ≡ take count self.old.learned) }
@@ -147,7 +150,8 @@ impl Solver {
     /// The clause that a hint names, and how many of the added clauses it rests on.
     fn named(&self, hint: Hint) -> Option<(&[Lit], usize)>
         ensures base { IfSome result (λ named. named.1 ≤ length self.now.added) }
-        ensures implied { IfSome result (λ named. Implies (take named.1 self.now.added) (kept_clauses self.now.lemmas) named.0.now) }
+        ensures implied { IfSome result (λ named. Implies (take named.1 self.now.added) (kept_clauses self.now.lemmas)
+            named.0.now) }
     {
         match hint {
             Hint::Added(k) => {
@@ -177,7 +181,9 @@ impl Solver {
         hints: &[Hint],
     ) -> Result<Option<usize>, AllocError>
         ensures base { IfOk result (λ found. IfSome found (λ base. base ≤ length self.now.added)) }
-        ensures implied { IfOk result (λ found. IfSome found (λ base. Implies (take base self.now.added) (kept_clauses self.now.lemmas) clause.now)) }
+        ensures implied { IfOk result
+            (λ found. IfSome found (λ base. Implies (take base self.now.added) (kept_clauses self.now.lemmas)
+            clause.now)) }
     {
         walk.begin(clause)?;
         let mut base = 0;
@@ -205,7 +211,8 @@ impl Solver {
         hints: Vec<Hint>,
         spread: u32,
     ) -> Result<bool, AllocError>
-        ensures learned { IfOk result (λ kept. kept ≡ true → self.new ≡ record self.old { learned = self.old.learned ++ clause.now ∷ [] }) }
+        ensures learned { IfOk result (λ kept. kept ≡ true → self.new
+            ≡ record self.old { learned = self.old.learned ++ clause.now ∷ [] }) }
         ensures refused { IfOk result (λ kept. kept ≡ false → self.new ≡ self.old) }
         ensures err { OnErr result (self.new ≡ self.old) }
     {
@@ -224,7 +231,8 @@ impl Solver {
 
     /// Keeps a lemma of the theory, by its number there.
     pub(crate) fn keep_lemma(&mut self, number: u64, clause: &[Lit]) -> Result<(), AllocError>
-        ensures ok { OnOk result (self.new ≡ record self.old { lemmas = self.old.lemmas ++ (number, clause.now) ∷ [] }) }
+        ensures ok { OnOk result
+            (self.new ≡ record self.old { lemmas = self.old.lemmas ++ (number, clause.now) ∷ [] }) }
         ensures err { OnErr result (self.new ≡ self.old) }
     {
         let clause = Literals::copied(self.alloc, clause)?;

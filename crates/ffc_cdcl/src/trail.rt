@@ -1,5 +1,6 @@
 //! The trail: literals that are true together, in the order in which they were put there.
-ghost use Rattle.std.specs.Prelude.{◌≡◌, ◌<◌, ◌++◌, ◌∷◌, [], true, false, Some, None, Contains, IfOk, IfSome, IsErrOf, length, slice_set};
+ghost use Rattle.std.specs.Prelude.{◌≡◌, ◌<◌, ◌++◌, ◌∷◌, [], true, false, Some, None, Contains, IfOk, IfSome, IsErrOf};
+ghost use Rattle.std.specs.Prelude.{length, slice_set};
 ghost use Rattle.ffc_base.specs.Metering.{total};
 ghost use Rattle.ffc_clause.specs.Clauses.{negated};
 ghost use Rattle.ffc_cdcl.specs.Literals.{NamesNoNodeTwice};

@@ -19,7 +19,7 @@ pub enum Opening {
     Several,
 }
 
-/// How a walk stands.
+/// The state of a walk.
 #[derive(Clone, Copy)]
 pub enum Phase {
     /// Each hint so far had one open literal.
@@ -103,7 +103,8 @@ impl Walk {
 
     /// Takes the clause of the next hint. It costs the literals that it reads.
     pub fn take(&mut self, clause: &[Lit]) -> Result<(), AllocError>
-        ensures { OnOk result ((start : List ClauseLiteral) (taken : List Clause) → HasTaken start taken self.old → HasTaken start (taken ++ clause.now ∷ []) self.new) }
+        ensures { OnOk result ((start : List ClauseLiteral) (taken : List Clause) → HasTaken start taken self.old
+            → HasTaken start (taken ++ clause.now ∷ []) self.new) }
     {
         match self.phase {
             Phase::Open => match opening_under(clause, &self.assumed) {

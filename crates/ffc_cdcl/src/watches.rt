@@ -21,103 +21,42 @@ pub struct Pair {
     pub other: Packed,
 }
 
-/// Lists of clauses by the place of the watched literal.
+/// What watches each literal, by the literal's place.
 #[derive(Drop)]
-pub struct Watches {
+struct Lists<T: Copy> {
     alloc: Global,
-    lists: Vec<Vec<Watcher>>,
-    pairs: Vec<Vec<Pair>>,
+    lists: Vec<Vec<T>>,
 }
 
-impl Watches {
+impl<T: Copy> Lists<T> {
     /// Empty lists for the literals of the nodes below a number.
-    pub fn new(alloc: Global, nodes: usize) -> Result<Self, AllocError> {
+    fn new(alloc: Global, nodes: usize) -> Result<Self, AllocError> {
         let mut lists = Vec::new(alloc);
-        let mut pairs = Vec::new(alloc);
         for _ in 0..nodes {
             lists.push(Vec::new(alloc))?;
             lists.push(Vec::new(alloc))?;
-            pairs.push(Vec::new(alloc))?;
-            pairs.push(Vec::new(alloc))?;
         }
-        Ok(Watches {
-            alloc,
-            lists,
-            pairs,
-        })
+        Ok(Lists { alloc, lists })
     }
 
-    /// Lets a clause watch a literal.
     #[inline(always)]
-    pub fn push(&mut self, literal: Packed, watcher: Watcher) -> Result<(), AllocError> {
+    fn push(&mut self, literal: Packed, item: T) -> Result<(), AllocError> {
         let place = literal.place();
         if place < self.lists.len() {
-            self.lists[place].push(watcher)?;
+            self.lists[place].push(item)?;
         }
         Ok(())
-    }
-
-    fn push_pair(&mut self, literal: Packed, pair: Pair) -> Result<(), AllocError> {
-        let place = literal.place();
-        if place < self.pairs.len() {
-            self.pairs[place].push(pair)?;
-        }
-        Ok(())
-    }
-
-    /// Lets a clause watch its first two literals, where it has two.
-    pub fn watch(&mut self, literals: &[u32], place: u32, clause: u32) -> Result<(), AllocError> {
-        if literals.len() < 2 {
-            return Ok(());
-        }
-        let first = Packed(literals[0]);
-        let second = Packed(literals[1]);
-        if literals.len() == 2 {
-            self.push_pair(
-                first,
-                Pair {
-                    clause,
-                    other: second,
-                },
-            )?;
-            self.push_pair(
-                second,
-                Pair {
-                    clause,
-                    other: first,
-                },
-            )?;
-            return Ok(());
-        }
-        self.push(
-            first,
-            Watcher {
-                place,
-                blocker: second,
-            },
-        )?;
-        self.push(
-            second,
-            Watcher {
-                place,
-                blocker: first,
-            },
-        )
     }
 
     /// Empties all lists. They keep their memory.
-    pub fn clear(&mut self) {
+    fn clear(&mut self) {
         for k in 0..self.lists.len() {
             self.lists[k].truncate(0);
         }
-        for k in 0..self.pairs.len() {
-            self.pairs[k].truncate(0);
-        }
     }
 
-    /// Takes out the list of a literal.
     #[inline(always)]
-    pub fn take(&mut self, literal: Packed) -> Vec<Watcher> {
+    fn take(&mut self, literal: Packed) -> Vec<T> {
         let place = literal.place();
         let empty = Vec::new(self.alloc);
         if place < self.lists.len() {
@@ -127,34 +66,83 @@ impl Watches {
         }
     }
 
-    /// Puts the list of a literal back.
     #[inline(always)]
-    pub fn put(&mut self, literal: Packed, list: Vec<Watcher>) {
+    fn put(&mut self, literal: Packed, list: Vec<T>) {
         let place = literal.place();
         if place < self.lists.len() {
             self.lists[place] = list;
         }
     }
+}
+
+/// Which clauses watch each literal.
+#[derive(Drop)]
+pub struct Watches {
+    watchers: Lists<Watcher>,
+    pairs: Lists<Pair>,
+}
+
+impl Watches {
+    /// Empty lists for the literals of the nodes below a number.
+    pub fn new(alloc: Global, nodes: usize) -> Result<Self, AllocError> {
+        Ok(Watches {
+            watchers: Lists::new(alloc, nodes)?,
+            pairs: Lists::new(alloc, nodes)?,
+        })
+    }
+
+    /// Lets a clause watch a literal.
+    #[inline(always)]
+    pub fn push(&mut self, literal: Packed, watcher: Watcher) -> Result<(), AllocError> {
+        self.watchers.push(literal, watcher)
+    }
+
+    /// Lets a clause watch its first two literals, where it has two.
+    pub fn watch(&mut self, literals: &[u32], place: u32, clause: u32) -> Result<(), AllocError> {
+        if literals.len() < 2 {
+            return Ok(());
+        }
+        let first = Packed(literals[0]);
+        let second = Packed(literals[1]);
+        for (own, other) in [(first, second), (second, first)] {
+            if literals.len() == 2 {
+                self.pairs.push(own, Pair { clause, other })?;
+            } else {
+                let blocker = other;
+                self.push(own, Watcher { place, blocker })?;
+            }
+        }
+        Ok(())
+    }
+
+    /// Empties all lists. They keep their memory.
+    pub fn clear(&mut self) {
+        self.watchers.clear();
+        self.pairs.clear();
+    }
+
+    /// Takes out the list of a literal.
+    #[inline(always)]
+    pub fn take(&mut self, literal: Packed) -> Vec<Watcher> {
+        self.watchers.take(literal)
+    }
+
+    /// Puts the list of a literal back.
+    #[inline(always)]
+    pub fn put(&mut self, literal: Packed, list: Vec<Watcher>) {
+        self.watchers.put(literal, list);
+    }
 
     /// Takes out the clauses of two literals that watch a literal.
     #[inline(always)]
     pub fn take_pairs(&mut self, literal: Packed) -> Vec<Pair> {
-        let place = literal.place();
-        let empty = Vec::new(self.alloc);
-        if place < self.pairs.len() {
-            mem::replace(&mut self.pairs[place], empty)
-        } else {
-            empty
-        }
+        self.pairs.take(literal)
     }
 
     /// Puts them back.
     #[inline(always)]
     pub fn put_pairs(&mut self, literal: Packed, list: Vec<Pair>) {
-        let place = literal.place();
-        if place < self.pairs.len() {
-            self.pairs[place] = list;
-        }
+        self.pairs.put(literal, list);
     }
 }
 

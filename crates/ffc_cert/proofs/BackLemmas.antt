@@ -168,7 +168,7 @@ module _ (version : ℕ) (known : IsVersion version) (wanted complete line : ℕ
   abbrev gives : Entry → List ℕ → Reading
   gives e rest = with_entry (record { number = complete + 1; first_line = line; entry = e }) (read_text wanted (between version (complete + 1) (line + line_count e)) rest)
 
-  -- what the first line leads to, and the reading of the body
+  -- the state after the first line, and the reading of the body
   opened : (e : Entry) (rest : List ℕ) (n : Next) → IsReadable version e → begun (length (first_of e) + 1) (between version complete line) (opening_of e) ≡ n
       → after_next n (λ q. read_text wanted q (body_of e ++ rest)) ≡ gives e rest → read_text wanted (between version complete line) (entry_text e ++ rest) ≡ gives e rest
   opened e rest n h leads k =
@@ -236,7 +236,7 @@ header_read version (inr two) wanted rest =
     ∙ line_read wanted origin (codes "ffcert 2") rest (Move (named 2 origin)) (refl, (refl, (refl, (refl, (refl, (refl, (refl, (refl, tt)))))))) (omega arith) refl
     ∙ ap (λ (v : ℕ). read_text wanted (between v 0 2) rest) (sym two)
 
--- a text of entries with more behind it
+-- a text of entries with more after it
 text_read : (version : ℕ) (entries : List Entry) (wanted : ℕ) (more : List ℕ) → IsVersion version → AllByRecursion (IsReadable version) entries → length entries ≤ wanted
     → reading_of wanted (text_of version entries ++ more)
     ≡ with_entries (numbered_from 1 2 entries) (read_text wanted (between version (0 + length entries) (line_after 2 entries)) more)

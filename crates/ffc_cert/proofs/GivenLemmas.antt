@@ -42,7 +42,7 @@ length_push xs x = length-append xs (x ∷ [])
 abbrev pub with_end : List ℕ → List ℕ
 with_end line = line ++ 10 ∷ []
 
--- lines behind a first one, and one more
+-- lines after a first one, and one more
 grown : {A : Type 0} (text : A → List ℕ) (items : A → List ℕ) (first : List ℕ) (xs : List A) (x : A) → text x ≡ items x ++ 10 ∷ []
     → first ++ (10 ∷ flat_map text (xs ++ x ∷ [])) ≡ (first ++ (10 ∷ flat_map text xs)) ++ with_end (items x)
 grown text items first xs x h =
@@ -51,7 +51,7 @@ grown text items first xs x h =
     ap (λ (ys : List ℕ). first ++ (10 ∷ ys)) (parts ∙ ap (λ (ys : List ℕ). flat_map text xs ++ ys) last)
     ∙ sym (append_assoc first (10 ∷ flat_map text xs) (with_end (items x)))
 
--- In an assignment, with so many values left, behind this text of the entry.
+-- In an assignment, with so many values left, after this text of the entry.
 pub record InValues (wanted left : ℕ) (text : List ℕ) (p : Progress) : Type 0 where
   pub some : 0 < left
   pub few : length p.values + left < 2 ^ 32
@@ -84,7 +84,7 @@ At version wanted Between text p = IsBetween wanted text p
 At version wanted (Assignment left) text p = InValues wanted left text p × (p.lines ≡ [])
 At version wanted (Refutation a) text p = InLines version wanted a text p × (p.values ≡ [])
 
--- behind line 1, and behind this text of an entry
+-- after line 1, and after this text of an entry
 pub record IsInside (version wanted : ℕ) (text : List ℕ) (p : Progress) : Type 0 where
   pub version_is : p.version ≡ version
   pub bytes : p.bytes ≡ length text
@@ -112,7 +112,7 @@ pub record IsGiven (version wanted : ℕ) (text : List ℕ) (p : Progress) (x : 
   pub next_line : q.first_line ≡ p.first_line + line_count x.entry
   pub inside : IsInside version wanted [] q
 
--- what a line leads to, with which the entry has this text
+-- the state after a line, with which the entry has this text
 abbrev pub IsGood : ℕ → ℕ → List ℕ → Progress → Next → Type 0
 IsGood version wanted text p (Halt fault) = Unit {0}
 IsGood version wanted text p (Move q) = IsMoved version wanted text p q
@@ -272,7 +272,7 @@ module _ (version : ℕ) (known : IsVersion version) (wanted : ℕ) (text : List
     pushed : AllByRecursion IsValue (p.values ++ v ∷ [])
     pushed = all_push IsValue p.values v inside.each holds
 
-    -- the text with the value, where so many are left behind it
+    -- the text with the value, where so many are left after it
     pushed_text : (n : ℕ) → length p.values + left ≡ n → (codes "sat" ++ number n) ++ (10 ∷ flat_map value_line (p.values ++ v ∷ [])) ≡ text ++ with_end line
     pushed_text n total =
         grown value_line value_items (codes "sat" ++ number n) p.values v refl
@@ -405,7 +405,7 @@ module _ (version : ℕ) (known : IsVersion version) (wanted : ℕ) (text : List
       let t = line_gives version known a line l (subst (λ (v : ℕ). line_at v a line ≡ Ok l) same r.is) in
       good_uncut part line cut r.fits (with_line a (length line + 1) p l) (line_good a h.0 h.1 line r.fits l (t.text_is ∙ append-nil (line_items l)) t.next t.line t.fits))
 
--- what a line leads to
+-- the state after a line
 pub next_good : (version : ℕ) → IsVersion version → (wanted : ℕ) (text : List ℕ) (p : Progress) (part : List ℕ) → IsInside version wanted text p → IsGood version wanted (text ++ with_end part) p (next_at wanted p part)
 unfolding next_at
 next_good version known wanted text p part h = place_good version known wanted text p h.version_is h.bytes p.place part (take (MAX_BYTES + 1) part) refl h.at

@@ -14,7 +14,7 @@ use Rattle.ffc_cert.proofs.LineCodes.{IsNext}
 abbrev pub awaiting : ℕ → ℕ → ℕ → Awaited
 awaiting c t s = record { clauses = c; trees = t; steps = s }
 
--- these lines lead to where nothing is needed, and no front of them does
+-- after these lines nothing is needed, and no front of them does
 abbrev pub Completes : Awaited → List CertLine → Type 0
 Completes a [] = is_whole a ≡ true
 Completes a (l ∷ lines) = (is_whole a ≡ false) × (IsNext l a × Completes (awaited_after l a) lines)
@@ -175,7 +175,7 @@ two_parts (suc k) t lines rest h =
     let more = two_parts k t one.behind rest one.others in
     record { behind = more.behind; first = tree one.first more.first; others = more.others }
 
--- behind a line of a tree, with so many trees for its cases
+-- after a line of a tree, with so many trees for its cases
 with_cases : (l : CertLine) (k t c : ℕ) (lines : List CertLine) → ((rest : List CertLine) → AreTrees k lines rest → IsTree (l ∷ lines) rest) → AtTrees (t + k) c lines → AtTrees (suc t) c (l ∷ lines)
 with_cases l k t c lines make h =
     let parts = two_parts k t lines h.after h.trees in

@@ -105,7 +105,7 @@ window_fed gone text window piece w = record {
 drop_none : (gone : ℕ) (text : List ℕ) → gone ≡ 0 → drop gone text ≡ text
 drop_none gone text h = ap (λ (n : ℕ). drop n text) h
 
--- what line 1 names behind a piece
+-- what line 1 names after a piece
 version_fed : (gone : ℕ) (text window piece : List ℕ) (old new : Option ℕ) → IsWindow gone text window → old ≡ version_of text → (old ≡ None → gone ≡ 0)
     → MatchOption old (new ≡ version_of (window ++ piece)) (λ v. new ≡ Some v) → new ≡ version_of (text ++ piece)
 version_fed gone text window piece None new w is front h =
@@ -128,7 +128,7 @@ kept_fed wanted given text piece window fault s old new k room h = record {
   front = front_fed s.gone (version_of (window ++ piece)) old new k.front h;
 }
 
--- the bytes that were read are let go
+-- the bytes that were read are dropped
 pub moved_down : (xs : List ℕ) (n : ℕ) → n ≤ length xs → take (length xs - n) (copy_within xs n (length xs) 0) ≡ drop n xs
 moved_down xs n le =
     let size : length (drop n xs) ≡ length xs - n = length-drop n xs in

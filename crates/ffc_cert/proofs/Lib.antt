@@ -21,3 +21,4 @@ pub mod GivenLemmas
 pub mod BackLemmas
 pub mod TextLemmas
 pub mod GoesOnLemmas
+pub mod CallerLemmas

@@ -22,7 +22,7 @@ use Rattle.ffc_cert.proofs.NumberCodes.{IsItem, narrow_code, wide_code, literal_
 use Rattle.ffc_cert.proofs.ListCodes.{counted_code, pair_reads, pair_gives, pair_plain, triple_reads, triple_gives, triple_plain}
 use Rattle.ffc_cert.proofs.TermCodes.{multiple_code}
 
--- the line may stand where this is needed
+-- the line may come where this is needed
 abbrev pub IsNext : CertLine → Awaited → Type 0
 IsNext (Assume k) a = (a.steps ≡ 0) × (a.trees ≡ 0)
 IsNext (Scheme node scheme index) a = (a.steps ≡ 0) × (a.trees ≡ 0)

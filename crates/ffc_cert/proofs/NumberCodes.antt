@@ -17,7 +17,7 @@ use Rattle.ffc_cert.proofs.NumberLemmas.{AreDigits, own, both, digits_parts}
 use Rattle.ffc_cert.specs.Cuts.{IsCut, BeginsWith}
 use Rattle.ffc_cert.proofs.Codes.{IsPlain, IsText, IsCode, bound, chosen, Is, same_parts}
 
--- an item without a blank
+-- an item without a space
 abbrev pub IsItem : List ℕ → Type 0
 IsItem bytes = AllByRecursion (λ c. is_blank c ≡ false) bytes
 

@@ -35,7 +35,7 @@ pub record IsValueText (line : List ℕ) (v : ℕ × ℕ) : Type 0 where
   pub text_is : line ≡ value_items v
   pub holds : IsValue v
 
--- what stands behind the first item, where that is a word
+-- what comes after the first item, where that is a word
 behind_word : (line word behind : List ℕ) → bytes_eq (first_item line) word ≡ true → behind_item line ≡ behind → line ≡ word ++ behind
 behind_word line word behind same h =
     sym (front_behind line) ∙ ap (λ (xs : List ℕ). xs ++ behind_item line) ((bytes_eq-Decides (first_item line) word).0 same) ∙ ap (λ (xs : List ℕ). word ++ xs) h
@@ -121,7 +121,7 @@ unknown_reads Terms h = refl
 unknown_reads (Steps t r a c) h = unknown_steps t r a c (steps_reads t r a c h.0 h.1.0 h.1.1.0 h.1.1.1)
 unknown_reads Memory h = refl
 
--- what was read, behind a word
+-- what was read, after a word
 abbrev AfterWord : List ℕ → List ℕ → Opening → List ℕ → Type 0
 AfterWord word bytes o rest = rest ≡ [] → IsOpeningText (word ++ bytes) o
 

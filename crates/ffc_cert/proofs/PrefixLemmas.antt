@@ -77,7 +77,7 @@ values_end (v ∷ values) (w ∷ others) more n h k e =
     let more_of = values_end values others more (omega (arith, n)) h.1 k.1 parts.1 in
     (ap (λ (x : ℕ × ℕ). x ∷ values) same ∙ ap (λ (xs : List (ℕ × ℕ)). w ∷ xs) more_of.0, more_of.1)
 
--- The first line of an entry, and the lines behind it.
+-- The first line of an entry, and the lines after it.
 abbrev pub first_of : Entry → List ℕ
 first_of (Sat values) = codes "sat" ++ number (length values)
 first_of UnsatCases = codes "unsat e"

@@ -1,11 +1,11 @@
--- How a text is read on behind a line, and that a line that is too long is at fault.
+-- How a text is read on after a line, and that a line that is too long is at fault.
 use Rattle.std.proofs.Common.{◌≡◌, ℕ, ◌<◌, List, ◌∷◌, ◌++◌, length, refl}
 use Rattle.std.specs.List.{slice_split, position_or_len, before_first, after_first}
 use Rattle.ffc_cert.specs.declared.progress.Progress.{Progress}
 use Rattle.ffc_cert.specs.Reading.{Reading, Next, Halt, Move, Give, Stopped, ending, with_entry, next_at, read, read_parts, read_text, is_line_end}
 use Rattle.ffc_cert.proofs.SplitLemmas.{Parts, parts_of, split_stays}
 
--- what a line leads to, and then the reading of what follows it
+-- the state after a line, and then the reading of what follows it
 abbrev pub after_next : Next → (Progress → Reading) → Reading
 after_next (Halt fault) more = ending (Stopped fault)
 after_next (Move q) more = more q

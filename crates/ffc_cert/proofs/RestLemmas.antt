@@ -145,7 +145,7 @@ unfolding end_at end_behind end_here
 rest_end wanted p bytes true e few h = let short : nat_lt MAX_BYTES (length bytes) ≡ false = grind arith in rw (short, e, h e) refl
 rest_end wanted p bytes false e few h = let short : nat_lt MAX_BYTES (length bytes) ≡ false = grind arith in rw (short, e) refl
 
--- the bytes are few, and not behind the last entry: nothing is found
+-- the bytes are few, and not after the last entry: nothing is found
 pub none_found : (wanted : ℕ) (p : Progress) (bytes : List ℕ) → length bytes ≤ position_or_len is_line_end bytes → length bytes ≤ MAX_BYTES
     → (is_behind p.place p.complete wanted ≡ true → bytes ≡ [])
     → ((read_text wanted p bytes).entries ≡ []) × ((read_text wanted p bytes).end ≡ end_here wanted p)

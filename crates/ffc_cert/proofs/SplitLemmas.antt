@@ -1,4 +1,4 @@
--- The first line of a text, and the lines behind it.
+-- The first line of a text, and the lines after it.
 use Rattle.std.proofs.Common.{◌≡◌, ℕ, zero, suc, ◌+◌, ◌-◌, ◌≤◌, ◌<◌, Bool, true, false, List, [], ◌∷◌, ◌++◌, length, drop, refl, sym, ap, ◌∙◌, arith, zero-add, length-append}
 use Rattle.std.specs.List.{slice_split, onto_first, position_or_len, before_first, after_first}
 use Rattle.std.proofs.lemmas.List.Splits.{slice_split_first, slice_split-cons_yes, slice_split-cons_no}
@@ -22,7 +22,7 @@ pub parts_of : (p : ℕ → Bool) (xs : List ℕ) → Parts p xs
 parts_of p [] = record { first = []; others = []; split = refl }
 parts_of p (x ∷ xs) = cons_parts p x xs (p x) refl (parts_of p xs)
 
--- where the first element that passes stands, in a longer list
+-- where the first element that passes is, in a longer list
 pub first_stays : (p : ℕ → Bool) (xs ys : List ℕ) → position_or_len p xs < length xs → position_or_len p (xs ++ ys) ≡ position_or_len p xs
 first_stays p [] ys lt = absurd (omega arith)
 first_stays p (x ∷ xs) ys lt = grind (arith, first_stays p xs ys)

@@ -167,7 +167,7 @@ source version known wanted (next ∷ parts) part text p h =
     (source_on version wanted text part next parts p (next_at wanted p part) (inside_few version wanted text p p.place h.at) (next_good version known wanted text p part h)
     (λ t q k. source version known wanted parts next t q k))
 
--- the bytes behind line 1
+-- the bytes after line 1
 behind_header : (version : ℕ) → IsVersion version → (wanted : ℕ) (rest : List ℕ) → IsSource version wanted [] (between version 0 2) rest (read_text wanted (between version 0 2) rest)
 behind_header version known wanted rest =
     let parts = parts_of is_line_end rest in

@@ -28,7 +28,7 @@ abbrev pub due_fault : Option CertFault → ℕ → List ℕ → ℕ → Option 
 due_fault (Some fault) wanted text given = Some fault
 due_fault None wanted text given = fault_behind (next_entry_of wanted text given) wanted text
 
--- the entry that is to be answered now: none behind a fault
+-- the entry that is to be answered now: none after a fault
 abbrev pub due_entry : Option CertFault → ℕ → List ℕ → ℕ → Option Numbered
 due_entry (Some fault) wanted text given = None
 due_entry None wanted text given = next_entry_of wanted text given

@@ -5,7 +5,7 @@ use Rattle.std.specs.List.{list_all}
 use Rattle.std.specs.Str.Parse.{digits_value}
 use Rattle.ffc_cert.specs.Items.{is_canonical}
 
--- what may stand behind an item
+-- what may come after an item
 abbrev pub IsCut : List ℕ → Type 0
 IsCut [] = Unit {0}
 IsCut (c ∷ bytes) = c ≡ 32

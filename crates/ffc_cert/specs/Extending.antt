@@ -1,4 +1,4 @@
--- What stands in a vector when a call that appends to it has failed.
+-- What a vector has when a call that appends to it has failed.
 use Rattle.std.specs.Prelude.{◌≡◌, ℕ, List, ◌++◌}
 
 -- something was appended, or nothing

@@ -1,5 +1,5 @@
--- In what order the lines of a refutation stand. `IsTree lines rest` says that a tree stands at the front of the lines, and
--- the rest behind it. A tree is lines `Combine` and lines `Chain`, each of these with its lines `Step`, and then one line
+-- The order of the lines of a refutation. `IsTree lines rest` says that a tree is at the front of the lines, and
+-- the rest after it. A tree is lines `Combine` and lines `Chain`, each of these with its lines `Step`, and then one line
 -- that ends it: `Close`, or `Split` or `Values` with a tree for each case.
 use Rattle.std.specs.Prelude.{ℕ, zero, suc, Bool, Option, List, [], ◌∷◌, length}
 use Rattle.ffc_cert.specs.declared.entries.CertLine.{CertLine}

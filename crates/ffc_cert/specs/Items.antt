@@ -13,7 +13,7 @@ abbrev pub ◌>>=◌ : {A B : Type 0} → Result A Flaw → (A → Result B Flaw
 (Ok x) >>= f = f x
 (Err e) >>= f = Err e
 
--- What a function read, and the bytes that it left, are what reading gives, unless memory was wanting.
+-- What a function read, and the bytes that it left, are what reading gives, unless memory ran out.
 abbrev pub Stops : {Y : Type 0} → LineStop → Result Y Flaw → Type 0
 Stops stops.Memory read = Unit {0}
 Stops (stops.Flaw flaw) read = read ≡ Err flaw
@@ -36,7 +36,7 @@ first_item bytes = before_first is_blank bytes
 abbrev pub behind_item : List ℕ → List ℕ
 behind_item bytes = drop (position_or_len is_blank bytes) bytes
 
--- the next item, which stands behind a blank
+-- the next item, which comes after a space
 unfoldable pub item_at : List ℕ → Result (List ℕ × List ℕ) Flaw
 item_at [] = Err Missing
 item_at (c ∷ bytes) = if c == 32 then Ok (first_item bytes, behind_item bytes) else Err Form

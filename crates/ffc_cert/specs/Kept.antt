@@ -1,4 +1,4 @@
--- What a reader keeps true of its fields: of the text it holds a window, which are the bytes behind those that were let go.
+-- What a reader keeps true of its fields: of the text it holds a window, which are the bytes after those that were dropped.
 -- None was before line 1 was found to name a version.
 use Rattle.std.specs.Prelude.{◌≡◌, ℕ, ◌<◌, ◌^◌, List, length, Option, None}
 use Rattle.ffc_cert.specs.declared.entries.CertFault.{CertFault}

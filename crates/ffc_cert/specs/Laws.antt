@@ -1,5 +1,5 @@
 -- Laws of the text: what was written is read back, what was read is its own text and no other spelling of it, in one version
--- no entry's text stands at the front of another's, and reading goes on as it began.
+-- no entry's text begins another's, and reading goes on as it began.
 use Rattle.std.specs.Prelude.{◌≡◌, ℕ, ◌+◌, ◌<◌, ◌≤◌, ◌⊎◌, ◌↔◌, List, [], ◌∷◌, ◌++◌, length, take, Some, None}
 use Rattle.std.specs.List.{AllByRecursion}
 use Rattle.ffc_cert.specs.declared.entries.Entry.{Entry}

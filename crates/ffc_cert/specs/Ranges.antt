@@ -1,4 +1,4 @@
--- Which numbers the parts of an entry may have, and how long its lists may be. A list that is written behind its count has
+-- Which numbers the parts of an entry may have, and how long its lists may be. A list that is written after its count has
 -- fewer than 2^32 members. A monomial has each of its variables once, from the lowest.
 use Rattle.std.specs.Prelude.{ℕ, ◌^◌, ◌<◌, Bool, List, [], ◌∷◌, length, Option, Some, None}
 use Rattle.std.specs.List.{AllByRecursion}
@@ -18,7 +18,7 @@ IsWide n = n < 2 ^ 64
 abbrev pub IsLiteral : Bool × ℕ → Type 0
 IsLiteral l = IsNarrow l.1
 
--- a list that is written behind its count
+-- a list that is written after its count
 pub record IsCounted {A : Type 0} (P : A → Type 0) (xs : List A) : Type 0 where
   pub few : length xs < 2 ^ 32
   pub each : AllByRecursion P xs

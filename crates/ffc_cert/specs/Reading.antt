@@ -21,7 +21,7 @@ use Rattle.ffc_cert.specs.declared.progress.Place.TheVariants.{Header, Between, 
 use Rattle.ffc_cert.specs.declared.progress.Progress.{Progress}
 use Rattle.ffc_cert.specs.Lines.{opening_at, value_at, line_at}
 
--- What a refutation needs behind a line. A tree is over at `z`, and `s` and `v` put their trees in its place, so it is
+-- What a refutation needs after a line. A tree is over at `z`, and `s` and `v` put their trees in its place, so it is
 -- enough to count the trees that are not begun.
 unfoldable pub awaited_after : CertLine → Awaited → Awaited
 awaited_after (Assume k) a = record a { clauses = a.clauses - 1 }
@@ -55,20 +55,20 @@ code_of cut Form = 2
 code_of cut Number = 3
 code_of cut Missing = if cut then 5 else 2
 
--- what a line leads to
+-- the state after a line
 pub data Next : Type 0 where
   Halt : CertFault → Next
   Move : Progress → Next
   Give : Numbered → Progress → Next
 
--- behind a line of so many bytes with its LF
+-- after a line of so many bytes with its LF
 abbrev pub moved : Place → ℕ → Progress → Progress
 moved place size p = record p { place = place; line = p.line + 1; bytes = p.bytes + size }
 
 abbrev pub numbered : Entry → Progress → Numbered
 numbered entry p = record { number = p.complete + 1; first_line = p.first_line; entry = entry }
 
--- behind the last line of an entry
+-- after the last line of an entry
 abbrev pub completed : Progress → Progress
 completed p = record {
   version = p.version;
@@ -84,7 +84,7 @@ completed p = record {
 abbrev pub given : Entry → Progress → Next
 given entry p = Give (numbered entry p) (completed p)
 
--- behind the first line of an entry
+-- after the first line of an entry
 unfoldable pub begun : ℕ → Progress → Opening → Next
 begun size p (openings.Assignment n) = if n == 0 then given (Sat []) p else Move (moved (Assignment n) size p)
 begun size p (openings.Refutation n) =
@@ -92,13 +92,13 @@ begun size p (openings.Refutation n) =
     Move (moved (Refutation (record { clauses = n; trees = 0; steps = 0 })) size p)
 begun size p (openings.Whole entry) = given entry p
 
--- behind a line of values, where so many were left
+-- after a line of values, where so many were left
 unfoldable pub with_value : ℕ → ℕ → Progress → ℕ × ℕ → Next
 with_value left size p value =
     if left == 1 then given (Sat (p.values ++ value ∷ [])) p else
     Move (record (moved (Assignment (left - 1)) size p) { values = p.values ++ value ∷ [] })
 
--- behind a line of a refutation
+-- after a line of a refutation
 unfoldable pub with_line : Awaited → ℕ → Progress → CertLine → Next
 with_line awaited size p line =
     if is_whole (awaited_after line awaited) then given (UnsatSteps (p.lines ++ line ∷ [])) p else
@@ -161,13 +161,13 @@ ending end = record { entries = []; end = end }
 abbrev pub with_entry : Numbered → Reading → Reading
 with_entry entry r = record { entries = entry ∷ r.entries; end = r.end }
 
--- the bytes behind the last LF, where they are too many for a line
+-- the bytes after the last LF, where they are too many for a line
 unfoldable pub cut_end : Next → Progress → End
 cut_end (Halt fault) p = Stopped fault
 cut_end (Move q) p = Open (fault_at 4 p)
 cut_end (Give entry q) p = Open (fault_at 4 p)
 
--- the bytes behind the last LF, after the last entry
+-- the bytes after the last LF, after the last entry
 unfoldable pub end_behind : List ℕ → Progress → End
 end_behind [] p = Complete
 end_behind (c ∷ cs) p = Stopped (fault_at 2 p)
@@ -184,7 +184,7 @@ end_at wanted p rest =
     if nat_lt max_bytes (length rest) then cut_end (next_at wanted p rest) p else
     if is_behind p.place p.complete wanted then end_behind rest p else Open (fault_at 4 p)
 
--- A part of the text, and the parts behind it: all but the last are lines.
+-- A part of the text, and the parts after it: all but the last are lines.
 unfoldable pub read : ℕ → Progress → List ℕ → List (List ℕ) → Reading
 read wanted p part [] = ending (end_at wanted p part)
 read wanted p part (next ∷ parts) =

@@ -21,13 +21,13 @@ without n r = record { entries = drop n r.entries; end = r.end }
 abbrev pub ahead : List ℕ → Scanner → List ℕ
 ahead text s = drop s.start text
 
--- what is held of a text of which so many bytes were let go
+-- what is held of a text of which so many bytes were dropped
 pub record IsWindow (gone : ℕ) (text window : List ℕ) : Type 0 where
   pub bytes : window ≡ drop gone text
   pub size : gone + length window ≡ length text
 
 -- However the text goes on, it is read by giving its first entries and then reading on from here. No byte that is still to
--- be read was let go.
+-- be read was dropped.
 pub record IsReady (wanted : ℕ) (text : List ℕ) (s : Scanner) : Type 0 where
   pub kept : s.gone ≤ s.start
   pub within : s.start ≤ s.scanned
@@ -54,7 +54,7 @@ end_here wanted p = if is_behind p.place p.complete wanted then Complete else Op
 abbrev pub IsDone : ℕ → List ℕ → Scanner → Type 0
 IsDone wanted text s = ((read_text wanted s.progress (ahead text s)).entries ≡ []) × ((read_text wanted s.progress (ahead text s)).end ≡ end_here wanted s.progress)
 
--- what stands after a call that has stopped: where memory was wanting, the same text may be read on
+-- what is left after a call that has stopped: where memory ran out, the same text may be read on
 abbrev pub AfterStop : CertStop → ℕ → ℕ → List ℕ → Scanner → Type 0
 AfterStop stop wanted n text s = MatchStop stop (λ fault. IsStopped wanted n text fault) (IsReady wanted text s × (s.progress.complete ≡ n))
 

@@ -1,4 +1,4 @@
--- The text of a certificate. It is lines, each ended by LF; the items of a line are parted by single blanks. The form is
+-- The text of a certificate. It is lines, each ended by LF; the items of a line are separated by single spaces. The form is
 -- this project's own; `a`, `n`, `r`, `f` are clauses, `c`, `p`, `u`, `s`, `v`, `z` the lines of a clause's tree.
 use Rattle.std.specs.Prelude.{ℕ, Bool, true, false, if◌then◌else◌, count_by, List, [], ◌∷◌, ◌++◌, length, Option, None, Some, codes, decimal}
 use Rattle.std.specs.List.{flat_map}
@@ -9,7 +9,7 @@ use Rattle.ffc_cert.specs.declared.entries.Cause.TheVariants.{Degree, Terms, Ste
 use Rattle.ffc_cert.specs.declared.entries.CertLine.{CertLine}
 use Rattle.ffc_cert.specs.declared.entries.CertLine.TheVariants.{Assume, Scheme, Hinted, Lemma, Combine, Chain, Step, Split, Values, Close}
 
--- The items of a line behind its first one, each behind a blank.
+-- The items of a line after its first one, each after a space.
 
 abbrev pub number : ℕ → List ℕ
 number n = 32 ∷ decimal n

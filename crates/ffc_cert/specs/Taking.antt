@@ -12,18 +12,18 @@ abbrev pub MatchStop : CertStop → (CertFault → Type 0) → Type 0 → Type 0
 MatchStop (Fault fault) P Q = P fault
 MatchStop Memory P Q = Q
 
--- what was read is the one or the fault, unless memory was wanting
+-- what was read is the one or the fault, unless memory ran out
 abbrev pub Judges : {A : Type 0} → Result A CertStop → Result A CertFault → Type 0
 Judges (Ok read) judged = judged ≡ Ok read
 Judges (Err stop) judged = MatchStop stop (λ fault. judged ≡ Err fault) (Unit {0})
 
--- the line led so from the old progress to the new one; where memory was wanting, the line was not taken
+-- the line led so from the old progress to the new one; where memory ran out, the line was not taken
 abbrev pub Takes : Result (Option Numbered) CertStop → Progress → Progress → Next → Type 0
 Takes (Ok None) old new next = next ≡ Move new
 Takes (Ok (Some entry)) old new next = next ≡ Give entry new
 Takes (Err stop) old new next = MatchStop stop (λ fault. next ≡ Halt fault) (new ≡ old)
 
--- how many entries are complete behind a line, where so many were before
+-- how many entries are complete after a line, where so many were before
 abbrev pub complete_after : Option Numbered → ℕ → ℕ
 complete_after None n = n
 complete_after (Some entry) n = n + 1

@@ -39,7 +39,7 @@ pub enum Cause {
 /// A line of a clause or of a tree.
 #[derive(Debug, Drop)]
 pub enum CertLine {
-    /// The assertion of this number, from 0, in the list in force.
+    /// The assertion of this number, from 0, in the active list.
     Assume(u32),
     /// The clause of a node's scheme: the node, the scheme, the index.
     Scheme(u32, u32, u32),
@@ -56,7 +56,7 @@ pub enum CertLine {
     Chain(u32, u32, u32),
     /// A product modulo the line of the chain: the quotient and the remainder, their coefficients from the lowest.
     Step(Sequence<u64>, Sequence<u64>),
-    /// Cases over all zeros of a line: the line, the variable, the zeros. One tree for each follows.
+    /// Cases over all roots of a line: the line, the variable, the roots. One tree for each follows.
     Split(u32, u32, Sequence<u64>),
     /// Cases over all values of a variable: the variable, and how many trees follow.
     Values(u32, u32),
@@ -96,7 +96,7 @@ pub struct Numbered {
 pub struct CertFault {
     pub entry: u64,
     pub line: u64,
-    /// 1 for a line 1 that names no version, 2 for a line that has no form that may stand there, 3 for a number that is not
+    /// 1 for a line 1 that names no version, 2 for a line that has no form that may come there, 3 for a number that is not
     /// canonical or out of range, 4 for a text that ends before an entry does, and 5 for an entry that is too long.
     pub code: u8,
 }
@@ -105,7 +105,7 @@ pub struct CertFault {
 #[derive(Clone, Copy, Debug, PartialEq, Eq)]
 pub enum CertStop {
     Fault(CertFault),
-    /// Memory was wanting.
+    /// Out of memory.
     Memory,
 }
 

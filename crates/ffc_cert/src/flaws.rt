@@ -1,10 +1,10 @@
 //! What is wrong with a line.
 use std::alloc::{AllocError, AllocFailed};
 
-/// Why a line has no form that may stand there: the first cause from the left.
+/// Why a line has no form that may come there: the first cause from the left.
 #[derive(Clone, Copy, Debug, PartialEq, Eq)]
 pub enum Flaw {
-    /// An item that can't stand there.
+    /// An item that is not allowed there.
     Form,
     /// Digits that are no canonical number, or one out of range.
     Number,
@@ -16,7 +16,7 @@ pub enum Flaw {
 #[derive(Clone, Copy, Debug, PartialEq, Eq)]
 pub enum LineStop {
     Flaw(Flaw),
-    /// Memory was wanting.
+    /// Out of memory.
     Memory,
 }
 

@@ -3,7 +3,10 @@ ghost use Rattle.std.specs.Prelude.{◌≡◌, ◌<◌, ◌^◌, IfOk};
 ghost use Rattle.std.specs.Str.{bytes_eq};
 ghost use Rattle.ffc_cert.specs.Items.{Reads, Gives, ended};
 ghost use Rattle.ffc_cert.specs.Trees.{new_trees};
-ghost use Rattle.ffc_cert.specs.Lines.{assume_at, scheme_at, hinted_at, order_at, lemma_at, combine_at, chain_at, step_at, split_at, values_at, clause_form, tree_form, step_form, form_at, line_at, value_at, sat_at, unsat_at, steps_at, unknown_at, opening_form, opening_at};
+ghost use Rattle.ffc_cert.specs.Lines.{assume_at, scheme_at, hinted_at, order_at, lemma_at, combine_at, chain_at};
+ghost use Rattle.ffc_cert.specs.Lines.{step_at, split_at, values_at, clause_form, tree_form, step_form, form_at};
+ghost use Rattle.ffc_cert.specs.Lines.{line_at, value_at, sat_at, unsat_at, steps_at, unknown_at, opening_form};
+ghost use Rattle.ffc_cert.specs.Lines.{opening_at};
 
 use crate::entries::{Cause, CertLine, Entry};
 use crate::flaws::{Flaw, LineStop};

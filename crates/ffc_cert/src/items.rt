@@ -1,9 +1,11 @@
 //! Items of a line, and how they are read.
-ghost use Rattle.std.specs.Prelude.{◌≡◌, ℕ, ◌+◌, ◌-◌, ◌*◌, ◌^◌, ◌<◌, ◌≤◌, ◌==◌, ◌↔◌, List, [], length, take, Result, IfOk, IfSome, IsTrue, true, MatchResult, SomeIff, Ok};
+ghost use Rattle.std.specs.Prelude.{◌≡◌, ℕ, ◌+◌, ◌-◌, ◌*◌, ◌^◌, ◌<◌, ◌≤◌, ◌==◌, ◌↔◌, List, [], length, take, Result};
+ghost use Rattle.std.specs.Prelude.{IfOk, IfSome, IsTrue, true, MatchResult, SomeIff, Ok};
 ghost use Rattle.std.specs.Char.{is_ascii_digit};
 ghost use Rattle.std.specs.List.{position_or_len, list_all};
 ghost use Rattle.std.specs.Str.Parse.{digits_value};
-ghost use Rattle.ffc_cert.specs.Items.{Reads, Stops, is_digits, is_canonical, first_item, behind_item, item_at, number_in, sign_of, literal_in, number_at, literal_at, power_at};
+ghost use Rattle.ffc_cert.specs.Items.{Reads, Stops, is_digits, is_canonical, first_item, behind_item, item_at};
+ghost use Rattle.ffc_cert.specs.Items.{number_in, sign_of, literal_in, number_at, literal_at, power_at};
 ghost use Rattle.ffc_cert.specs.Cuts.{IsCut, BeginsWith};
 
 use crate::entries::{Literal, Power};
@@ -218,7 +220,7 @@ impl<'a> Model for Items<'a> {
 }
 
 impl<'a> Items<'a> {
-    /// The first item of a line, and the items behind it.
+    /// The first item of a line, and the items after it.
     pub fn of_line(line: &'a [u8]) -> (&'a [u8], Items<'a>)
         ensures first { result.0.now ≡ first_item line.now }
         ensures rest { result.1 ≡ behind_item line.now }
@@ -230,7 +232,8 @@ impl<'a> Items<'a> {
     /// The next item.
     #[tactic(auto, unfolding(crate::specs::Items::item_at))]
     pub fn next(&mut self) -> Result<&'a [u8], LineStop>
-        ensures { MatchResult result (λ item. item_at self.old ≡ Ok (item.now, self.new)) (λ stop. Stops stop (item_at self.old)) }
+        ensures { MatchResult result (λ item. item_at self.old ≡ Ok (item.now, self.new))
+            (λ stop. Stops stop (item_at self.old)) }
     {
         match self.rest {
             [] => Err(LineStop::Flaw(Flaw::Missing)),

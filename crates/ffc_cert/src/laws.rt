@@ -1,5 +1,6 @@
 //! What holds of the text of certificates, from its definitions alone.
-ghost use Rattle.ffc_cert.specs.Laws.{IsWritten, ReadsBack, ReadsBackFirst, ReadsItsText, ReadsNoOther, AcceptsTexts, LinesAreInside, BeginsNoOther, GoesOn};
+ghost use Rattle.ffc_cert.specs.Laws.{IsWritten, ReadsBack, ReadsBackFirst, ReadsItsText, ReadsNoOther, AcceptsTexts};
+ghost use Rattle.ffc_cert.specs.Laws.{LinesAreInside, BeginsNoOther, GoesOn};
 
 /// An entry that is well formed may be written, as the writer and its measure of length require.
 pub fn is_written()

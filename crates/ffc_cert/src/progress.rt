@@ -3,7 +3,10 @@ ghost use Rattle.std.specs.Prelude.{◌≡◌, ◌<◌, ◌≤◌, ◌^◌, ◌*
 ghost use Rattle.ffc_cert.specs.declared.flaws.Flaw.{Flaw as LineFlaw};
 ghost use Rattle.ffc_cert.specs.declared.progress.Place.TheVariants.{Header, Between, Assignment, Refutation};
 ghost use Rattle.ffc_cert.specs.Items.{Gives};
-ghost use Rattle.ffc_cert.specs.Reading.{awaited_after, is_whole, entry_number, code_of, fault_at, limited, moved, numbered, completed, header_line, opening_line, assignment_line, refutation_line, begun, with_value, with_line, next_at, named, origin, is_behind, open_fault};
+ghost use Rattle.ffc_cert.specs.Reading.{awaited_after, is_whole, entry_number, code_of, fault_at, limited, moved};
+ghost use Rattle.ffc_cert.specs.Reading.{numbered, completed, header_line, opening_line, assignment_line};
+ghost use Rattle.ffc_cert.specs.Reading.{refutation_line, begun, with_value, with_line, next_at, named, origin};
+ghost use Rattle.ffc_cert.specs.Reading.{is_behind, open_fault};
 ghost use Rattle.ffc_cert.specs.Scan.{end_here};
 ghost use Rattle.ffc_cert.specs.Trees.{new_trees};
 ghost use Rattle.ffc_cert.specs.Bounds.{HasRoom, Follows};
@@ -17,7 +20,7 @@ use crate::{MAX_BYTES, forms};
 use std::alloc::Global;
 use std::mem;
 
-/// Where a line stands.
+/// Where a line is in the text.
 #[derive(Clone, Copy, Debug, PartialEq, Eq)]
 pub enum Place {
     /// At line 1.
@@ -30,7 +33,7 @@ pub enum Place {
     Refutation(Awaited),
 }
 
-/// What the lines so far have come to.
+/// The state after the lines so far.
 #[derive(Debug, Drop)]
 pub struct Progress {
     /// What line 1 named, and 0 before.
@@ -51,7 +54,7 @@ pub struct Progress {
 }
 
 impl Awaited {
-    /// What is needed behind this line.
+    /// What is needed after this line.
     #[tactic(auto, unfolding(crate::specs::Reading::awaited_after))]
     fn after(self, line: &CertLine) -> Awaited
         requires { self.trees + new_trees line.now < 2 ^ 64 }
@@ -170,7 +173,7 @@ impl Progress {
         }
     }
 
-    /// Goes on behind a line of so many bytes with its LF.
+    /// Goes on after a line of so many bytes with its LF.
     fn go_on(&mut self, place: Place, size: u64)
         requires room { HasRoom self.old }
         requires fits { self.old.bytes + size ≤ MAX_BYTES }
@@ -322,7 +325,7 @@ impl Progress {
         }
     }
 
-    /// Whether bytes stand behind the last wanted entry.
+    /// Whether there are bytes after the last wanted entry.
     pub fn is_over(&self, wanted: u64, rest: &[u8]) -> bool
         ensures { result ≡ (is_behind self.now.place self.now.complete wanted && nat_lt 0 (length rest.now)) }
     {
@@ -341,7 +344,7 @@ impl Progress {
         Some(self.fault(4))
     }
 
-    /// Takes the next line, of which no byte past the limit is looked at. A fault or want of memory changes nothing.
+    /// Takes the next line, of which no byte past the limit is looked at. A fault or running out of memory changes nothing.
     #[tactic(auto, unfolding(crate::specs::Reading::next_at, crate::specs::Reading::next_in))]
     pub fn take_line(
         &mut self,

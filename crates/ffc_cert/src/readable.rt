@@ -1,7 +1,8 @@
 //! Numbers of items, and items that are made of others.
 ghost use Rattle.std.specs.Prelude.{◌≡◌, ◌<◌, ◌^◌, ℕ, List, [], Result, IfOk, length};
 ghost use Rattle.ffc_cert.specs.declared.flaws.Flaw.{Flaw};
-ghost use Rattle.ffc_cert.specs.Items.{Reads, narrow_at, wide_at, literal_at, many_at, counted_at, powers_at, term_at, multiple_at};
+ghost use Rattle.ffc_cert.specs.Items.{Reads, narrow_at, wide_at, literal_at, many_at, counted_at, powers_at, term_at};
+ghost use Rattle.ffc_cert.specs.Items.{multiple_at};
 
 use crate::entries::{Literal, Multiple, Power, Term};
 use crate::flaws::LineStop;
@@ -9,7 +10,7 @@ use crate::items::Items;
 use crate::sequences::Sequence;
 use std::alloc::{AllocError, Global};
 
-/// What stands in a line behind its first item.
+/// What a line has after its first item.
 pub trait Readable: Drop {
     ghost at: { List ℕ → Result (Self × List ℕ) Flaw };
 

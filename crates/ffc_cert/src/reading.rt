@@ -1,5 +1,6 @@
 //! The reader: bytes in any pieces to entries and faults.
-ghost use Rattle.std.specs.Prelude.{◌≡◌, ◌+◌, ◌<◌, ◌^◌, ◌++◌, [], false, true, Some, None, Err, IfOk, IfErr, IfSome, IfNone, OnOk, MatchOption};
+ghost use Rattle.std.specs.Prelude.{◌≡◌, ◌+◌, ◌<◌, ◌^◌, ◌++◌, [], false, true, Some, None, Err, IfOk, IfErr, IfSome};
+ghost use Rattle.std.specs.Prelude.{IfNone, OnOk, MatchOption};
 ghost use Rattle.ffc_cert.specs.Certificate.{IsRead, due_entry, due_fault, end_fault, version_of};
 ghost use Rattle.ffc_cert.specs.Taking.{MatchStop};
 ghost use Rattle.ffc_cert.specs.WellFormed.{IsReadableIn};
@@ -10,7 +11,7 @@ use ffc_ghost::GhostText;
 use std::alloc::Global;
 use std::marker::Model;
 
-/// How many bytes a text has at most. A longer one is answered as want of memory.
+/// How many bytes a text has at most. A longer one is answered as out of memory.
 const MAX_TEXT: u64 = 9_223_372_036_854_775_807;
 
 /// The version that line 1 of a text names, and `None` until line 1 is whole.
@@ -26,7 +27,7 @@ fn named_version(text: &[u8]) -> Option<u8>
     }
 }
 
-/// The version behind a piece: the one that is known, or what line 1 of the text names now.
+/// The version after a piece: the one that is known, or what line 1 of the text names now.
 fn version_after(version: Option<u8>, text: &[u8]) -> Option<u8>
     ensures { MatchOption version (result ≡ version_of text.now) (λ known. result ≡ Some known) }
 {
@@ -48,7 +49,7 @@ pub struct CertReader {
     wanted: u64,
     /// The text so far.
     told: GhostText,
-    /// The text without the bytes that were let go.
+    /// The text without the bytes that were dropped.
     window: Vec<u8>,
     /// What line 1 names, once it is whole.
     version: Option<u8>,
@@ -64,7 +65,13 @@ impl Model for CertReader {
 
     ghost Value = { Certificate };
 
-    ghost view = { λ r. record { wanted = r.wanted; text = r.told.bytes; given = r.given; fault = r.fault; finished = r.finished } };
+    ghost view = { λ r. record {
+      wanted = r.wanted;
+      text = r.told.bytes;
+      given = r.given;
+      fault = r.fault;
+      finished = r.finished;
+    } };
 
     ghost invariant = { λ r. IsKept r.wanted r.told.bytes r.given r.fault r.scanner r.window.items r.version };
 }
@@ -91,8 +98,10 @@ impl CertReader {
     /// Appends a piece to the text.
     pub fn feed(&mut self, piece: &[u8]) -> Result<(), CertStop>
         requires { self.old.finished ≡ false }
-        ensures ok { OnOk result ((self.old.fault ≡ None) × (self.new ≡ record self.old { text = self.old.text ++ piece.now })) }
-        ensures stop { IfErr result (λ stop. (self.new ≡ self.old) × MatchStop stop (λ fault. self.old.fault ≡ Some fault) (self.old.fault ≡ None)) }
+        ensures ok { OnOk result ((self.old.fault ≡ None)
+            × (self.new ≡ record self.old { text = self.old.text ++ piece.now })) }
+        ensures stop { IfErr result (λ stop. (self.new ≡ self.old)
+            × MatchStop stop (λ fault. self.old.fault ≡ Some fault) (self.old.fault ≡ None)) }
     {
         match self.fault {
             Some(fault) => return Err(CertStop::Fault(fault)),
@@ -126,19 +135,23 @@ impl CertReader {
     }
 
     /// Gives the next entry. `None` says that it isn't whole in the text so far, or that all were given, and that nothing
-    /// judged so far is at fault. A line is judged once it is whole, and a byte behind the last entry at once. A given entry
+    /// judged so far is at fault. A line is judged once it is whole, and a byte after the last entry at once. A given entry
     /// is well formed in the version of the text, and its own text is not too long.
     pub fn next_entry(&mut self) -> Result<Option<Numbered>, CertStop>
-        ensures entry { IfOk result (λ found. found ≡ due_entry self.old.fault self.old.wanted self.old.text self.old.given) }
-        ensures readable { IfOk result (λ found. IfSome found (λ entry. IsReadableIn (version_of self.old.text) entry.entry)) }
+        ensures entry { IfOk result (λ found. found ≡ due_entry self.old.fault self.old.wanted self.old.text
+            self.old.given) }
+        ensures readable { IfOk result
+            (λ found. IfSome found (λ entry. IsReadableIn (version_of self.old.text) entry.entry)) }
         ensures number { IfOk result (λ found. IfSome found (λ entry. entry.number ≡ self.old.given + 1)) }
         ensures first_line { IfOk result (λ found. IfSome found (λ entry. entry.first_line < 2 ^ 63)) }
         ensures kept { IfSome self.old.fault (λ fault. result ≡ Err (CertStop.Fault fault)) }
-        ensures given { IfOk result (λ found. IfSome found (λ entry. self.new ≡ record self.old { given = self.old.given + 1 })) }
+        ensures given { IfOk result
+            (λ found. IfSome found (λ entry. self.new ≡ record self.old { given = self.old.given + 1 })) }
         ensures none { IfOk result (λ found. IfNone found (self.new ≡ self.old)) }
         ensures no_fault { OnOk result (due_fault self.old.fault self.old.wanted self.old.text self.old.given ≡ None) }
         ensures stop { IfErr result (λ stop. MatchStop stop
-            (λ fault. (due_fault self.old.fault self.old.wanted self.old.text self.old.given ≡ Some fault) × (self.new ≡ record self.old { fault = Some fault }))
+            (λ fault. (due_fault self.old.fault self.old.wanted self.old.text self.old.given ≡ Some fault)
+            × (self.new ≡ record self.old { fault = Some fault }))
             (self.new ≡ self.old)) }
     {
         match self.fault {
@@ -169,7 +182,8 @@ impl CertReader {
         ensures ok { OnOk result ((end_fault self.old.fault self.old.wanted self.old.text ≡ None)
             × (self.new ≡ record self.old { finished = true })) }
         ensures stop { IfErr result (λ stop. MatchStop stop
-            (λ fault. (end_fault self.old.fault self.old.wanted self.old.text ≡ Some fault) × (self.new ≡ record self.old { fault = Some fault; finished = true }))
+            (λ fault. (end_fault self.old.fault self.old.wanted self.old.text ≡ Some fault)
+            × (self.new ≡ record self.old { fault = Some fault; finished = true }))
             (self.new ≡ self.old)) }
         ensures kept { IfSome self.old.fault (λ fault. result ≡ Err (CertStop.Fault fault)) }
     {

@@ -23,15 +23,15 @@ pub enum Found {
     Nothing,
 }
 
-/// How far a text is read. Of the text a window is there, without the bytes in front that were let go.
+/// How far a text is read. Of the text a window is there, without the bytes in front that were dropped.
 #[derive(Debug, Drop)]
 pub struct Scanner {
     pub progress: Progress,
-    /// How many bytes of the text were let go.
+    /// How many bytes of the text were dropped.
     pub gone: u64,
     /// Where in the text the next line begins.
     pub start: u64,
-    /// Up to where no LF was found behind that.
+    /// Up to where no LF was found after that.
     pub scanned: u64,
 }
 
@@ -55,7 +55,8 @@ impl Scanner {
         requires kept { self.now.gone ≤ self.now.start }
         requires within { self.now.start ≤ self.now.scanned }
         requires limit { self.now.scanned ≤ length _told.now.bytes }
-        requires unended { self.now.scanned ≤ self.now.start + position_or_len is_line_end (drop self.now.start _told.now.bytes) }
+        requires unended { self.now.scanned ≤ self.now.start + position_or_len is_line_end
+            (drop self.now.start _told.now.bytes) }
         requires size { length _told.now.bytes < 2 ^ 63 }
         requires window { IsWindow self.now.gone _told.now.bytes window.now }
         ensures end { result ≡ self.now.start + position_or_len is_line_end (drop self.now.start _told.now.bytes) }
@@ -104,7 +105,8 @@ impl Scanner {
         requires ready { IsReady wanted _told.now.bytes self.old }
         requires size { length _told.now.bytes < 2 ^ 63 }
         requires window { IsWindow self.old.gone _told.now.bytes window.now }
-        requires unended { length _told.now.bytes ≤ self.old.start + position_or_len is_line_end (drop self.old.start _told.now.bytes) }
+        requires unended { length _told.now.bytes ≤ self.old.start + position_or_len is_line_end
+            (drop self.old.start _told.now.bytes) }
         ensures after { AfterStep result wanted self.old.progress.complete _told.now.bytes self.new }
         ensures nothing { IfOk result (λ found. found ≡ Found.Nothing) }
         ensures gone { self.new.gone ≡ self.old.gone }

@@ -35,7 +35,7 @@ impl<T> Sequence<T> {
         }
     }
 
-    /// Appends a value. Where memory is wanting, it is gone, and the sequence is as before.
+    /// Appends a value. Where memory runs out, it is gone, and the sequence is as before.
     pub fn push(&mut self, item: T) -> Result<(), AllocError>
     where
         T: Drop,

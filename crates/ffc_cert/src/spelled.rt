@@ -8,11 +8,11 @@ use crate::sequences::Sequence;
 use itoa::Buffer;
 use std::alloc::AllocError;
 
-/// What stands in a line behind its first item.
+/// What a line has after its first item.
 pub trait Spelled {
     ghost text: { Self → List ℕ };
 
-    /// Appends the text. Where memory is wanting, a part of it may stand at the end.
+    /// Appends the text. Where memory runs out, a part of it may be at the end.
     fn write(&self, out: &mut Vec<u8>) -> Result<(), AllocError>
         ensures ok { OnOk result (out.new.items ≡ out.old.items ++ text self.now) }
         ensures err { OnErr result (Extends out.old.items out.new.items) };
@@ -22,7 +22,7 @@ pub trait Spelled {
         ensures { result ≡ min (length (text self.now)) (2 ^ 64 - 1) };
 }
 
-/// Appends a blank and a number.
+/// Appends a space and a number.
 pub fn write_number(n: u64, out: &mut Vec<u8>) -> Result<(), AllocError>
     ensures ok { OnOk result (out.new.items ≡ out.old.items ++ number n) }
     ensures err { OnErr result (Extends out.old.items out.new.items) }
@@ -33,7 +33,7 @@ pub fn write_number(n: u64, out: &mut Vec<u8>) -> Result<(), AllocError>
     Ok(())
 }
 
-/// How long a blank and a number are.
+/// How long a space and a number are.
 pub fn number_len(n: u64) -> u64
     ensures value { result ≡ length (number n) }
     ensures short { result < 64 }

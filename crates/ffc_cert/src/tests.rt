@@ -1,4 +1,4 @@
-//! What no clause says: that ample memory is enough, and texts from outside.
+//! What no clause says: that calls succeed with enough memory, and texts from outside.
 ghost use Rattle.std.specs.Prelude.{◌≡◌, false};
 
 use super::*;
@@ -43,7 +43,7 @@ fn take_entry(reader: &mut CertReader, out: &mut Vec<u8>) -> Result<(), CertStop
     Ok(())
 }
 
-/// Feeds a piece, appends the text of an entry that is whole, and judges what stands behind it.
+/// Feeds a piece, appends the text of an entry that is whole, and judges what comes after it.
 fn take_piece(reader: &mut CertReader, piece: &[u8], out: &mut Vec<u8>) -> Result<(), CertStop>
     requires { reader.old.finished ≡ false }
     ensures { reader.new.finished ≡ false }
@@ -165,7 +165,7 @@ const FORMS: [&[u8]; 13] = [
     b"unsat 2\na 0\nr 1 +7 0\n",
 ];
 
-/// What stands behind a lemma's line: each form of a line of a tree.
+/// What comes after a lemma's line: each form of a line of a tree.
 const TREES: [&[u8]; 10] = [
     b"z\n",
     b"c 0\nz\n",

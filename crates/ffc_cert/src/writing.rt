@@ -1,6 +1,7 @@
 //! The writer of entries.
 ghost use Rattle.std.specs.Prelude.{◌≡◌, ◌<◌, ◌-◌, ◌^◌, ◌++◌, ◌⊎◌, length, min, OnOk, OnErr};
-ghost use Rattle.ffc_cert.specs.Spelling.{order_item, line_items, line_text, value_line, cause_items, clauses, entry_text};
+ghost use Rattle.ffc_cert.specs.Spelling.{order_item, line_items, line_text, value_line, cause_items, clauses};
+ghost use Rattle.ffc_cert.specs.Spelling.{entry_text};
 ghost use Rattle.ffc_cert.specs.WellFormed.{FitsVersion};
 ghost use Rattle.std.specs.List.{flat_map};
 ghost use Rattle.ffc_cert.specs.Extending.{Extends};
@@ -188,7 +189,7 @@ pub(crate) fn append_entry(entry: &Entry, out: &mut Vec<u8>) -> Result<(), Alloc
 }
 
 /// Appends the one text of an entry. It is the same in both versions, since a lemma says whether it names an order. Where
-/// memory is wanting, nothing is appended.
+/// memory runs out, nothing is appended.
 pub fn write_entry(
     _alloc: Global,
     version: u8,

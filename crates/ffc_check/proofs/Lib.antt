@@ -6,7 +6,6 @@ pub mod GivenLemmas
 pub mod HintLemmas
 pub mod LengthLemmas
 pub mod MisfitLemmas
-mod ReadLemmas
 pub mod SchemeLemmas
 pub mod TestLemmas
 pub mod TreeLemmas

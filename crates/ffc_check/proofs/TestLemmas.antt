@@ -54,3 +54,16 @@ valid_with_few ns declared ids order all table few count constants known same go
       boolean = λ k d inside. boolean_at ns (get_or ids k d) (AllPass-from_list_all (is_boolean ns) ids (sym same ∙ good) k d inside);
       covered = λ id of const. one_covers ns declared table few count constants id const;
     }
+
+-- a check that lists all constants, of which there is at most one
+pub few_are_valid : (ns : List Node) (declared ids : List ℕ) (order : ℕ) → IsTable ns → length declared ≤ 1 → constant_count ns ≡ length declared → All (IsConstantAt ns) declared
+    → IsOrder order → All (IsBooleanAt ns) ids → IsValidCheck ns declared ids order
+few_are_valid ns declared ids order table few count constants known boolean =
+    record {
+      table = table;
+      order = known;
+      increasing = few_increase declared few;
+      constants = constants;
+      boolean = boolean;
+      covered = λ id of const. one_covers ns declared table few count constants id const;
+    }

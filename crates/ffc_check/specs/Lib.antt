@@ -2,7 +2,6 @@ pub mod Judged
 pub mod Answers
 pub mod Assigning
 pub mod Arena
-pub mod Assumed
 pub mod Opening
 pub mod Patterns
 pub mod Gates

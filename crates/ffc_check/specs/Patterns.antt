@@ -8,7 +8,7 @@ use Rattle.ffc_clause.specs.Clauses.{Clause}
 abbrev pub scheme_in : List (List Clause) → ℕ → List Clause
 scheme_in all scheme = elim (slice_get all scheme) [ None ↦ [] | Some clauses ↦ clauses ]
 
--- what a pattern stands for: one clause, or none
+-- what a pattern means: one clause, or none
 abbrev pub clauses_of : Pattern → List Clause
 clauses_of of.Nothing = []
 clauses_of (of.One a) = (a ∷ []) ∷ []

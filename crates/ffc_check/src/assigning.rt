@@ -25,14 +25,14 @@ pub fn constant_count(table: &NodeTable) -> usize
 }
 
 /// A value for each constant of a table.
-pub fn blank(alloc: Global, table: &NodeTable) -> Result<Vec<Value>, AllocError>
+pub fn default_values(alloc: Global, table: &NodeTable) -> Result<Vec<Value>, AllocError>
     ensures { IfOk result (λ values. length values.items ≡ constant_count table.now) }
 {
     let count = constant_count(table);
     vec![in alloc; Value::Bool(false); count]
 }
 
-/// Gives a constant the value that a number stands for.
+/// Gives a constant the value of a number.
 fn give(table: &NodeTable, constant: NodeId, number: u64, values: &mut [Value])
     requires { IsConstantAt table.now constant }
     ensures { values.new ≡ with_value table.now values.old (constant, number) }
@@ -70,7 +70,7 @@ pub fn give_digits(table: &NodeTable, constants: &[NodeId], number: u64, values:
     }
 }
 
-/// Whether all is true under an assignment that is in force, of which `asserted` lists the nodes. The nodes are evaluated up to
+/// Whether all that is active, of which `asserted` lists the nodes, is true under an assignment. The nodes are evaluated up to
 /// the first of these that is false; their values go into `out`.
 pub fn is_model(
     check: &Check,

@@ -2,7 +2,7 @@
 ghost use Rattle.std.specs.Prelude.{◌≡◌, ℕ, ◌<◌, ◌==◌, ◌&&◌, not, [], ◌∷◌, length, OnOk};
 ghost use Rattle.std.specs.List.{list_any};
 ghost use Rattle.ffc_clause.specs.Clauses.{is_among};
-ghost use Rattle.ffc_check.specs.Assumed.{place_of, mark_at};
+ghost use Rattle.ffc_clause.specs.Marks.{place_of, mark_at};
 
 use ffc_cert::Literal;
 use std::alloc::{AllocError, Global};
@@ -22,7 +22,7 @@ pub struct Assumed {
 impl Model for Assumed {
     ghost use Rattle.std.specs.Prelude.{List, reverse};
     ghost use Rattle.ffc_clause.specs.Clauses.{Literal as ClauseLiteral};
-    ghost use Rattle.ffc_check.specs.Assumed.{AreMarked};
+    ghost use Rattle.ffc_clause.specs.Marks.{AreMarked};
 
     ghost Value = { List ClauseLiteral };
 
@@ -51,7 +51,8 @@ fn reach(marks: &mut Vec<bool>, place: usize) -> Result<(), AllocError>
 
 /// Clears the marks of these literals.
 fn clear_all(marks: &mut [bool], literals: &[Literal])
-    ensures { (k : ℕ) → mark_at marks.new k ≡ (mark_at marks.old k && not (list_any (λ l. place_of l == k) literals.now)) }
+    ensures { (k : ℕ) → mark_at marks.new k
+        ≡ (mark_at marks.old k && not (list_any (λ l. place_of l == k) literals.now)) }
 {
     for literal in literals {
         let k = place(*literal);

@@ -1,4 +1,4 @@
-//! Entries by cases: every assignment of a check's constants makes something false that is in force.
+//! Entries by cases: every assignment of a check's constants makes something active false.
 ghost use Rattle.std.specs.Prelude.{◌≡◌, ◌<◌, length, IfOk};
 ghost use Rattle.std.specs.List.Sorted.{IsStrictlyIncreasing};
 ghost use Rattle.ffc_term.specs.Checks.{IsClosed, AreNodesOf, AreConstantsOf};
@@ -11,7 +11,7 @@ ghost use Rattle.ffc_rules.specs.Laws.{IsValid};
 ghost use Rattle.ffc_check.specs.Answers.{Answers};
 ghost use Rattle.ffc_check.specs.Judged.{node_check};
 
-use crate::assigning::{blank, give_digits, is_model};
+use crate::assigning::{default_values, give_digits, is_model};
 use crate::stop::{CheckStop, breaks};
 use ffc_cktree::rules;
 use ffc_term::{Assignment, Check, NodeId, Value, distinct};
@@ -20,7 +20,7 @@ use std::alloc::{AllocError, Global};
 /// The most work of a check that is gone through: the number of its assignments times that of its nodes.
 const MOST_WORK: u128 = 16_777_216;
 
-/// Whether one of the first assignments, so many, makes all true that is in force. It takes no memory, and costs for each
+/// Whether one of the first assignments, so many, makes all that is active true. It takes no memory, and costs for each
 /// assignment the evaluation of the nodes up to the first assertion that is false.
 fn search(
     check: &Check,
@@ -61,7 +61,7 @@ fn has_model(alloc: Global, check: &Check, count: u64) -> Result<bool, AllocErro
     let nodes = check.table.nodes_of(check.in_force)?;
     let asserted = distinct(alloc, check.in_force)?;
     let constants = check.table.constants_of(check.in_force)?;
-    let values = blank(alloc, check.table)?;
+    let values = default_values(alloc, check.table)?;
     let mut out = vec![in alloc; Value::Bool(false); check.table.len() as usize]?;
     Ok(search(
         check,

@@ -17,7 +17,7 @@ use std::alloc::Global;
 
 /// Judges an entry that begins at this line of its certificate. A refutation costs about what its text has to be read, its
 /// products, the square of the lengths that are written for each step of a chain, and once the marks up to its highest
-/// literal; an entry by cases the work of the check, and once the list in force.
+/// literal; an entry by cases the work of the check, and once the active list.
 pub fn check_entry(
     alloc: Global,
     check: &Check,
@@ -33,7 +33,7 @@ pub fn check_entry(
     ensures broken { (b : BrokenRule) → result ≡ Err (stops.Broken b)
         → entry_fault (node_check check.now) entry.now first_line ≡ Some (breaks b.rule b.line) }
 
-    // An accepted refutation says that no assignment makes all true that is in force, accepted values that they do.
+    // An accepted refutation says that no assignment makes all that is active true, accepted values that they do.
     ensures meaning { OnOk result (IsTrueOf (node_check check.now) entry.now) }
 {
     judge(alloc, check, entry, first_line)

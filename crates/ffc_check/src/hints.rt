@@ -62,7 +62,7 @@ fn assume_negated(assumed: &mut Assumed, literals: &[Literal]) -> Result<(), All
     Ok(())
 }
 
-/// Whether the assumed literals lead to a contradiction by hints.
+/// Whether the assumed literals give a contradiction by hints.
 fn contradicts(
     clauses: &ClauseList,
     assumed: &mut Assumed,

@@ -106,7 +106,9 @@ fn tree_lines(
     requires ranges { AllByRecursion IsLine rest.now }
     requires few { length literals.now < 2 ^ 31 }
     requires line { line + length rest.now + 1 < 2 ^ 64 }
-    ensures given { Gives result (tree_given literals.now line (tree_read tree_limits order (first_lines kept.old order literals.now) rest.now)) (IsTakenWith literals.now rest.now) }
+    ensures given { Gives result
+        (tree_given literals.now line (tree_read tree_limits order (first_lines kept.old order literals.now) rest.now))
+        (IsTakenWith literals.now rest.now) }
     ensures kept { kept.new ≡ kept.old }
 {
     match lemma_tree(alloc, kept, order, literals, rest) {
@@ -131,7 +133,8 @@ pub fn check_lemma(
     requires ranges { AllByRecursion IsLine rest.now }
     requires few { length literals.now < 2 ^ 31 }
     requires line { line + length rest.now + 1 < 2 ^ 64 }
-    ensures given { Gives result (lemma_given limits (node_check check.now) (order_or check.now.first_order order) literals.now line rest.now) (IsTakenWith literals.now rest.now) }
+    ensures given { Gives result (lemma_given limits (node_check check.now) (order_or check.now.first_order order)
+        literals.now line rest.now) (IsTakenWith literals.now rest.now) }
     ensures kept { kept.new ≡ kept.old }
 {
     let order = order.unwrap_or(check.first_order);

@@ -68,7 +68,7 @@ fn ite_bool_pattern(v: NodeId, c: NodeId, a: NodeId, b: NodeId, scheme: u32) -> 
     }
 }
 
-/// Of a choice between residues: its equalities with its branches stand after it in the table.
+/// Of a choice between residues: its equalities with its branches come after it in the table.
 fn ite_field_pattern(v: NodeId, c: NodeId, a: NodeId, b: NodeId, scheme: u32) -> Pattern
     requires { v + 2 < 2 ^ 32 }
     ensures { clauses_of result ≡ scheme_in (schemes v (node_is.IteField c a b)) scheme }
@@ -157,7 +157,8 @@ fn gate_clause(
     scheme: u32,
     index: u32,
 ) -> Result<Option<Vec<Literal>>, AllocError>
-    ensures { IfOk result (λ found. literals_of found ≡ slice_get (scheme_in (gate_schemes v all ids.now) scheme) index) }
+    ensures { IfOk result (λ found. literals_of found ≡ slice_get (scheme_in (gate_schemes v all ids.now) scheme)
+        index) }
 {
     match scheme {
         0 => match ids.get(index as usize) {

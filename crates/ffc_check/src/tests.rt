@@ -1,10 +1,5 @@
 //! Entries for a check that asserts 1 = 2 in the field of order 5, and for checks of the squares of one constant.
-ghost use Rattle.std.specs.Prelude.{◌≡◌, IsTrue, All, [], ◌∷◌};
-ghost use Rattle.std.specs.List.{list_all};
-ghost use Rattle.ffc_field.specs.Orders.{IsOrder};
-ghost use Rattle.ffc_term.specs.Nodes.{IsConstantAt};
-ghost use Rattle.ffc_term.specs.Tables.{IsFieldAt, AreOfOneField};
-ghost use Rattle.ffc_rules.specs.Entries.{is_boolean};
+ghost use Rattle.std.specs.Prelude.{IsTrue};
 ghost use Rattle.ffc_rules.specs.Laws.{IsValid};
 ghost use Rattle.ffc_check.specs.Judged.{node_check};
 
@@ -12,66 +7,11 @@ use crate::assigning::constant_count;
 use crate::walk::is_boolean;
 use crate::{CheckStop, check_entry};
 use ffc_cert::CertReader;
-use ffc_field::FieldId;
-use ffc_term::{Check, Node, NodeId, NodeList, NodeTable, Sort, TermStop};
+use ffc_term::fitting::{are_boolean, are_constants, are_of_one_field, is_field, is_order};
+use ffc_term::{Check, Node, NodeId, NodeList, NodeTable, TermStop};
 use std::alloc::{AllocError, Global};
 use std::process::Abort;
 use std::test::Fail;
-
-fn is_field(table: &NodeTable, order: u64, id: NodeId) -> bool
-    ensures { IsTrue result → IsFieldAt table.now order id }
-{
-    if id >= table.len() {
-        return false;
-    }
-    match table.sort_of(id) {
-        Sort::Bool => false,
-        Sort::Field(own) => own == order,
-    }
-}
-
-fn are_of_one_field(table: &NodeTable, order: u64, a: NodeId, b: NodeId) -> bool
-    ensures { IsTrue result → AreOfOneField table.now (a ∷ b ∷ []) }
-{
-    is_field(table, order, a) && is_field(table, order, b)
-}
-
-fn is_order(order: u64) -> bool
-    ensures { IsTrue result → IsOrder order }
-{
-    FieldId::of_order(u128::from(order)).is_some()
-}
-
-fn is_constant(table: &NodeTable, id: NodeId) -> bool
-    ensures { IsTrue result → IsConstantAt table.now id }
-{
-    if id >= table.len() {
-        return false;
-    }
-    table.node(id).is_constant()
-}
-
-fn are_constants(table: &NodeTable, ids: &[NodeId]) -> bool
-    ensures { IsTrue result → All (IsConstantAt table.now) ids.now }
-{
-    for id in ids {
-        if !is_constant(table, *id) {
-            return false;
-        }
-    }
-    true
-}
-
-fn are_boolean(table: &NodeTable, ids: &[NodeId]) -> bool
-    ensures { result ≡ list_all (is_boolean table.now) ids.now }
-{
-    for id in ids {
-        if !is_boolean(table, *id) {
-            return false;
-        }
-    }
-    true
-}
 
 /// A check that declares all constants of its table, of which there is at most one.
 fn is_valid(check: &Check) -> bool
@@ -98,7 +38,7 @@ fn false_equality(rt: &impl Abort, alloc: Global) -> Result<NodeTable, TermStop>
     let mut table = NodeTable::new(alloc)?;
     let a = table.intern(Node::Num(1, 5))?;
     let b = table.intern(Node::Num(2, 5))?;
-    assert!(rt; are_of_one_field(&table, 5, a, b));
+    assert!(rt; are_of_one_field(&table, &[a, b]));
     table.intern(Node::Eq(a, b))?;
     Ok(table)
 }
@@ -199,7 +139,7 @@ fn equality(
     assert!(rt; is_order(order));
     assert!(rt; n < order);
     let b = table.intern(Node::Num(n, order))?;
-    assert!(rt; are_of_one_field(table, order, a, b));
+    assert!(rt; are_of_one_field(table, &[a, b]));
     table.intern(Node::Eq(a, b))
 }
 
@@ -214,7 +154,7 @@ fn square_table(rt: &impl Abort, alloc: Global, order: u64, n: u64) -> Result<No
     Ok(table)
 }
 
-/// Entries for checks over a table of squares, by the order, n and the nodes in force: 3 is x*x = n, and 5 is x = 0.
+/// Entries for checks over a table of squares, by the order, n and the active nodes: 3 is x*x = n, and 5 is x = 0.
 const SQUARES: [(u64, u64, &[NodeId], &str, (u64, u8)); 21] = [
     (17, 16, &[3], "ffcert 1\nsat 1\n= 0 4\n", (0, 0)),
     (17, 16, &[3], "ffcert 1\nsat 1\n= 0 13\n", (0, 0)),
@@ -223,7 +163,7 @@ const SQUARES: [(u64, u64, &[NodeId], &str, (u64, u8)); 21] = [
     (17, 16, &[3], "ffcert 1\nsat 0\n", (2, 1)),
     (17, 16, &[3], "ffcert 1\nunsat e\n", (2, 10)),
     (17, 16, &[3, 5], "ffcert 1\nunsat e\n", (0, 0)),
-    // A node may be in force more than once.
+    // A node may be listed more than once.
     (17, 16, &[5, 3, 3, 5, 3], "ffcert 1\nunsat e\n", (0, 0)),
     (17, 16, &[3, 3], "ffcert 1\nunsat e\n", (2, 10)),
     (3, 2, &[3], "ffcert 1\nunsat e\n", (0, 0)),

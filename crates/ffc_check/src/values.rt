@@ -7,7 +7,7 @@ ghost use Rattle.ffc_rules.specs.Laws.{IsValid, AreValues};
 ghost use Rattle.ffc_check.specs.Answers.{Answers};
 ghost use Rattle.ffc_check.specs.Judged.{node_check};
 
-use crate::assigning::{blank, give_listed, is_model};
+use crate::assigning::{default_values, give_listed, is_model};
 use crate::stop::{CheckStop, breaks};
 use ffc_cktree::rules;
 use ffc_term::{Assignment, Check, NodeId, NodeTable, Value, distinct};
@@ -17,7 +17,8 @@ use std::alloc::{AllocError, Global};
 fn first_misfit(table: &NodeTable, declared: &[NodeId], pairs: &[(u32, u64)]) -> Option<usize>
     requires within { All (λ id. id < length table.now) declared.now }
     requires long { length pairs.now ≡ length declared.now }
-    ensures misfit { (line : ℕ) → first_misfit table.now declared.now pairs.now line ≡ option_map (λ i. line + i) result }
+    ensures misfit { (line : ℕ) → first_misfit table.now declared.now pairs.now line
+        ≡ option_map (λ i. line + i) result }
     ensures inside { IfSome result (λ i. i < length pairs.now) }
 {
     for (i, id) in declared.iter().enumerate() {
@@ -32,15 +33,16 @@ fn first_misfit(table: &NodeTable, declared: &[NodeId], pairs: &[(u32, u64)]) ->
     None
 }
 
-/// Whether all is true that is in force, where the constants have the listed values.
+/// Whether all that is active is true, where the constants have the listed values.
 fn makes_true(alloc: Global, check: &Check, pairs: &[(u32, u64)]) -> Result<bool, AllocError>
     requires valid { IsValid (node_check check.now) }
     requires values { AreValues check.now.table.now check.now.declared.now pairs.now }
-    ensures { IfOk result (λ good. good ≡ are_true check.now.table.now check.now.in_force.now (listed_assignment check.now.table.now pairs.now)) }
+    ensures { IfOk result (λ good. good ≡ are_true check.now.table.now check.now.in_force.now
+        (listed_assignment check.now.table.now pairs.now)) }
 {
     let nodes = check.table.nodes_of(check.in_force)?;
     let asserted = distinct(alloc, check.in_force)?;
-    let mut values = blank(alloc, check.table)?;
+    let mut values = default_values(alloc, check.table)?;
     give_listed(check.table, pairs, values.as_mut_slice());
     let mut out = vec![in alloc; Value::Bool(false); check.table.len() as usize]?;
     let assignment = Assignment::new(values);
@@ -53,7 +55,7 @@ fn makes_true(alloc: Global, check: &Check, pairs: &[(u32, u64)]) -> Result<bool
     ))
 }
 
-/// Judges listed values: each constant has one of its own, and with them all is true that is in force.
+/// Judges listed values: each constant has one of its own, and with them all that is active is true.
 pub fn check_values(
     alloc: Global,
     check: &Check,

@@ -68,7 +68,8 @@ fn take_assumed(
     k: u32,
     rest: &[CertLine],
 ) -> Result<usize, CheckStop>
-    ensures { Gives result (clause_given limits (node_check check.now) clauses.old line (lines.Assume k) rest.now) (IsGiven clauses.old clauses.new rest.now) }
+    ensures { Gives result (clause_given limits (node_check check.now) clauses.old line (lines.Assume k) rest.now)
+        (IsGiven clauses.old clauses.new rest.now) }
 {
     if k as usize >= check.in_force.len() {
         return Err(breaks(rules::ASSUME, line));
@@ -86,7 +87,8 @@ fn take_scheme(
     at: (u32, u32, u32),
     rest: &[CertLine],
 ) -> Result<usize, CheckStop>
-    ensures { Gives result (clause_given limits (node_check check.now) clauses.old line (lines.Scheme at.0 at.1 at.2) rest.now) (IsGiven clauses.old clauses.new rest.now) }
+    ensures { Gives result (clause_given limits (node_check check.now) clauses.old line (lines.Scheme at.0 at.1 at.2)
+        rest.now) (IsGiven clauses.old clauses.new rest.now) }
 {
     let (node, scheme, index) = at;
     if node >= check.table.len() {
@@ -111,7 +113,8 @@ fn take_hinted(
     rest: &[CertLine],
 ) -> Result<usize, CheckStop>
     requires nothing { state.old.assumed ≡ [] }
-    ensures given { Gives result (clause_given limits (node_check check.now) state.old.clauses line (lines.Hinted literals.now hints.now) rest.now) (IsGiven state.old.clauses state.new.clauses rest.now) }
+    ensures given { Gives result (clause_given limits (node_check check.now) state.old.clauses line
+        (lines.Hinted literals.now hints.now) rest.now) (IsGiven state.old.clauses state.new.clauses rest.now) }
     ensures nothing { OnOk result (state.new.assumed ≡ []) }
     ensures kept { state.new.kept ≡ state.old.kept }
 {
@@ -145,7 +148,8 @@ fn take_clause(
     requires ranges { AllByRecursion IsLine rest.now }
     requires short { FewLiterals here.now }
     requires line { line + length rest.now + 1 < 2 ^ 64 }
-    ensures given { Gives result (clause_given limits (node_check check.now) state.old.clauses line here.now rest.now) (IsGiven state.old.clauses state.new.clauses rest.now) }
+    ensures given { Gives result (clause_given limits (node_check check.now) state.old.clauses line here.now rest.now)
+        (IsGiven state.old.clauses state.new.clauses rest.now) }
     ensures nothing { OnOk result (state.new.assumed ≡ []) }
     ensures kept { state.new.kept ≡ state.old.kept }
 {

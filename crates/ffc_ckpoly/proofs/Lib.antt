@@ -3,7 +3,6 @@ pub mod Lists
 pub mod Merging
 pub mod MergingSteps
 pub mod OrderLemmas
-pub mod PowerLemmas
 pub mod SortedLemmas
 pub mod RunLemmas
 pub mod Sums

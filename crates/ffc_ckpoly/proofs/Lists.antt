@@ -5,7 +5,7 @@ use Rattle.ffc_ring.specs.Monomial.{Monomial}
 use Rattle.std.specs.Borrow.{Bor}
 use Rattle.ffc_ckpoly.specs.Sorted.{residues, IsSortedBy}
 
--- an element pushed stands in front of what is left
+-- an element pushed is in front of what is left
 pub pushed : {A : Type 0} (out out' : List A) (x : A) (left all : List A) → out' ≡ out ++ x ∷ [] → out ++ (x ∷ left) ≡ all → out' ++ left ≡ all
 pushed out out' x left all e h = ap (λ k. k ++ left) e ∙ simp append_assoc h
 
@@ -59,7 +59,7 @@ sorted_drop value p cmp (suc n) (t ∷ ts) h = sorted_drop value p cmp n ts h.5
 pub whole_tail : {A : Type 0} (i : ℕ) (xs : List A) → take (length xs - i) (drop i xs) ≡ drop i xs
 whole_tail i xs = take_all (length xs - i) (drop i xs) (omega (arith, length-drop i xs))
 
--- the same where the place behind the element is known
+-- the same where the place after the element is known
 pub left_before : {A : Type 0} (xs : List A) (end : ℕ) (x : A) → 0 < end → end ≤ length xs → x ≡ get_or xs (end - 1) x → drop (end - 1) xs ≡ x ∷ drop end xs
 left_before xs end x some within e =
     left_at xs (end - 1) x (omega arith) e ∙ ap (λ k. x ∷ drop k xs) (let same : end - 1 + 1 ≡ end = omega arith in same)

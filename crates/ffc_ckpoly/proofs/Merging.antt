@@ -14,7 +14,7 @@ use Rattle.ffc_ckpoly.specs.Sorted.{IsAbove, IsSortedBy, multiplied, kept}
 use Rattle.ffc_ckpoly.proofs.OrderLemmas.{IsExactOrder}
 
 module _ (p : ℕ) (cmp : Monomial → Monomial → Ordering) (c : ℕ) where
-  -- s and what is behind it, merged with c times the terms of b, where `rest` merges what is behind s
+  -- s and what is after it, merged with c times the terms of b, where `rest` merges what is after s
   abbrev pub merged_with : (ℕ × Monomial) → Terms → (Terms → Terms) → Terms → Terms
   merged_with s a rest [] = s ∷ a
   merged_with s a rest (t ∷ b) =

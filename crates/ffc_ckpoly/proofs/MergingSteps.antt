@@ -44,7 +44,7 @@ none_left [] h = refl
 none_left (x ∷ xs) h = absurd (omega arith)
 
 module _ {F : Type 0} (value : F → ℕ) (p : ℕ) (cmp : Monomial → Monomial → Ordering) (c one : ℕ) (one_is : one ≡ 1) (left right : List (F × Bor Monomial)) (left_ordered : IsSortedBy p cmp (residues value left)) where
-  -- where one side has ended, what is left of both stands behind the other
+  -- where one side has ended, what is left of both comes after the other
   ended : (length right ≡ 0) ⊎ (length left ≡ 0) → multiplied p one (residues value left) ++ multiplied p c (residues value right) ≡ merged p cmp c (residues value left) (residues value right)
   ended (inl h) =
       let e : right ≡ [] = none_left right h in

@@ -1,30 +1,31 @@
 -- Polynomials of nodes from those of their parts.
-use Rattle.std.proofs.Common.{◌≡◌, ℕ, zero, suc, ◌+◌, ◌-◌, ◌*◌, ◌^◌, ◌%◌, ◌<◌, ◌≤◌, max, cond, Bool, true, false, List, [], ◌∷◌, ◌++◌, length, take, get_or, fold, sum_by, All, Option, Some, None, IfSome, Result, Ok, Err, IfOk, refl, sym, ap, ap₂, ◌∙◌, subst, arith, length-take, get_or-take, append_assoc, append-nil, one-mul}
+use Rattle.std.proofs.Common.{◌≡◌, ℕ, zero, suc, ◌+◌, ◌-◌, ◌*◌, ◌^◌, ◌%◌, ◌<◌, ◌≤◌, cond, Bool, true, false, List, [], ◌∷◌, ◌++◌, length, take, get_or, sum_by, All, Option, Some, None, IfSome, Result, Ok, Err, IfOk, refl, sym, ap, ap₂, ◌∙◌, subst, arith, length-take, get_or-take, append_assoc, append-nil, one-mul}
 use Rattle.std.proofs.Math.Nat.{pow-suc, pow-zero, mod-mod}
 use Rattle.std.proofs.lemmas.List.Elements.{All-head, All-tail}
 use Rattle.std.proofs.lemmas.List.Sums.{sum_by-cons}
-use Rattle.ffc_ring.specs.Monomial.{Monomial, IsMonomial, degree, same_monomial}
-use Rattle.ffc_ring.specs.Polynomial.{Terms, AreTerms, SamePolynomial, written, term_product, product, scaled, difference}
-use Rattle.ffc_ring.proofs.MonomialLemmas.{IsMonomial-mono_mul, degree-mono_mul}
-use Rattle.ffc_ring.proofs.PolynomialLemmas.{written-scaled, times_alike, same_sums, same_products, same_term_products, product_with_one, product_associates, product_commutes}
+use Rattle.ffc_ring.specs.Monomial.{Monomial, degree, same_monomial}
+use Rattle.ffc_ring.specs.Polynomial.{Terms, SamePolynomial, written, term_product, product, scaled, difference}
+use Rattle.ffc_ring.proofs.MonomialLemmas.{degree-mono_mul}
+use Rattle.ffc_ring.proofs.PolynomialLemmas.{written-scaled, times_alike, same_sums, same_term_products}
 use Rattle.ffc_term.specs.declared.node.Node.{Node}
 use Rattle.ffc_term.specs.declared.node.Node.TheVariants.{FieldConst, Num, IteField, Eq, Add, Mul, Neg, Bitsum}
 use Rattle.ffc_term.specs.declared.node.Sort.TheVariants as sort
-use Rattle.ffc_term.specs.Nodes.{IsNodeAt, sorts, sort_of_node, order_at, order_of_sort}
-use Rattle.ffc_term.specs.Tables.{Fits, AreOfOneField, IsFieldAt, IsTable}
-use Rattle.ffc_term.specs.Measuring.{number_in, degree_of_node, degrees, degree_at}
-use Rattle.ffc_term.proofs.InTurn.{get_or-in_turn}
+use Rattle.ffc_term.specs.Nodes.{IsNodeAt, order_at, order_of_sort}
+use Rattle.ffc_term.specs.Tables.{AreOfOneField, IsFieldAt, IsTable}
+use Rattle.ffc_term.specs.Measuring.{number_in, degrees, degree_at}
 use Rattle.std.proofs.lemmas.Option.{slice_get_within}
-use Rattle.ffc_term.proofs.TableLemmas.{sort_at-is, sort_at-take}
+use Rattle.ffc_term.proofs.TableLemmas.{sort_at-take}
 use Rattle.ffc_trees.specs.Normal.{IsNormal, degree_of, normal}
-use Rattle.ffc_trees.specs.NodePolynomials.{poly_in, sum_of, product_of, bit_sum_of, constant, expanded, poly_of_node, node_polys, poly_at, EachMonomial}
+use Rattle.ffc_trees.specs.NodePolynomials.{poly_in, sum_of, product_of, bit_sum_of, expanded, poly_of_node, node_polys, poly_at}
 use Rattle.ffc_trees.specs.Same.{IsSameLine}
 use Rattle.ffc_trees.proofs.NormalLemmas.{normal_same, normal_is_normal}
-use Rattle.ffc_trees.proofs.NodePolyLemmas.{poly_at-is, boolean_field, first_order, of_order}
+use Rattle.ffc_trees.proofs.NodePolyLemmas.{poly_at-is, first_order, of_order}
 use Rattle.ffc_trees.proofs.BoundLemmas.{poly_at-bounded}
 use Rattle.ffc_trees.proofs.SameLemmas.{one_degree}
-use Rattle.ffc_trees.proofs.VariableLemmas.{poly_at-variables}
-use Rattle.ffc_ckpoly.specs.Parts.{parts_of, weighted, IsWithin}
+use Rattle.ffc_trees.specs.Parts.{parts_of}
+use Rattle.ffc_trees.proofs.PartLemmas.{parts_are, degree_at-is, part_low}
+use Rattle.ffc_trees.proofs.ProductLemmas.{poly_before, product_before}
+use Rattle.ffc_ckpoly.specs.Parts.{weighted, IsWithin}
 use Rattle.ffc_ckpoly.proofs.DegreeLemmas.{AreWithin, within-append}
 
 -- ---- weights
@@ -58,10 +59,6 @@ part_added p w v r polys id ids new old f all e h g so_far m =
 
 -- ---- sums as they are written
 
--- the polynomials before a node are those of all nodes
-pub poly_before : (ns : List Node) (id c : ℕ) → c < id → poly_in (take id (node_polys ns)) c ≡ poly_in (node_polys ns) c
-poly_before ns id c h = get_or-take id (node_polys ns) c [] h
-
 abbrev AreBefore : ℕ → List ℕ → Type 0
 AreBefore id ids = All (λ c. c < id) ids
 
@@ -83,10 +80,6 @@ module _ (ns : List Node) (id : ℕ) where
       ap₂ (λ (f rest : Terms). scaled (2 ^ i) f ++ rest) (sym (poly_before ns id c (All-head (λ k. k < id) c ids are)))
       (ap (λ w. weighted w 2 (node_polys ns) ids) (sym (pow-suc 2 i) ∙ ap (λ n. 2 ^ n) (let same : suc i ≡ i + 1 = omega arith in same)) ∙ bits_are (i + 1) ids (All-tail (λ k. k < id) c ids are))
 
-  product_is : (ids : List ℕ) → AreBefore id ids → product_of (node_polys ns) ids ≡ product_of before ids
-  product_is [] are = refl
-  product_is (c ∷ ids) are = ap₂ product (sym (poly_before ns id c (All-head (λ k. k < id) c ids are))) (product_is ids (All-tail (λ k. k < id) c ids are))
-
   pub as_sum : (p a r : ℕ) (ids : List ℕ) (t : Terms) → AreBefore id ids → a % p ≡ 1 % p → r % p ≡ 1 % p → SamePolynomial p t (weighted a r (node_polys ns) ids) → SamePolynomial p t (sum_of before ids)
   as_sum p a r ids t are e f same m = same m ∙ weights_alike p a r 1 1 (node_polys ns) ids e f m ∙ sum_is p ids are m
 
@@ -100,7 +93,7 @@ module _ (ns : List Node) (id : ℕ) where
       same m ∙ ap (λ ts. written ts m % p) (append-nil (scaled a (poly_in (node_polys ns) c)) ∙ ap₂ scaled e (sym (poly_before ns id c are)))
 
   pub as_product : (p : ℕ) (ids : List ℕ) (t : Terms) → AreBefore id ids → SamePolynomial p t (product_of (node_polys ns) ids) → SamePolynomial p t (product_of before ids)
-  as_product p ids t are same m = same m ∙ ap (λ ts. written ts m % p) (product_is ids are)
+  as_product p ids t are same m = same m ∙ ap (λ ts. written ts m % p) (product_before ns id ids are)
 
 -- ---- the polynomial of a node
 
@@ -110,66 +103,6 @@ node_line ns p id n r some is at normal_r same =
     let order : order_at ns id ≡ p = ap order_of_sort is.1 in
     let line : IsSameLine p r (normal p made) = record { one = normal_r; other = normal_is_normal p made some; same = λ m. same m ∙ sym (normal_same p made m) } in
     subst (IsSameLine p r) (sym (poly_at-is ns id n at ∙ ap (λ q. poly_of_node q id (take id (node_polys ns)) n) order)) line
-
--- ---- the parts of a node
-
-module _ (ns : List Node) (p id : ℕ) (table : IsTable ns) (is : IsFieldAt ns p id) (n : Node) (at : IsNodeAt ns id n) where
-  short : length (take id ns) ≡ id
-  short = omega (arith, length-take id ns, is.0)
-
-  sort_is : sort_of_node (sorts (take id ns)) n ≡ sort.Field p
-  sort_is = sym (sort_at-is ns id n at) ∙ is.1
-
-  fits : Fits (take id ns) n
-  fits = table.well_formed.fits id n at
-
-  from_before : (ids : List ℕ) → All (IsFieldAt (take id ns) p) ids → All (λ c. IsFieldAt ns p c × (c < id)) ids
-  from_before ids are = λ k d inside.
-      let there = are k d inside in
-      let early : get_or ids k d < id = omega (arith, there.0, short) in
-      ((omega (arith, is.0, early), sym (sort_at-take id ns (get_or ids k d) early) ∙ there.1), early)
-
-  fields_of : (m : Node) → m ≡ n → Fits (take id ns) m → sort_of_node (sorts (take id ns)) m ≡ sort.Field p → All (IsFieldAt (take id ns) p) (parts_of m)
-  fields_of (FieldConst k q) e fit srt = none
-    where
-      none : All (IsFieldAt (take id ns) p) []
-      none k d inside = absurd (omega arith)
-  fields_of (Num k q) e fit srt = λ i d inside. absurd (omega arith)
-  fields_of (IteField c a b) e fit srt = λ i d inside. absurd (omega arith)
-  fields_of (Add ids) e fit srt = of_order (take id ns) p ids fit (first_order (take id ns) p ids fit srt)
-  fields_of (Mul ids) e fit srt = of_order (take id ns) p ids fit (first_order (take id ns) p ids fit srt)
-  fields_of (Neg a) e fit srt = of_order (take id ns) p (a ∷ []) fit (first_order (take id ns) p (a ∷ []) fit srt)
-  fields_of (Bitsum ids) e fit srt = of_order (take id ns) p ids fit (first_order (take id ns) p ids fit srt)
-  fields_of _ e fit srt = absurd (boolean_field p srt)
-
-  pub parts_are : All (λ c. IsFieldAt ns p c × (c < id)) (parts_of n)
-  parts_are = from_before (parts_of n) (fields_of n refl fits sort_is)
-
-greatest_from : {X : Type 0} (f : X → ℕ) (a : ℕ) (xs : List X) → a ≤ fold (λ b x. max b (f x)) a xs
-greatest_from f a [] = omega arith
-greatest_from f a (x ∷ xs) = omega (arith, greatest_from f (max a (f x)) xs)
-
-greatest_at : {X : Type 0} (f : X → ℕ) (a : ℕ) (xs : List X) (i : ℕ) (d : X) → i < length xs → f (get_or xs i d) ≤ fold (λ b x. max b (f x)) a xs
-greatest_at f a [] i d h = absurd (omega arith)
-greatest_at f a (x ∷ xs) zero d h = omega (arith, greatest_from f (max a (f x)) xs)
-greatest_at f a (x ∷ xs) (suc i) d h = greatest_at f (max a (f x)) xs i d (omega arith)
-
-sum_at : {X : Type 0} (f : X → ℕ) (xs : List X) (i : ℕ) (d : X) → i < length xs → f (get_or xs i d) ≤ sum_by f xs
-sum_at f [] i d h = absurd (omega arith)
-sum_at f (x ∷ xs) zero d h = omega (arith, sum_by-cons f x xs)
-sum_at f (x ∷ xs) (suc i) d h = omega (arith, sum_by-cons f x xs, sum_at f xs i d (omega arith))
-
-degree_at-is : (ns : List Node) (id : ℕ) (n : Node) → IsNodeAt ns id n → degree_at ns id ≡ degree_of_node (take id (degrees ns)) n
-unfolding degrees
-degree_at-is ns id n at = get_or-in_turn degree_of_node ns id n 0 at
-
-part_low : (ds : List ℕ) (n : Node) (i d : ℕ) → i < length (parts_of n) → number_in ds (get_or (parts_of n) i d) ≤ degree_of_node ds n
-part_low ds (Add ids) i d h = greatest_at (number_in ds) 0 ids i d h
-part_low ds (Mul ids) i d h = sum_at (number_in ds) ids i d h
-part_low ds (Neg a) zero d h = omega arith
-part_low ds (Neg a) (suc i) d h = absurd (omega arith)
-part_low ds (Bitsum ids) i d h = greatest_at (number_in ds) 0 ids i d h
-part_low ds _ i d h = absurd (omega arith)
 
 -- the parts of a node within the limit are
 pub parts_within : (ns : List Node) (p id : ℕ) (n : Node) → IsTable ns → IsNodeAt ns id n → IsWithin ns p id → All (IsWithin ns p) (parts_of n)
@@ -191,49 +124,6 @@ factors_low ns p id ids table at within =
     let same : sum_by (number_in (take id (degrees ns))) ids ≡ sum_by (degree_at ns) ids =
     sums_alike (number_in (take id (degrees ns))) (degree_at ns) ids (λ i d inside. get_or-take id (degrees ns) (get_or ids i d) 0 (parts i d inside).1) in
     omega (arith, within.low, degree_at-is ns id (Mul ids) at, same)
-
--- ---- products
-
-each_terms : (P : Monomial → Type 0) → ((m : Monomial) → P m → IsMonomial m) → (ts : Terms) → EachMonomial P ts → AreTerms ts
-each_terms P f [] h = tt
-each_terms P f (t ∷ ts) h = (f t.1 h.0, each_terms P f ts h.1)
-
-pub poly_terms : (ns : List Node) (p id : ℕ) → IsTable ns → IsFieldAt ns p id → AreTerms (poly_at ns id)
-poly_terms ns p id table is = each_terms _ (λ m h. h.0) (poly_at ns id) (poly_at-variables ns p id table is)
-
-terms-append : (a b : Terms) → AreTerms a → AreTerms b → AreTerms (a ++ b)
-terms-append [] b h k = k
-terms-append (t ∷ a) b h k = (h.0, terms-append a b h.1 k)
-
-terms-term_product : (c : ℕ) (m : Monomial) (ts : Terms) → IsMonomial m → AreTerms ts → AreTerms (term_product c m ts)
-terms-term_product c m [] v h = tt
-terms-term_product c m (t ∷ ts) v h = (IsMonomial-mono_mul m t.1 v h.0, terms-term_product c m ts v h.1)
-
-terms-product : (a b : Terms) → AreTerms a → AreTerms b → AreTerms (product a b)
-terms-product [] b h k = tt
-terms-product (t ∷ a) b h k = terms-append (term_product t.0 t.1 b) (product a b) (terms-term_product t.0 t.1 b h.0 k) (terms-product a b h.1 k)
-
-module _ (ns : List Node) (p : ℕ) (table : IsTable ns) where
-  product_terms : (ids : List ℕ) → All (IsFieldAt ns p) ids → AreTerms (product_of (node_polys ns) ids)
-  product_terms [] are = (tt, tt)
-  product_terms (c ∷ ids) are =
-      terms-product (poly_at ns c) (product_of (node_polys ns) ids) (poly_terms ns p c table (All-head (IsFieldAt ns p) c ids are)) (product_terms ids (All-tail (IsFieldAt ns p) c ids are))
-
-  product-append : (a b : List ℕ) → All (IsFieldAt ns p) a → All (IsFieldAt ns p) b → SamePolynomial p (product (product_of (node_polys ns) a) (product_of (node_polys ns) b)) (product_of (node_polys ns) (a ++ b))
-  product-append [] b are is m = product_with_one p (product_of (node_polys ns) b) m
-  product-append (c ∷ a) b are is m =
-      let f = poly_at ns c in
-      let g = product_of (node_polys ns) a in
-      let h = product_of (node_polys ns) b in
-      product_associates p f g h (poly_terms ns p c table (All-head (IsFieldAt ns p) c a are)) (product_terms a (All-tail (IsFieldAt ns p) c a are)) (product_terms b is) m
-      ∙ same_products p f f (product g h) (product_of (node_polys ns) (a ++ b)) (λ n. refl) (product-append a b (All-tail (IsFieldAt ns p) c a are) is) m
-
-  -- two halves of a product
-  pub product_halves : (x y r : Terms) (front back ids : List ℕ) → All (IsFieldAt ns p) front → All (IsFieldAt ns p) back → front ++ back ≡ ids
-      → SamePolynomial p x (product_of (node_polys ns) front) → SamePolynomial p y (product_of (node_polys ns) back) → SamePolynomial p r (product x y) → SamePolynomial p r (product_of (node_polys ns) ids)
-  product_halves x y r front back ids are is whole f g h m =
-      h m ∙ same_products p x (product_of (node_polys ns) front) y (product_of (node_polys ns) back) f g m
-      ∙ product-append front back are is m ∙ ap (λ l. written (product_of (node_polys ns) l) m % p) whole
 
 -- the degree of a product
 within-term_product : (d e c : ℕ) (m : Monomial) (ts : Terms) → degree m ≤ d → AreWithin e ts → AreWithin (d + e) (term_product c m ts)
@@ -282,10 +172,6 @@ pub if_some : {A E : Type 0} (P Q R : A → Type 0) (r : Result (Option A) E) �
 if_some P Q R (Ok None) f p q = tt
 if_some P Q R (Ok (Some x)) f p q = f x p q
 if_some P Q R (Err e) f p q = tt
-
-pub product_single : (ns : List Node) (p id : ℕ) (f : Terms) → IsTable ns → IsFieldAt ns p id → SamePolynomial p f (poly_at ns id) → SamePolynomial p f (product_of (node_polys ns) (id ∷ []))
-product_single ns p id f table is same m =
-    same m ∙ sym (product_with_one p (poly_at ns id) m) ∙ sym (product_commutes p (poly_at ns id) (constant 1) (poly_terms ns p id table is) (tt, tt) m)
 
 pub reduced : (p c k : ℕ) → k ≡ c % p → k % p ≡ c % p
 reduced p c k e = ap (λ j. j % p) e ∙ mod-mod c p

@@ -31,7 +31,7 @@ module _ {F : Type 0} (value : F → ℕ) (p : ℕ) (terms : List (F × Bor Mono
       let none = none_left (drop (place + 1) terms) (omega (arith, end, length-drop (place + 1) terms)) in
       above_rest (subst (λ k. IsAbove word_order t.1.now (residues value k)) (sym none) tt)
 
-  -- a term above the next one is in order with the terms behind it
+  -- a term above the next one is in order with the terms after it
   pub before_next : (u : F × Bor Monomial) → place + 1 < length terms → u ≡ get_or terms (place + 1) u → word_order t.1.now u.1.now ≡ Greater → IsSorted p (residues value (drop place terms))
   before_next u more at_u e =
       let left = left_at terms (place + 1) u more at_u in

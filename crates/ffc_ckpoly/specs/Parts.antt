@@ -4,19 +4,10 @@ use Rattle.std.specs.Ordering.{nat_cmp}
 use Rattle.std.specs.BTreeMap.{BTreeMap, get}
 use Rattle.ffc_ring.specs.Polynomial.{Terms, scaled}
 use Rattle.ffc_term.specs.declared.node.Node.{Node}
-use Rattle.ffc_term.specs.declared.node.Node.TheVariants.{Add, Mul, Neg, Bitsum}
 use Rattle.ffc_term.specs.Tables.{IsFieldAt}
 use Rattle.ffc_term.specs.Measuring.{degree_at}
 use Rattle.ffc_trees.specs.NodePolynomials.{poly_in, poly_at}
 use Rattle.ffc_trees.specs.Same.{IsSameLine}
-
--- the parts of a node
-abbrev pub parts_of : Node → List ℕ
-parts_of (Add ids) = ids
-parts_of (Mul ids) = ids
-parts_of (Neg a) = a ∷ []
-parts_of (Bitsum ids) = ids
-parts_of _ = []
 
 -- w times the first, w*r times the second, w*r*r times the third, and so on
 abbrev pub weighted : ℕ → ℕ → List Terms → List ℕ → Terms

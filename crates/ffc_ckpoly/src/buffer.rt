@@ -92,7 +92,8 @@ impl<F: Field> Buffer<F> {
         requires m_is { IsMonomial m.now }
         requires fits { RowFits m.now (cut F.value 0 marks.now powers.now) }
         ensures terms { OnOk result (cut F.value 0 self.new.marks.items self.new.powers.items
-            ≡ cut F.value 0 self.old.marks.items self.old.powers.items ++ times F.ORDER (F.value c) m.now (cut F.value 0 marks.now powers.now)) }
+            ≡ cut F.value 0 self.old.marks.items self.old.powers.items ++ times F.ORDER (F.value c) m.now
+            (cut F.value 0 marks.now powers.now)) }
         ensures parts { OnOk result (Parts 0 self.new.marks.items self.new.powers.items) }
     {
         let mut start = 0;

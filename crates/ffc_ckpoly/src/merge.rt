@@ -35,7 +35,8 @@ pub fn sum_with<'a, F: Field>(
     requires b_is { IsSorted F.ORDER (residues F.value b.now) }
     requires c_is { F.value c ≢ 0 }
     ensures sorted { IfOk result (λ v. IsSorted F.ORDER (residues F.value v.items)) }
-    ensures same { IfOk result (λ v. SamePolynomial F.ORDER (residues F.value v.items) (residues F.value a.now ++ scaled (F.value c) (residues F.value b.now))) }
+    ensures same { IfOk result (λ v. SamePolynomial F.ORDER (residues F.value v.items) (residues F.value a.now
+        ++ scaled (F.value c) (residues F.value b.now))) }
 {
     let one = F::of(1);
     let mut out = Vec::new(alloc);
@@ -75,7 +76,8 @@ fn single<'a, F: Field>(
 ) -> Result<Vec<(F, &'a [Power])>, AllocError>
     requires { HaveMonomials (residues F.value (term.now ∷ [])) }
     ensures sorted { IfOk result (λ v. IsSorted F.ORDER (residues F.value v.items)) }
-    ensures same { IfOk result (λ v. SamePolynomial F.ORDER (residues F.value v.items) (residues F.value (term.now ∷ []))) }
+    ensures same { IfOk result (λ v. SamePolynomial F.ORDER (residues F.value v.items)
+        (residues F.value (term.now ∷ []))) }
 {
     let mut out = Vec::new(alloc);
     if term.0.residue() != 0 {
@@ -87,7 +89,8 @@ fn single<'a, F: Field>(
 /// Whether the term at a place is other than 0 and above the next one.
 fn goes_first<F: Field>(terms: &[(F, &[Power])], place: usize) -> bool
     requires { place < length terms.now }
-    ensures { IsTrue result → HaveMonomials (residues F.value terms.now) → IsSorted F.ORDER (residues F.value (drop (place + 1) terms.now))
+    ensures { IsTrue result → HaveMonomials (residues F.value terms.now)
+        → IsSorted F.ORDER (residues F.value (drop (place + 1) terms.now))
         → IsSorted F.ORDER (residues F.value (drop place terms.now)) }
 {
     let term = &terms[place];

@@ -1,5 +1,6 @@
 //! Polynomials of nodes.
-ghost use Rattle.std.specs.Prelude.{◌≡◌, ◌+◌, ◌^◌, ◌<◌, ◌≤◌, ◌++◌, ◌∷◌, [], ◌⊎◌, ◌↔◌, length, All, sum_by, IfOk, OnOk, IfSome, IsErrOf};
+ghost use Rattle.std.specs.Prelude.{◌≡◌, ◌+◌, ◌^◌, ◌<◌, ◌≤◌, ◌++◌, ◌∷◌, [], ◌⊎◌, ◌↔◌, length, All, sum_by, IfOk, OnOk};
+ghost use Rattle.std.specs.Prelude.{IfSome, IsErrOf};
 ghost use Rattle.ffc_ring.specs.Monomial.{IsMonomial, degree};
 ghost use Rattle.ffc_ring.specs.Polynomial.{SamePolynomial, difference};
 ghost use Rattle.ffc_term.specs.Tables.{IsFieldAt, IsTable};
@@ -52,7 +53,8 @@ fn product<F: Field>(
     requires known { AreKnown F.ORDER table.now known.now }
     requires fields { All (IsFieldAt table.now F.ORDER) ids.now }
     requires low { sum_by (degree_at table.now) ids.now ≤ 255 }
-    ensures same { IfOk result (λ o. IfSome o (λ r. SamePolynomial F.ORDER r (product_of (node_polys table.now) ids.now))) }
+    ensures same { IfOk result
+        (λ o. IfSome o (λ r. SamePolynomial F.ORDER r (product_of (node_polys table.now) ids.now))) }
     ensures normal { IfOk result (λ o. IfSome o (λ r. IsNormal F.ORDER r)) }
     ensures degree { IfOk result (λ o. IfSome o (λ r. degree_of r ≤ sum_by (degree_at table.now) ids.now)) }
 {
@@ -297,7 +299,8 @@ fn known_difference<F: Field>(
     requires left { IsWithin table.now F.ORDER s }
     requires right { IsWithin table.now F.ORDER t }
     requires known { AreKnown F.ORDER table.now known.now }
-    ensures difference { IfOk result (λ r. SamePolynomial F.ORDER r (difference F.ORDER (poly_at table.now s) (poly_at table.now t))) }
+    ensures difference { IfOk result
+        (λ r. SamePolynomial F.ORDER r (difference F.ORDER (poly_at table.now s) (poly_at table.now t))) }
     ensures normal { IfOk result (λ r. IsNormal F.ORDER r) }
     ensures low { IfOk result (λ r. degree_of r ≤ 255) }
 {
@@ -397,7 +400,8 @@ impl<'a, F: Field> NodePolys<'a, F> {
         requires left { IsWithin self.old F.ORDER s }
         requires right { IsWithin self.old F.ORDER t }
         ensures nodes { self.new ≡ self.old }
-        ensures difference { IfOk result (λ r. SamePolynomial F.ORDER r (difference F.ORDER (poly_at self.old s) (poly_at self.old t))) }
+        ensures difference { IfOk result
+            (λ r. SamePolynomial F.ORDER r (difference F.ORDER (poly_at self.old s) (poly_at self.old t))) }
         ensures normal { IfOk result (λ r. IsNormal F.ORDER r) }
         ensures low { IfOk result (λ r. degree_of r ≤ 255) }
     {

@@ -25,7 +25,8 @@ fn push_weighted<F: Field>(
     requires fields { All (IsFieldAt table.now F.ORDER) ids.now }
     ensures waiting { OnOk result (AreOwed table.now F.ORDER waiting.new.items) }
     ensures owed { OnOk result (SamePolynomial F.ORDER (owed F.value (node_polys table.now) waiting.new.items)
-        (owed F.value (node_polys table.now) waiting.old.items ++ weighted (F.value first) (F.value ratio) (node_polys table.now) ids.now)) }
+        (owed F.value (node_polys table.now) waiting.old.items ++ weighted (F.value first) (F.value ratio)
+        (node_polys table.now) ids.now)) }
 {
     let mut weight = first;
     for id in ids {
@@ -47,8 +48,10 @@ fn open<F: Field>(
     requires field { IsFieldAt table.now F.ORDER id }
     requires waiting { AreOwed table.now F.ORDER waiting.old.items }
     ensures waiting { IfOk result (λ o. IfSome o (λ r. AreOwed table.now F.ORDER waiting.new.items)) }
-    ensures same { IfOk result (λ o. IfSome o (λ r. SamePolynomial F.ORDER (r ++ owed F.value (node_polys table.now) waiting.new.items)
-        (sum ++ (owed F.value (node_polys table.now) waiting.old.items ++ scaled (F.value weight) (poly_at table.now id))))) }
+    ensures same { IfOk result
+        (λ o. IfSome o (λ r. SamePolynomial F.ORDER (r ++ owed F.value (node_polys table.now) waiting.new.items)
+        (sum ++ (owed F.value (node_polys table.now) waiting.old.items
+        ++ scaled (F.value weight) (poly_at table.now id))))) }
 {
     let one = F::of(1);
     match table.node(id) {
@@ -84,8 +87,10 @@ fn add_node<F: Field>(
     requires known { AreKnown F.ORDER table.now known.now }
     requires waiting { AreOwed table.now F.ORDER waiting.old.items }
     ensures waiting { IfOk result (λ o. IfSome o (λ r. AreOwed table.now F.ORDER waiting.new.items)) }
-    ensures same { IfOk result (λ o. IfSome o (λ r. SamePolynomial F.ORDER (r ++ owed F.value (node_polys table.now) waiting.new.items)
-        (sum ++ (owed F.value (node_polys table.now) waiting.old.items ++ scaled (F.value item.0) (poly_at table.now item.1))))) }
+    ensures same { IfOk result
+        (λ o. IfSome o (λ r. SamePolynomial F.ORDER (r ++ owed F.value (node_polys table.now) waiting.new.items)
+        (sum ++ (owed F.value (node_polys table.now) waiting.old.items
+        ++ scaled (F.value item.0) (poly_at table.now item.1))))) }
 {
     let Some(part) = known.get(&item.1) else {
         return open(table, sum, waiting, item.0, item.1);

@@ -38,7 +38,8 @@ impl<F: Field> Model for CkPoly<F> {
 
     ghost view = { λ a. cut F.value 0 a.buffer.marks.items a.buffer.powers.items };
 
-    ghost invariant = { λ a. Parts 0 a.buffer.marks.items a.buffer.powers.items × IsSorted F.ORDER (cut F.value 0 a.buffer.marks.items a.buffer.powers.items) };
+    ghost invariant = { λ a. Parts 0 a.buffer.marks.items a.buffer.powers.items
+        × IsSorted F.ORDER (cut F.value 0 a.buffer.marks.items a.buffer.powers.items) };
 }
 
 impl<F: Field> CkPoly<F> {
@@ -100,7 +101,8 @@ impl<F: Field> CkPoly<F> {
     pub(crate) fn sum_in(alloc: Global, buffer: &Buffer<F>) -> Result<Self, AllocError>
         requires parts { Parts 0 buffer.now.marks.items buffer.now.powers.items }
         requires monomials { HaveMonomials (cut F.value 0 buffer.now.marks.items buffer.now.powers.items) }
-        ensures sum { IfOk result (λ r. SamePolynomial F.ORDER r (cut F.value 0 buffer.now.marks.items buffer.now.powers.items)) }
+        ensures sum { IfOk result
+            (λ r. SamePolynomial F.ORDER r (cut F.value 0 buffer.now.marks.items buffer.now.powers.items)) }
         ensures normal { IfOk result (λ r. IsNormal F.ORDER r) }
     {
         let terms = terms_of(alloc, buffer.marks.as_slice(), buffer.powers.as_slice())?;

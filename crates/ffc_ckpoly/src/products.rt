@@ -43,7 +43,8 @@ impl<F: Field> Model for CkSum<F> {
 
     ghost view = { λ a. cut F.value 0 a.buffer.marks.items a.buffer.powers.items };
 
-    ghost invariant = { λ a. Parts 0 a.buffer.marks.items a.buffer.powers.items × HaveMonomials (cut F.value 0 a.buffer.marks.items a.buffer.powers.items) };
+    ghost invariant = { λ a. Parts 0 a.buffer.marks.items a.buffer.powers.items
+        × HaveMonomials (cut F.value 0 a.buffer.marks.items a.buffer.powers.items) };
 }
 
 impl<F: Field> CkSum<F> {

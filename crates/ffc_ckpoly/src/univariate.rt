@@ -1,5 +1,6 @@
 //! Polynomials in one variable, and their coefficients from the lowest.
-ghost use Rattle.std.specs.Prelude.{◌≡◌, ◌+◌, ◌-◌, ◌^◌, ◌≤◌, ◌<◌, true, false, [], ◌∷◌, ◌++◌, length, map, IfOk, OnOk, IfSome, IfNone};
+ghost use Rattle.std.specs.Prelude.{◌≡◌, ◌+◌, ◌-◌, ◌^◌, ◌≤◌, ◌<◌, true, false, [], ◌∷◌, ◌++◌, length, map, IfOk, OnOk};
+ghost use Rattle.std.specs.Prelude.{IfSome, IfNone};
 ghost use Rattle.ffc_ring.specs.Polynomial.{SamePolynomial};
 ghost use Rattle.ffc_trees.specs.Normal.{IsNormal, degree_of};
 ghost use Rattle.ffc_trees.specs.TreeLines.{is_power, is_in, coefficients_of};
@@ -40,7 +41,8 @@ fn are_powers<F: Field>(terms: &[(F, &[Power])], x: u32) -> bool
 /// Puts a coefficient at its place, with zeros before it.
 fn put_at<F: Field>(coefs: &mut Vec<F>, place: u64, coef: F) -> Result<(), AllocError>
     requires { length coefs.old.items ≤ place }
-    ensures { OnOk result (map F.value coefs.new.items ≡ plus (shifted place (F.value coef ∷ [])) (map F.value coefs.old.items)) }
+    ensures { OnOk result (map F.value coefs.new.items ≡ plus (shifted place (F.value coef ∷ []))
+        (map F.value coefs.old.items)) }
 {
     coefs.resize(place as usize, F::of(0))?;
     coefs.push(coef)?;

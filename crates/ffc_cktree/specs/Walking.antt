@@ -50,7 +50,7 @@ stage_read l p (Open []) line = Ok (Open [])
 stage_read l p (Open (branch ∷ others)) line = branch_read l p branch others line
 stage_read l p (Within c branch others) line = step_read l p c branch others line
 
--- the rule of a line is kept, and it leads to this stage, but for the order of the terms in lines
+-- the rule of a line is kept, and this stage follows, but for the order of the terms in lines
 pub record Leads (p : ℕ) (rule : Result Stage ℕ) (s : Stage) : Type 0 where
   pub stage : Stage
   pub kept : rule ≡ Ok stage

@@ -46,9 +46,11 @@ pub fn split<F: Field>(
     roots: &[u64],
 ) -> Result<(), LineStop>
     requires { AreLines F.ORDER lines.now }
-    ensures kept { OnOk result (split_line F.ORDER lines.now k x roots.now ≡ Ok (case_lines F.ORDER lines.now x roots.now)) }
+    ensures kept { OnOk result (split_line F.ORDER lines.now k x roots.now
+        ≡ Ok (case_lines F.ORDER lines.now x roots.now)) }
     ensures residues { OnOk result (are_below F.ORDER roots.now ≡ true) }
-    ensures broken { (rule : ℕ) → result ≡ Err (LineStop.Rule rule) → split_line F.ORDER lines.now k x roots.now ≡ Err rule }
+    ensures broken { (rule : ℕ) → result ≡ Err (LineStop.Rule rule) → split_line F.ORDER lines.now k x roots.now
+        ≡ Err rule }
 {
     let Some(line) = lines.get(k as usize) else {
         return Err(LineStop::Rule(rules::REFERENCE));
@@ -73,8 +75,10 @@ pub fn split<F: Field>(
 /// All values of a variable. Rule 7 where the field has more than 17 elements, or there are not as many cases.
 pub fn values<F: Field>(alloc: Global, count: u32) -> Result<Vec<u64>, LineStop>
     ensures all { IfOk result (λ v. v.items ≡ range_with_len 0 F.ORDER) }
-    ensures kept { OnOk result ((lines : List Terms) (x : ℕ) → values_line F.ORDER lines x count ≡ Ok (case_lines F.ORDER lines x (range_with_len 0 F.ORDER))) }
-    ensures broken { (rule : ℕ) → result ≡ Err (LineStop.Rule rule) → (lines : List Terms) (x : ℕ) → values_line F.ORDER lines x count ≡ Err rule }
+    ensures kept { OnOk result ((lines : List Terms) (x : ℕ) → values_line F.ORDER lines x count
+        ≡ Ok (case_lines F.ORDER lines x (range_with_len 0 F.ORDER))) }
+    ensures broken { (rule : ℕ) → result ≡ Err (LineStop.Rule rule) → (lines : List Terms) (x : ℕ)
+        → values_line F.ORDER lines x count ≡ Err rule }
 {
     if F::ORDER > MOST_VALUES || u64::from(count) != F::ORDER {
         return Err(LineStop::Rule(rules::SPLIT));

@@ -41,7 +41,8 @@ pub struct Running<F: Field> {
 
 /// Appends the factors of a binary digit.
 fn push_digit(factors: &mut Vec<Factor>, one: bool) -> Result<(), AllocError>
-    ensures { OnOk result (map factor_of factors.new.items ≡ map factor_of factors.old.items ++ factors_over (one ∷ [])) }
+    ensures { OnOk result (map factor_of factors.new.items ≡ map factor_of factors.old.items
+        ++ factors_over (one ∷ [])) }
 {
     factors.push(Factor::Itself)?;
     if one {
@@ -81,7 +82,8 @@ pub fn begin<F: Field>(
     ensures short { IfOk result (λ r. length r.0.items ≤ 1025) }
     ensures line { IfOk result (λ r. chain_line F.ORDER lines.now k x steps ≡ Ok (map F.value r.0.items)) }
     ensures factors { IfOk result (λ r. factors_of r.1.items ≡ factors_over (digits_of F.ORDER)) }
-    ensures broken { (rule : ℕ) → result ≡ Err (LineStop.Rule rule) → chain_line F.ORDER lines.now k x steps ≡ Err rule }
+    ensures broken { (rule : ℕ) → result ≡ Err (LineStop.Rule rule) → chain_line F.ORDER lines.now k x steps
+        ≡ Err rule }
 {
     let Some(line) = lines.get(k as usize) else {
         return Err(LineStop::Rule(rules::REFERENCE));
@@ -99,7 +101,8 @@ pub fn begin<F: Field>(
 /// The product of a power and its factor.
 fn multiplied<F: Field>(alloc: Global, factor: Factor, power: &[F]) -> Result<Vec<F>, AllocError>
     requires { length power.now ≤ 1025 }
-    ensures { IfOk result (λ v. SameUnivariate F.ORDER (map F.value v.items) (times_factor (factor_of factor) (map F.value power.now))) }
+    ensures { IfOk result (λ v. SameUnivariate F.ORDER (map F.value v.items)
+        (times_factor (factor_of factor) (map F.value power.now))) }
 {
     match factor {
         Factor::Itself => square_of(alloc, power),
@@ -153,7 +156,8 @@ fn is_short_identity<F: Field>(
     requires power_is { IsNormal F.ORDER (map F.value power.now) }
     requires quotient_is { IsNormal F.ORDER (map F.value quotient.now) }
     requires rest_is { IsNormal F.ORDER (map F.value rest.now) }
-    ensures { IfOk result (λ b. b ≡ is_identity F.ORDER (map F.value modulus.now) (factor_of factor) (map F.value power.now) (map F.value quotient.now) (map F.value rest.now)) }
+    ensures { IfOk result (λ b. b ≡ is_identity F.ORDER (map F.value modulus.now) (factor_of factor)
+        (map F.value power.now) (map F.value quotient.now) (map F.value rest.now)) }
 {
     let left = multiplied_length(factor, power.len());
     let right = product_length(quotient.len(), modulus.len());
@@ -177,7 +181,8 @@ fn is_identity<F: Field>(
     requires modulus { length modulus.now ≤ 1025 }
     requires power { length power.now ≤ 1025 }
     requires quotient { length quotient.now ≤ 1025 }
-    ensures { IfOk result (λ b. b ≡ is_identity F.ORDER (map F.value modulus.now) (factor_of factor) (map F.value power.now) (map F.value quotient.now) (map F.value rest.now)) }
+    ensures { IfOk result (λ b. b ≡ is_identity F.ORDER (map F.value modulus.now) (factor_of factor)
+        (map F.value power.now) (map F.value quotient.now) (map F.value rest.now)) }
 {
     let modulus = without_zeros(modulus);
     let power = without_zeros(power);
@@ -202,10 +207,12 @@ pub fn step<F: Field>(
 ) -> Result<Vec<F>, LineStop>
     requires modulus { length modulus.now ≤ 1025 }
     requires power { length power.now ≤ 1025 }
-    ensures kept { IfOk result (λ v. step_line limits F.ORDER (map F.value modulus.now) (factor_of factor) (map F.value power.now) quotient.now remainder.now ≡ Ok (map F.value v.items)) }
+    ensures kept { IfOk result (λ v. step_line limits F.ORDER (map F.value modulus.now) (factor_of factor)
+        (map F.value power.now) quotient.now remainder.now ≡ Ok (map F.value v.items)) }
     ensures short { IfOk result (λ v. length v.items ≤ 1025) }
     ensures broken { (rule : ℕ) → result ≡ Err (LineStop.Rule rule)
-        → step_line limits F.ORDER (map F.value modulus.now) (factor_of factor) (map F.value power.now) quotient.now remainder.now ≡ Err rule }
+        → step_line limits F.ORDER (map F.value modulus.now) (factor_of factor) (map F.value power.now) quotient.now
+        remainder.now ≡ Err rule }
 {
     if quotient.len() > MOST_COEFFICIENTS || remainder.len() > MOST_COEFFICIENTS {
         return Err(LineStop::Rule(rules::LIMIT));

@@ -51,7 +51,8 @@ fn first_line<F: Field>(
 /// f*w - 1, for a variable w.
 fn inverted<F: Field>(alloc: Global, f: &CkPoly<F>, w: u32) -> Result<CkPoly<F>, AllocError>
     requires { degree_of f.now ≤ 255 }
-    ensures same { IfOk result (λ r. SamePolynomial F.ORDER r (difference F.ORDER (product f.now (variable w)) (constant 1))) }
+    ensures same { IfOk result
+        (λ r. SamePolynomial F.ORDER r (difference F.ORDER (product f.now (variable w)) (constant 1))) }
     ensures normal { IfOk result (λ r. IsNormal F.ORDER r) }
     ensures small { IfOk result (λ r. degree_of r ≤ 1024) }
 {
@@ -99,9 +100,11 @@ fn lemma<F: Field>(
     requires ranges { AllByRecursion IsLine lines.now }
     ensures nodes { polys.new ≡ polys.old }
     ensures within { IfOk result (λ n. n ≤ length lines.now) }
-    ensures read { IfOk result (λ n. tree_read limits F.ORDER (first_lines polys.old F.ORDER lits.now) lines.now ≡ Ok (drop n lines.now)) }
+    ensures read { IfOk result (λ n. tree_read limits F.ORDER (first_lines polys.old F.ORDER lits.now) lines.now
+        ≡ Ok (drop n lines.now)) }
     ensures broken { (b : BrokenLine) → result ≡ Err (TreeStop.Broken b)
-        → tree_read limits F.ORDER (first_lines polys.old F.ORDER lits.now) lines.now ≡ Err (record { offset = b.offset; rule = b.rule }) }
+        → tree_read limits F.ORDER (first_lines polys.old F.ORDER lits.now) lines.now
+        ≡ Err (record { offset = b.offset; rule = b.rule }) }
 {
     let first = first_lines(alloc, polys, lits)?;
     read_tree(alloc, first, lines)
@@ -143,7 +146,8 @@ impl<'a> Model for Kept<'a> {
 
     ghost view = { λ k. k.f2 };
 
-    ghost invariant = { λ k. (k.f3 ≡ k.f2) × (k.f5 ≡ k.f2) × (k.f17 ≡ k.f2) × (k.f65537 ≡ k.f2) × (k.baby_bear ≡ k.f2) × (k.koala_bear ≡ k.f2) × (k.goldilocks ≡ k.f2) };
+    ghost invariant = { λ k. (k.f3 ≡ k.f2) × (k.f5 ≡ k.f2) × (k.f17 ≡ k.f2) × (k.f65537 ≡ k.f2) × (k.baby_bear ≡ k.f2)
+        × (k.koala_bear ≡ k.f2) × (k.goldilocks ≡ k.f2) };
 }
 
 impl<'a> Kept<'a> {
@@ -180,9 +184,11 @@ pub fn lemma_tree(
     requires ranges { AllByRecursion IsLine lines.now }
     ensures nodes { kept.new ≡ kept.old }
     ensures within { IfOk result (λ n. n ≤ length lines.now) }
-    ensures read { IfOk result (λ n. tree_read limits order (first_lines kept.old order lits.now) lines.now ≡ Ok (drop n lines.now)) }
+    ensures read { IfOk result (λ n. tree_read limits order (first_lines kept.old order lits.now) lines.now
+        ≡ Ok (drop n lines.now)) }
     ensures broken { (b : BrokenLine) → result ≡ Err (TreeStop.Broken b)
-        → tree_read limits order (first_lines kept.old order lits.now) lines.now ≡ Err (record { offset = b.offset; rule = b.rule }) }
+        → tree_read limits order (first_lines kept.old order lits.now) lines.now
+        ≡ Err (record { offset = b.offset; rule = b.rule }) }
 {
     match FieldId::of_order(u128::from(order)) {
         Some(FieldId::F2) => lemma(alloc, &mut kept.f2, lits, lines),

@@ -58,7 +58,8 @@ pub fn without_zeros<F: Field>(row: &[F]) -> &[F]
 /// Adds c times a row, in one pass.
 fn add_multiple<F: Field>(out: &mut [F], c: F, row: &[F])
     requires { length row.now ≤ length out.old }
-    ensures { SameUnivariate F.ORDER (map F.value out.new) (plus (map F.value out.old) (multiple (F.value c) (map F.value row.now))) }
+    ensures { SameUnivariate F.ORDER (map F.value out.new)
+        (plus (map F.value out.old) (multiple (F.value c) (map F.value row.now))) }
 {
     for (place, coef) in row.iter().enumerate() {
         out[place] = out[place].add(c.mul(*coef));
@@ -68,7 +69,8 @@ fn add_multiple<F: Field>(out: &mut [F], c: F, row: &[F])
 /// Adds c*X^place times a row.
 fn add_shifted<F: Field>(out: &mut [F], place: usize, c: F, row: &[F])
     requires { place + length row.now ≤ length out.old }
-    ensures { SameUnivariate F.ORDER (map F.value out.new) (plus (map F.value out.old) (shifted place (multiple (F.value c) (map F.value row.now)))) }
+    ensures { SameUnivariate F.ORDER (map F.value out.new)
+        (plus (map F.value out.old) (shifted place (multiple (F.value c) (map F.value row.now)))) }
 {
     add_multiple(&mut out[place..], c, row);
 }
@@ -76,7 +78,8 @@ fn add_shifted<F: Field>(out: &mut [F], place: usize, c: F, row: &[F])
 /// Adds the product of two rows, one multiple of b for each coefficient of a.
 fn add_product<F: Field>(out: &mut [F], a: &[F], b: &[F])
     requires { length a.now + length b.now ≤ length out.old + 1 }
-    ensures { SameUnivariate F.ORDER (map F.value out.new) (plus (map F.value out.old) (times (map F.value a.now) (map F.value b.now))) }
+    ensures { SameUnivariate F.ORDER (map F.value out.new)
+        (plus (map F.value out.old) (times (map F.value a.now) (map F.value b.now))) }
 {
     for (place, coef) in a.iter().enumerate() {
         add_shifted(out, place, *coef, b);
@@ -91,7 +94,8 @@ pub fn product_and_rest<F: Field>(
     rest: &[F],
 ) -> Result<Vec<F>, AllocError>
     requires { length a.now + length b.now < 2 ^ 64 }
-    ensures sum { IfOk result (λ v. SameUnivariate F.ORDER (map F.value v.items) (plus (times (map F.value a.now) (map F.value b.now)) (map F.value rest.now))) }
+    ensures sum { IfOk result (λ v. SameUnivariate F.ORDER (map F.value v.items)
+        (plus (times (map F.value a.now) (map F.value b.now)) (map F.value rest.now))) }
     ensures long { IfOk result (λ v. length v.items ≡ max (length rest.now) (length a.now + length b.now - 1)) }
 {
     let mut out = Vec::new(alloc);
@@ -105,7 +109,8 @@ pub fn product_and_rest<F: Field>(
 /// a*b, in one buffer.
 pub fn product_of<F: Field>(alloc: Global, a: &[F], b: &[F]) -> Result<Vec<F>, AllocError>
     requires { length a.now + length b.now < 2 ^ 64 }
-    ensures product { IfOk result (λ v. SameUnivariate F.ORDER (map F.value v.items) (times (map F.value a.now) (map F.value b.now))) }
+    ensures product { IfOk result (λ v. SameUnivariate F.ORDER (map F.value v.items)
+        (times (map F.value a.now) (map F.value b.now))) }
     ensures long { IfOk result (λ v. length v.items ≡ length a.now + length b.now - 1) }
 {
     let none = Vec::new(alloc);
@@ -115,7 +120,8 @@ pub fn product_of<F: Field>(alloc: Global, a: &[F], b: &[F]) -> Result<Vec<F>, A
 /// Adds the square of a row. The product of two different coefficients is made once, and added twice.
 fn add_square<F: Field>(out: &mut [F], a: &[F])
     requires { length a.now + length a.now ≤ length out.old + 1 }
-    ensures { SameUnivariate F.ORDER (map F.value out.new) (plus (map F.value out.old) (times (map F.value a.now) (map F.value a.now))) }
+    ensures { SameUnivariate F.ORDER (map F.value out.new)
+        (plus (map F.value out.old) (times (map F.value a.now) (map F.value a.now))) }
 {
     for (place, coef) in a.iter().enumerate() {
         add_shifted(out, place + place, *coef, &[*coef]);
@@ -126,7 +132,8 @@ fn add_square<F: Field>(out: &mut [F], a: &[F])
 /// a*a, in one buffer. It costs half of what a product of two rows of this length does.
 pub fn square_of<F: Field>(alloc: Global, a: &[F]) -> Result<Vec<F>, AllocError>
     requires { length a.now + length a.now < 2 ^ 64 }
-    ensures { IfOk result (λ v. SameUnivariate F.ORDER (map F.value v.items) (times (map F.value a.now) (map F.value a.now))) }
+    ensures { IfOk result (λ v. SameUnivariate F.ORDER (map F.value v.items)
+        (times (map F.value a.now) (map F.value a.now))) }
 {
     let mut out = Vec::new(alloc);
     out.resize((a.len() + a.len()).saturating_sub(1), F::of(0))?;
@@ -168,7 +175,8 @@ pub fn are_same<F: Field>(a: &[F], b: &[F]) -> bool
 /// The product of the X - root for residues. It costs the square of their number.
 pub fn root_product<F: Field>(alloc: Global, roots: &[F]) -> Result<Vec<F>, AllocError>
     requires { length roots.now < 2 ^ 63 }
-    ensures { IfOk result (λ v. SameUnivariate F.ORDER (map F.value v.items) (product_of_roots F.ORDER (map F.value roots.now))) }
+    ensures { IfOk result (λ v. SameUnivariate F.ORDER (map F.value v.items)
+        (product_of_roots F.ORDER (map F.value roots.now))) }
 {
     let mut product = Vec::new(alloc);
     product.push(F::of(1))?;

@@ -1,9 +1,9 @@
 //! The rules of certificates, by the numbers that answers give them: the table of docs/FORMATS.md.
 
-/// Listed values are those of the declared constants, and with them all is true that is in force.
+/// Listed values are those of the declared constants, and with them all that is active is true.
 pub const VALUES: u8 = 1;
 
-/// An assumed clause names an entry of the list in force.
+/// An assumed clause names an entry of the active list.
 pub const ASSUME: u8 = 2;
 
 /// A node has the clause that is taken of it.
@@ -27,7 +27,7 @@ pub const NOT_CLOSED: u8 = 8;
 /// The last clause is the empty one.
 pub const NOT_EMPTY: u8 = 9;
 
-/// Every assignment makes something false that is in force.
+/// Every assignment makes something active false.
 pub const ENUMERATION: u8 = 10;
 
 /// Sizes are within the limits.

@@ -3,7 +3,8 @@ ghost use Rattle.std.specs.Prelude.{◌≡◌, ℕ, ◌≤◌, ◌++◌, true, n
 ghost use Rattle.std.specs.List.{list_all};
 ghost use Rattle.ffc_ring.specs.Polynomial.{AreTerms, SamePolynomial, product};
 ghost use Rattle.ffc_trees.specs.Normal.{IsNormal, degree_of};
-ghost use Rattle.ffc_trees.specs.TreeLines.{limits, are_there, are_residues, products_in, sum_of_multiples, combine_line};
+ghost use Rattle.ffc_trees.specs.TreeLines.{limits, are_there, are_residues, products_in, sum_of_multiples};
+ghost use Rattle.ffc_trees.specs.TreeLines.{combine_line};
 ghost use Rattle.ffc_cktree.specs.Lines.{AreLines, Gives, is_low, are_low, all_low};
 
 use crate::rules;
@@ -161,7 +162,8 @@ pub fn combine<F: Field>(
     requires lines_are { AreLines F.ORDER lines.now }
     ensures kept { IfOk result (λ r. Gives F.ORDER (combine_line limits F.ORDER lines.now multiples.now) r) }
     ensures low { IfOk result (λ r. degree_of r ≤ 1024) }
-    ensures broken { (rule : ℕ) → result ≡ Err (LineStop.Rule rule) → combine_line limits F.ORDER lines.now multiples.now ≡ Err rule }
+    ensures broken { (rule : ℕ) → result ≡ Err (LineStop.Rule rule)
+        → combine_line limits F.ORDER lines.now multiples.now ≡ Err rule }
 {
     if !are_there(lines, multiples) {
         return Err(LineStop::Rule(rules::REFERENCE));

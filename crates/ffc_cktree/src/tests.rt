@@ -87,7 +87,8 @@ fn is_judged(table: &NodeTable, lit: (bool, NodeId)) -> bool
 /// Whether all these literals can be judged.
 fn are_judged(table: &NodeTable, lits: &[(bool, NodeId)]) -> bool
     ensures equalities { IsTrue result → All (IsOnEquality table.now 5) lits.now }
-    ensures within { IsTrue result → All (λ lit. (degree_at table.now lit.1 ≤ 255) × (length_at table.now lit.1 ≤ 65536)) lits.now }
+    ensures within { IsTrue result
+        → All (λ lit. (degree_at table.now lit.1 ≤ 255) × (length_at table.now lit.1 ≤ 65536)) lits.now }
 {
     for lit in lits {
         if !is_judged(table, *lit) {

@@ -44,7 +44,8 @@ impl<F: Field> Model for Walk<F> {
 
     ghost view = { λ w. stage_of F.ORDER F.value w.closed w.lines.items (reverse w.waiting.items) w.chain };
 
-    ghost invariant = { λ w. AreLines F.ORDER w.lines.items × AreStacked F.ORDER (length w.lines.items) (reverse w.waiting.items) × IsShort w.chain };
+    ghost invariant = { λ w. AreLines F.ORDER w.lines.items × AreStacked F.ORDER (length w.lines.items)
+        (reverse w.waiting.items) × IsShort w.chain };
 }
 
 /// Opens the branch that waits first. Where none does, the tree is closed.
@@ -55,7 +56,8 @@ fn next_branch<F: Field>(
 ) -> Result<Walk<F>, AllocError>
     requires lines { AreLines F.ORDER lines.items }
     requires stacked { AreStacked F.ORDER (length lines.items) (reverse waiting.items) }
-    ensures { IfOk result (λ w. IsSameStage F.ORDER w (Open (branches_of F.ORDER lines.items (reverse waiting.items)))) }
+    ensures { IfOk result
+        (λ w. IsSameStage F.ORDER w (Open (branches_of F.ORDER lines.items (reverse waiting.items)))) }
 {
     let Some(case) = waiting.pop() else {
         return Ok(Walk {
@@ -87,7 +89,8 @@ fn branch_off<F: Field>(
     requires stacked { AreStacked F.ORDER (length lines.items) (reverse waiting.items) }
     requires residues { are_below F.ORDER roots.now ≡ true }
     ensures { IfOk result (λ w. IsSameStage F.ORDER w
-        (Open (case_lines F.ORDER lines.items x roots.now ++ branches_of F.ORDER lines.items (reverse waiting.items)))) }
+        (Open (case_lines F.ORDER lines.items x roots.now ++ branches_of F.ORDER lines.items
+        (reverse waiting.items)))) }
 {
     push_cases(&mut waiting, lines.len(), x, roots)?;
     next_branch(alloc, lines, waiting)
@@ -103,7 +106,8 @@ fn with_line<F: Field>(
     requires stacked { AreStacked F.ORDER (length lines.items) (reverse waiting.items) }
     requires normal { IsNormal F.ORDER line }
     requires low { degree_of line ≤ 1024 }
-    ensures { IfOk result (λ w. w ≡ Open ((lines.items ++ line ∷ []) ∷ branches_of F.ORDER lines.items (reverse waiting.items))) }
+    ensures { IfOk result
+        (λ w. w ≡ Open ((lines.items ++ line ∷ []) ∷ branches_of F.ORDER lines.items (reverse waiting.items))) }
 {
     lines.push(line)?;
     Ok(Walk {
@@ -128,8 +132,10 @@ fn with_power<F: Field>(
     requires stacked { AreStacked F.ORDER (length lines.items) (reverse waiting.items) }
     requires modulus { length modulus.items ≤ 1025 }
     requires power { length power.items ≤ 1025 }
-    ensures { IfOk result (λ w. IsSameStage F.ORDER w (with_power F.ORDER variable (map F.value modulus.items) lines.items
-        (branches_of F.ORDER lines.items (reverse waiting.items)) (factors_of factors.items) (map F.value power.items))) }
+    ensures { IfOk result
+        (λ w. IsSameStage F.ORDER w (with_power F.ORDER variable (map F.value modulus.items) lines.items
+        (branches_of F.ORDER lines.items (reverse waiting.items)) (factors_of factors.items)
+        (map F.value power.items))) }
 {
     let Some(factor) = factors.pop() else {
         let line = fermat(alloc, variable, power.as_slice())?;
@@ -170,8 +176,12 @@ fn begin_chain<F: Field>(
 ) -> Result<Walk<F>, LineStop>
     requires lines { AreLines F.ORDER lines.items }
     requires stacked { AreStacked F.ORDER (length lines.items) (reverse waiting.items) }
-    ensures kept { IfOk result (λ w. Leads F.ORDER (branch_read limits F.ORDER lines.items (branches_of F.ORDER lines.items (reverse waiting.items)) (line.Chain k x steps)) w) }
-    ensures broken { (rule : ℕ) → result ≡ Err (LineStop.Rule rule) → branch_read limits F.ORDER lines.items (branches_of F.ORDER lines.items (reverse waiting.items)) (line.Chain k x steps) ≡ Err rule }
+    ensures kept { IfOk result
+        (λ w. Leads F.ORDER
+        (branch_read limits F.ORDER lines.items (branches_of F.ORDER lines.items (reverse waiting.items))
+        (line.Chain k x steps)) w) }
+    ensures broken { (rule : ℕ) → result ≡ Err (LineStop.Rule rule) → branch_read limits F.ORDER lines.items
+        (branches_of F.ORDER lines.items (reverse waiting.items)) (line.Chain k x steps) ≡ Err rule }
 {
     let (modulus, factors) = begin(alloc, lines.as_slice(), k, x, steps)?;
     let mut power = Vec::new(alloc);
@@ -191,8 +201,12 @@ fn add_sum<F: Field>(
     requires lines { AreLines F.ORDER lines.items }
     requires stacked { AreStacked F.ORDER (length lines.items) (reverse waiting.items) }
     requires terms_are { All (λ m. AreTerms m.1) multiples.now }
-    ensures kept { IfOk result (λ w. Leads F.ORDER (branch_read limits F.ORDER lines.items (branches_of F.ORDER lines.items (reverse waiting.items)) (line.Combine multiples.now)) w) }
-    ensures broken { (rule : ℕ) → result ≡ Err (LineStop.Rule rule) → branch_read limits F.ORDER lines.items (branches_of F.ORDER lines.items (reverse waiting.items)) (line.Combine multiples.now) ≡ Err rule }
+    ensures kept { IfOk result
+        (λ w. Leads F.ORDER
+        (branch_read limits F.ORDER lines.items (branches_of F.ORDER lines.items (reverse waiting.items))
+        (line.Combine multiples.now)) w) }
+    ensures broken { (rule : ℕ) → result ≡ Err (LineStop.Rule rule) → branch_read limits F.ORDER lines.items
+        (branches_of F.ORDER lines.items (reverse waiting.items)) (line.Combine multiples.now) ≡ Err rule }
 {
     let sum = combine(alloc, lines.as_slice(), multiples)?;
     let next = with_line(lines, waiting, sum)?;
@@ -209,8 +223,11 @@ fn read_branch<F: Field>(
     requires lines { AreLines F.ORDER lines.items }
     requires stacked { AreStacked F.ORDER (length lines.items) (reverse waiting.items) }
     requires ranges { IsLine line.now }
-    ensures kept { IfOk result (λ w. Leads F.ORDER (branch_read limits F.ORDER lines.items (branches_of F.ORDER lines.items (reverse waiting.items)) line.now) w) }
-    ensures broken { (rule : ℕ) → result ≡ Err (LineStop.Rule rule) → branch_read limits F.ORDER lines.items (branches_of F.ORDER lines.items (reverse waiting.items)) line.now ≡ Err rule }
+    ensures kept { IfOk result
+        (λ w. Leads F.ORDER
+        (branch_read limits F.ORDER lines.items (branches_of F.ORDER lines.items (reverse waiting.items)) line.now) w) }
+    ensures broken { (rule : ℕ) → result ≡ Err (LineStop.Rule rule) → branch_read limits F.ORDER lines.items
+        (branches_of F.ORDER lines.items (reverse waiting.items)) line.now ≡ Err rule }
 {
     match line {
         CertLine::Combine(multiples) => add_sum(alloc, lines, waiting, multiples.as_slice()),
@@ -247,8 +264,12 @@ fn read_step<F: Field>(
     requires lines { AreLines F.ORDER lines.items }
     requires stacked { AreStacked F.ORDER (length lines.items) (reverse waiting.items) }
     requires short { IsShort (Some running) }
-    ensures kept { IfOk result (λ w. Leads F.ORDER (step_read limits F.ORDER (power_of F.value running) lines.items (branches_of F.ORDER lines.items (reverse waiting.items)) line.now) w) }
-    ensures broken { (rule : ℕ) → result ≡ Err (LineStop.Rule rule) → step_read limits F.ORDER (power_of F.value running) lines.items (branches_of F.ORDER lines.items (reverse waiting.items)) line.now ≡ Err rule }
+    ensures kept { IfOk result
+        (λ w. Leads F.ORDER (step_read limits F.ORDER (power_of F.value running) lines.items
+        (branches_of F.ORDER lines.items (reverse waiting.items)) line.now) w) }
+    ensures broken { (rule : ℕ) → result ≡ Err (LineStop.Rule rule)
+        → step_read limits F.ORDER (power_of F.value running) lines.items
+        (branches_of F.ORDER lines.items (reverse waiting.items)) line.now ≡ Err rule }
 {
     let CertLine::Step(quotient, remainder) = line else {
         return Err(LineStop::Rule(rules::NOT_CLOSED));
@@ -298,7 +319,8 @@ impl<F: Field> Walk<F> {
         requires open { is_closed self ≡ false }
         requires ranges { IsLine line.now }
         ensures kept { IfOk result (λ w. Leads F.ORDER (stage_read limits F.ORDER self line.now) w) }
-        ensures broken { (rule : ℕ) → result ≡ Err (LineStop.Rule rule) → stage_read limits F.ORDER self line.now ≡ Err rule }
+        ensures broken { (rule : ℕ) → result ≡ Err (LineStop.Rule rule) → stage_read limits F.ORDER self line.now
+            ≡ Err rule }
     {
         let Walk {
             lines,

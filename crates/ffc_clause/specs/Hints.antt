@@ -34,6 +34,6 @@ is_contradiction clauses assumed (h ∷ g ∷ hints) =
       | Some l ↦ is_contradiction clauses (l ∷ assumed) (g ∷ hints)
     ]
 
--- a clause follows where the negations of its literals lead to a contradiction
+-- a clause follows where the negations of its literals give a contradiction
 abbrev pub follows : List Clause → Clause → List ℕ → Bool
 follows clauses clause hints = is_contradiction clauses (map negated clause) hints

@@ -1,5 +1,5 @@
 //! Literals, clauses, and what follows from clauses, as definitions alone, and the laws of that. The functions do nothing
-//! when they run: each stands for the law in its contract.
+//! when they run: each states the law in its contract.
 #![tactic(auto)]
 
 pub mod laws;

@@ -35,7 +35,7 @@ kept_in_range p a (suc n) k e =
       | inr later ↦ omega (arith, kept_in_range p (a + 1) n k later)
     ]
 
--- a core has numbers of the list in force alone
+-- a core has numbers of the active list alone
 pub core_below : (entry : Entry) (n k : ℕ) → is_listed (core entry n) k ≡ true → k < n
 unfolding core
 core_below (Sat pairs) n k e = absurd (false≢true e)

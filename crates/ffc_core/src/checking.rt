@@ -1,5 +1,6 @@
 //! Judging an entry and a core of it.
-ghost use Rattle.std.specs.Prelude.{◌≡◌, ℕ, ◌<◌, ◌^◌, ◌||◌, true, false, List, length, get_or, None, Some, Err, IfOk, OnOk, MatchOption};
+ghost use Rattle.std.specs.Prelude.{◌≡◌, ℕ, ◌<◌, ◌^◌, ◌||◌, true, false, List, length, get_or, None, Some, Err, IfOk};
+ghost use Rattle.std.specs.Prelude.{OnOk, MatchOption};
 ghost use Rattle.ffc_term.specs.declared.value.Value.{Value as NodeValue};
 ghost use Rattle.ffc_rules.specs.Cones.{is_listed};
 ghost use Rattle.ffc_rules.specs.Cores.{core};
@@ -21,7 +22,7 @@ use std::alloc::{AllocError, Global};
 pub enum CoreStop {
     /// The entry is not accepted.
     Broken(Broken),
-    /// The entry uses this number of the list in force, which the core leaves out.
+    /// The entry uses this number of the active list, which the core leaves out.
     Outside(u64),
     /// Out of memory.
     Memory,
@@ -54,7 +55,8 @@ impl From<CheckStop> for CoreStop {
 
 /// Marks these numbers.
 fn mark_listed(marks: &mut [bool], numbers: &[u64])
-    ensures marked { (h : ℕ) → h < length marks.old → get_or marks.new h false ≡ (is_listed numbers.now h || get_or marks.old h false) }
+    ensures marked { (h : ℕ) → h < length marks.old → get_or marks.new h false
+        ≡ (is_listed numbers.now h || get_or marks.old h false) }
     ensures len { length marks.new ≡ length marks.old }
 {
     for number in numbers {
@@ -98,7 +100,8 @@ fn first_outside(
     count: usize,
     listed: &[u64],
 ) -> Result<Option<u64>, AllocError>
-    ensures { IfOk result (λ found. MatchOption found (AreListed (core entry.now count) listed.now) (IsLeastOutside (core entry.now count) listed.now)) }
+    ensures { IfOk result (λ found. MatchOption found (AreListed (core entry.now count) listed.now)
+        (IsLeastOutside (core entry.now count) listed.now)) }
 {
     let numbers = core_of(alloc, entry, count as u64)?;
     let used = listed_below(alloc, numbers.as_slice(), count)?;
@@ -122,14 +125,17 @@ pub fn check_core(
     requires readable { IsReadableEntry entry.now }
     requires line { first_line < 2 ^ 63 }
     requires unsat { IsUnsat entry.now }
-    ensures ok { OnOk result ((entry_fault (node_check check.now) entry.now first_line ≡ None) × AreListed (core entry.now (length check.now.in_force.now)) listed.now) }
+    ensures ok { OnOk result ((entry_fault (node_check check.now) entry.now first_line ≡ None)
+        × AreListed (core entry.now (length check.now.in_force.now)) listed.now) }
     ensures broken { (b : BrokenRule) → result ≡ Err (stops.Broken b)
         → entry_fault (node_check check.now) entry.now first_line ≡ Some (breaks b.rule b.line) }
     ensures outside { (k : ℕ) → result ≡ Err (stops.Outside k)
-        → (entry_fault (node_check check.now) entry.now first_line ≡ None) × IsLeastOutside (core entry.now (length check.now.in_force.now)) listed.now k }
+        → (entry_fault (node_check check.now) entry.now first_line ≡ None)
+        × IsLeastOutside (core entry.now (length check.now.in_force.now)) listed.now k }
 
     // No assignment makes all true that is listed.
-    ensures meaning { OnOk result ((assignment : List NodeValue) → AreTrueAt (node_check check.now) listed.now assignment → ⊥) }
+    ensures meaning { OnOk result ((assignment : List NodeValue) → AreTrueAt (node_check check.now) listed.now
+        assignment → ⊥) }
 {
     check_entry(alloc, check, entry, first_line)?;
     match first_outside(alloc, entry, check.in_force.len(), listed)? {

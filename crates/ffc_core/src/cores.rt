@@ -47,9 +47,11 @@ fn last_marked(alloc: Global, count: usize) -> Result<Vec<bool>, AllocError>
 /// Marks the clauses that are reached from marked ones by hints: each line is looked at once, from the last to the first.
 fn reach_all(marks: &mut [bool], lines: &[CertLine])
     requires len { length marks.old ≡ length (clause_lines lines.now) }
-    requires last { (h : ℕ) → h < length marks.old → get_or marks.old h false ≡ is_listed (reached_clauses (length marks.old) []) h }
+    requires last { (h : ℕ) → h < length marks.old → get_or marks.old h false
+        ≡ is_listed (reached_clauses (length marks.old) []) h }
     ensures len { length marks.new ≡ length marks.old }
-    ensures reached { (h : ℕ) → h < length marks.old → get_or marks.new h false ≡ is_listed (reached_clauses 0 (clause_lines lines.now)) h }
+    ensures reached { (h : ℕ) → h < length marks.old → get_or marks.new h false
+        ≡ is_listed (reached_clauses 0 (clause_lines lines.now)) h }
 {
     let mut k = marks.len();
     let mut i = lines.len();
@@ -66,14 +68,15 @@ fn reach_all(marks: &mut [bool], lines: &[CertLine])
 /// Which clauses are reached from the last one by hints.
 fn reached(alloc: Global, lines: &[CertLine]) -> Result<Vec<bool>, AllocError>
     ensures len { IfOk result (λ v. length v.items ≡ length (clause_lines lines.now)) }
-    ensures reached { IfOk result (λ v. (h : ℕ) → h < length (clause_lines lines.now) → get_or v.items h false ≡ is_listed (reached_clauses 0 (clause_lines lines.now)) h) }
+    ensures reached { IfOk result (λ v. (h : ℕ) → h < length (clause_lines lines.now) → get_or v.items h false
+        ≡ is_listed (reached_clauses 0 (clause_lines lines.now)) h) }
 {
     let mut marks = last_marked(alloc, clause_count(lines))?;
     reach_all(marks.as_mut_slice(), lines);
     Ok(marks)
 }
 
-/// Which numbers of a list in force the marked clauses take.
+/// Which numbers of an active list the marked clauses take.
 fn taken(
     alloc: Global,
     lines: &[CertLine],
@@ -81,9 +84,11 @@ fn taken(
     in_force: u64,
 ) -> Result<Vec<bool>, AllocError>
     requires len { length marks.now ≡ length (clause_lines lines.now) }
-    requires reached { (h : ℕ) → h < length (clause_lines lines.now) → get_or marks.now h false ≡ is_listed (reached_clauses 0 (clause_lines lines.now)) h }
+    requires reached { (h : ℕ) → h < length (clause_lines lines.now) → get_or marks.now h false
+        ≡ is_listed (reached_clauses 0 (clause_lines lines.now)) h }
     ensures len { IfOk result (λ v. length v.items ≡ in_force) }
-    ensures taken { IfOk result (λ v. (a : ℕ) → a < in_force → get_or v.items a false ≡ is_listed (numbers_reached lines.now) a) }
+    ensures taken { IfOk result (λ v. (a : ℕ) → a < in_force → get_or v.items a false
+        ≡ is_listed (numbers_reached lines.now) a) }
 {
     let mut numbers = vec![in alloc; false; in_force as usize]?;
     let mut k = 0;
@@ -100,15 +105,16 @@ fn taken(
 
 /// The numbers that a refutation uses.
 fn core_of_lines(alloc: Global, lines: &[CertLine], in_force: u64) -> Result<Vec<u64>, AllocError>
-    ensures { IfOk result (λ v. v.items ≡ filter (λ k. is_listed (numbers_reached lines.now) k) (range_with_len 0 in_force)) }
+    ensures { IfOk result (λ v. v.items ≡ filter (λ k. is_listed (numbers_reached lines.now) k)
+        (range_with_len 0 in_force)) }
 {
     let marks = reached(alloc, lines)?;
     let numbers = taken(alloc, lines, marks.as_slice(), in_force)?;
     marked(alloc, numbers.as_slice())
 }
 
-/// The numbers of a list in force that an entry uses, where the list has so many: of a refutation those that the last
-/// clause leads to by hints, of an entry by cases all. It takes time in proportion to the entry and the list.
+/// The numbers of an active list that an entry uses, where the list has so many: of a refutation those that the last
+/// clause reaches by hints, of an entry by cases all. It takes time in proportion to the entry and the list.
 pub fn core_of(alloc: Global, entry: &Entry, in_force: u64) -> Result<Vec<u64>, AllocError>
     ensures { IfOk result (λ v. v.items ≡ core entry.now in_force) }
 {

@@ -104,7 +104,7 @@ module _ (k : Known) (tree : Tree) (words : List Word) (which : Listed) (form : 
     heavy_list heavy whole =
         heavy_read s tree c (subst (λ n. limits.weight < n) (sym (listed_weight which h.asked)) (omega (arith, heavy, h.weight_is))) says ∙ ap (λ w. Err (word_fault 15 w)) (sym (front_is words tree whole.spelled))
 
--- What making the nodes leaves
+-- What is left after the nodes are interned
 
 module _ (k : Known) (tree : Tree) (words : List Word) (which : Listed) (x : Store) (known : IsKnown k) (kept : IsKept k x) (l : AskedList) (light : IsLightList k tree x.symbols words which l) where
   abbrev command : smt.Command

@@ -156,7 +156,7 @@ module _ {B C : Type 0} (g : Unit {0} × B → C) (next : Word → List Tree →
     closed = at.proper.0.2;
   }
 
-  -- something stands in the parentheses
+  -- something is in the parentheses
   pub none_filled : (items : Trees) → AreItemsAt words i items closing [] → AreInOrder (drop i words) → (word_at words i).kind ≡ kinds.LeftParen → ((word_at words (suc i)).kind ≡ kinds.RightParen → ⊥)
       → Whole items ≡ Err (word_fault 5 (word_at words (suc i)))
   unfolding items_of

@@ -117,7 +117,7 @@ mapped_leaf f read leaf = record {
   at = λ P w m. map_at P f (read (Leaf w)) (leaf.at P w m);
 }
 
--- a keyword, and what it stands for
+-- a keyword, and what it means
 pub keyword_outcome : {A : Type 0} (f : List ℕ → A) (w : Word) → outcome (read_map (λ v. f v.bytes) (keyword_read (Leaf w))) ≡ and_then (keyword_of w) (λ key. Ok (f key))
 keyword_outcome f w = by_kind w.kind
   where

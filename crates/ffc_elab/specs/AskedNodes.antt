@@ -1,4 +1,4 @@
--- What making the nodes of terms that are asked for leaves, one after another.
+-- What is left after the nodes of terms that are asked for are interned, one after another.
 use Rattle.std.specs.Prelude.{◌≡◌, ℕ, ◌<◌, ◌≤◌, List, [], ◌∷◌, ◌++◌, length, map, All, Result, Ok, Err, Vec}
 use Rattle.std.specs.declared.alloc.Global.{Global}
 use Rattle.ffc_term.specs.declared.node.Node.{Node}

@@ -1,4 +1,4 @@
--- What reading the list of a command and making its nodes leave, for `get-value` and `check-sat-assuming`.
+-- What is left after the list of a command is read and its nodes are interned, for `get-value` and `check-sat-assuming`.
 use Rattle.std.specs.Prelude.{◌≡◌, ◌≤◌, List, Result, Ok, Err, Vec}
 use Rattle.std.specs.declared.alloc.Global.{Global}
 use Rattle.ffc_term.specs.declared.node.Node.{Node}

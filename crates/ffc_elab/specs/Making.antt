@@ -1,4 +1,4 @@
--- What making the node of a term leaves, where a table stays as it was unless all is made.
+-- What is left after the node of a term is interned, where a table stays as it was unless all is made.
 use Rattle.std.specs.Prelude.{◌≡◌, ◌⊎◌, ℕ, ◌<◌, ◌≤◌, List, [], length, Result, Ok, Err}
 use Rattle.ffc_term.specs.declared.node.Node.{Node}
 use Rattle.ffc_term.specs.declared.node.Sort.{Sort}

@@ -57,7 +57,8 @@ fn listed_at(
     listed: Listed,
     at: usize,
 ) -> Result<AskedTerm, TakeStop>
-    ensures { (nodes : List Node) (s : State) (tree : Tree) (rest : List Word) → IsScope nodes symbols.now (scope_of s) → IsTreeAt words.now at tree rest
+    ensures { (nodes : List Node) (s : State) (tree : Tree) (rest : List Word) → IsScope nodes symbols.now (scope_of s)
+        → IsTreeAt words.now at tree rest
         → ReadsAsked nodes symbols.now words.now (listed_read listed s tree) tree at result }
 {
     match listed {
@@ -75,7 +76,8 @@ impl AskedList {
         symbols: &Symbols,
         listed: Listed,
     ) -> Result<(), TakeStop>
-        ensures { (nodes : List Node) (s : State) (items : Trees) (closing : Word) (rest : List Word) → IsScope nodes symbols.now (scope_of s)
+        ensures { (nodes : List Node) (s : State) (items : Trees) (closing : Word) (rest : List Word)
+            → IsScope nodes symbols.now (scope_of s)
             → (far : ℕ) → IsReadSoFar nodes symbols.now words.now (listed_read listed s) items closing rest far self.old
             → GoesOn nodes symbols.now words.now (listed_read listed s) items closing rest far self.new result }
     {
@@ -105,7 +107,8 @@ fn read_items(
     listed: Listed,
     at: usize,
 ) -> Result<AskedList, TakeStop>
-    ensures { (nodes : List Node) (s : State) (items : Trees) (closing : Word) (rest : List Word) → IsScope nodes symbols.now (scope_of s)
+    ensures { (nodes : List Node) (s : State) (items : Trees) (closing : Word) (rest : List Word)
+        → IsScope nodes symbols.now (scope_of s)
         → AreItemsAt words.now at items closing rest → AreInOrder (drop at words.now)
         → ReadsItems nodes symbols.now words.now (listed_read listed s) items closing rest result }
 {
@@ -131,7 +134,8 @@ fn inner_list(
     symbols: &Symbols,
     listed: Listed,
 ) -> Result<AskedList, TakeStop>
-    ensures { (nodes : List Node) (s : State) (opening last closing : Word) (inner items : Trees) → IsScope nodes symbols.now (scope_of s)
+    ensures { (nodes : List Node) (s : State) (opening last closing : Word) (inner items : Trees)
+        → IsScope nodes symbols.now (scope_of s)
         → AreItemsAt words.now 2 (First (Group opening inner last) items) closing [] → AreInOrder (drop 2 words.now)
         → ReadsList nodes symbols.now words.now listed s (First (Group opening inner last) items) closing result }
 {

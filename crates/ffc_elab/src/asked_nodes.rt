@@ -23,7 +23,8 @@ fn make_one(
     asked: &mut Vec<Asked>,
 ) -> Result<(), TermStop>
     requires { (a : smt.Asked) × IsNextMade words.now table.old symbols.now a term.now }
-    ensures { (a : smt.Asked) → IsNextMade words.now table.old symbols.now a term.now → MakesOne table.old table.new asked.old.items asked.new.items a result }
+    ensures { (a : smt.Asked) → IsNextMade words.now table.old symbols.now a term.now
+        → MakesOne table.old table.new asked.old.items asked.new.items a result }
 {
     let node = match make(alloc, table, symbols, &term.code, MOST_WEIGHT) {
         Err(stop) => return Err(stop),
@@ -43,7 +44,8 @@ fn make_each(
     terms: &[AskedTerm],
 ) -> Result<Vec<Asked>, TermStop>
     requires { (asked : List smt.Asked) × AreToMake words.now table.old symbols.now asked terms.now }
-    ensures { (asked : List smt.Asked) → AreToMake words.now table.old symbols.now asked terms.now → MakesEach table.old table.new asked result }
+    ensures { (asked : List smt.Asked) → AreToMake words.now table.old symbols.now asked terms.now
+        → MakesEach table.old table.new asked result }
 {
     let mut asked = Vec::new(alloc);
     for term in terms {
@@ -64,7 +66,8 @@ pub(crate) fn make_all(
     terms: &[AskedTerm],
 ) -> Result<Vec<Asked>, TermStop>
     requires { (asked : List smt.Asked) × AreToMake words.now table.old symbols.now asked terms.now }
-    ensures { (asked : List smt.Asked) → AreToMake words.now table.old symbols.now asked terms.now → MakesAllOrNone table.old table.new asked result }
+    ensures { (asked : List smt.Asked) → AreToMake words.now table.old symbols.now asked terms.now
+        → MakesAllOrNone table.old table.new asked result }
 {
     let before = table.len();
     match make_each(alloc, words, table, symbols, terms) {

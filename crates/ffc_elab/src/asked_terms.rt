@@ -43,7 +43,8 @@ pub(crate) fn value_at(
     symbols: &Symbols,
     at: usize,
 ) -> Result<AskedTerm, TakeStop>
-    ensures { (nodes : List Node) (s : State) (tree : Tree) (rest : List Word) → IsScope nodes symbols.now (scope_of s) → IsTreeAt words.now at tree rest
+    ensures { (nodes : List Node) (s : State) (tree : Tree) (rest : List Word) → IsScope nodes symbols.now (scope_of s)
+        → IsTreeAt words.now at tree rest
         → ReadsAsked nodes symbols.now words.now (asked_read limits s tree) tree at result }
 {
     match term_at(alloc, words, symbols, Names::new(alloc), at, MOST_HEIGHT) {

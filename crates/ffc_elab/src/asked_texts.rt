@@ -45,7 +45,8 @@ pub(crate) fn text_between(
     start: usize,
     end: usize,
 ) -> Result<Text, AllocError>
-    ensures { IfOk result (λ t. (tree : Tree) (rest : List Word) → IsTreeAt words.now start tree rest → end ≡ start + length (tokens_of tree) → t ≡ text_of (tokens_of tree)) }
+    ensures { IfOk result (λ t. (tree : Tree) (rest : List Word) → IsTreeAt words.now start tree rest → end ≡ start
+        + length (tokens_of tree) → t ≡ text_of (tokens_of tree)) }
 {
     let mut bytes = Vec::new(alloc);
     // As after a parenthesis, no space is before the first word.

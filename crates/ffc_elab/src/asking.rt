@@ -21,7 +21,8 @@ impl Store {
 
     /// The list of a command that is not too heavy, or the first fault.
     fn read_light(&self, words: &FormWords, listed: Listed) -> Result<AskedList, TakeStop>
-        ensures { (k : Known) (tree : Tree) → IsKept k self.now → IsCommandForm words.now k.state tree (listed_head listed)
+        ensures { (k : Known) (tree : Tree) → IsKept k self.now → IsCommandForm words.now k.state tree
+            (listed_head listed)
             → ReadsLight k tree self.now.symbols words.now listed result }
     {
         match read_list(self.alloc, words, &self.symbols, listed) {
@@ -38,7 +39,8 @@ impl Store {
     /// Makes the nodes of a command's terms. On an error the table is as before.
     fn make_listed(&mut self, words: &FormWords, listed: Listed) -> Result<Vec<Asked>, TakeStop>
         requires { IsReady words.now self.old (listed_head listed) }
-        ensures made { (k : Known) (tree : Tree) → IsKept k self.old → IsKnown k → IsCommandForm words.now k.state tree (listed_head listed)
+        ensures made { (k : Known) (tree : Tree) → IsKept k self.old → IsKnown k → IsCommandForm words.now k.state tree
+            (listed_head listed)
             → MakesListed k tree words.now listed self.old.table self.new.table result }
         ensures others { self.new ≡ record self.old { table = self.new.table } }
     {
@@ -58,7 +60,8 @@ impl Store {
     /// Takes `get-value`. It costs one step a word, one look-up a node, and the texts of the terms.
     pub(crate) fn get_value_command(&mut self, words: &FormWords) -> Result<Command, TakeStop>
         requires { IsReady words.now self.old head.GetValue }
-        ensures { (k : Known) (tree : Tree) → IsKept k self.old → IsKnown k → IsFormOf words.now tree → IsCommandForm words.now k.state tree head.GetValue → TakesKept k tree self.new result }
+        ensures { (k : Known) (tree : Tree) → IsKept k self.old → IsKnown k → IsFormOf words.now tree
+            → IsCommandForm words.now k.state tree head.GetValue → TakesKept k tree self.new result }
     {
         match self.make_listed(words, Listed::Values) {
             Err(stop) => Err(stop),
@@ -73,7 +76,8 @@ impl Store {
     /// Takes `check-sat-assuming`. It costs one step a word, one look-up a node, and the texts of the assumptions.
     pub(crate) fn check_assuming_command(&mut self, words: &FormWords) -> Result<Command, TakeStop>
         requires { IsReady words.now self.old head.CheckSatAssuming }
-        ensures { (k : Known) (tree : Tree) → IsKept k self.old → IsKnown k → IsFormOf words.now tree → IsCommandForm words.now k.state tree head.CheckSatAssuming → TakesKept k tree self.new result }
+        ensures { (k : Known) (tree : Tree) → IsKept k self.old → IsKnown k → IsFormOf words.now tree
+            → IsCommandForm words.now k.state tree head.CheckSatAssuming → TakesKept k tree self.new result }
     {
         let before = self.table.len();
         match self.make_listed(words, Listed::Assumptions) {

@@ -24,8 +24,12 @@ impl Store {
 
     /// Asserts a term of this node, and gives it this name.
     fn push_labelled(&mut self, node: NodeId, name: &[u8]) -> Result<(), AllocError>
-        ensures ok { OnOk result ((k : Known) (t : Term) → HasGlobalNames k.state → IsKnownNode k.state.nodes t node → node ≡ node_of k.state.nodes t → IsKept k self.old
-            → IsKept (in_state (labelled (Some name.now) t (with_assertion (record { term = t; label = Some name.now }) k.state))) self.new) }
+        ensures ok { OnOk result ((k : Known) (t : Term) → HasGlobalNames k.state → IsKnownNode k.state.nodes t node
+            → node ≡ node_of k.state.nodes t → IsKept k self.old
+            → IsKept
+            (in_state
+            (labelled (Some name.now) t (with_assertion (record { term = t; label = Some name.now }) k.state)))
+            self.new) }
         ensures err { OnErr result (IsSame self.old self.new) }
     {
         let text = Text::copy_of(self.alloc, name)?;
@@ -46,8 +50,13 @@ impl Store {
         node: NodeId,
         name: Option<&[u8]>,
     ) -> Result<(), AllocError>
-        ensures ok { OnOk result ((k : Known) (t : Term) → HasGlobalNames k.state → IsKnownNode k.state.nodes t node → node ≡ node_of k.state.nodes t → All IsOrder (orders_of words.now) → IsKept k self.old
-            → IsKept (in_state (with_orders (orders_of words.now) (labelled (option_map (λ b. b.now) name.entry) t (with_assertion (record { term = t; label = option_map (λ b. b.now) name.entry }) k.state)))) self.new) }
+        ensures ok { OnOk result ((k : Known) (t : Term) → HasGlobalNames k.state → IsKnownNode k.state.nodes t node
+            → node ≡ node_of k.state.nodes t → All IsOrder (orders_of words.now) → IsKept k self.old
+            → IsKept
+            (in_state
+            (with_orders (orders_of words.now)
+            (labelled (option_map (λ b. b.now) name.entry) t
+            (with_assertion (record { term = t; label = option_map (λ b. b.now) name.entry }) k.state)))) self.new) }
         ensures err { OnErr result (IsSame self.old self.new) }
     {
         match name {
@@ -72,8 +81,10 @@ impl Store {
     /// Takes an assertion that was read.
     fn assert(&mut self, words: &FormWords, assertion: &Assertion) -> Result<Command, TakeStop>
         requires { (t : Term) × IsSoundRead self.old.table self.old.symbols.terms t assertion.now.term }
-        ensures { (k : Known) (tree : Tree) → IsKept k self.old → IsKnown k → IsFormOf words.now tree → (form : IsCommandForm words.now k.state tree head.Assert)
-            → IsAssertion k.state.nodes self.old.symbols (read_by_head limits k.state head.Assert form.closing (items_of form.items)) assertion.now → TakesKept k tree self.new result }
+        ensures { (k : Known) (tree : Tree) → IsKept k self.old → IsKnown k → IsFormOf words.now tree
+            → (form : IsCommandForm words.now k.state tree head.Assert)
+            → IsAssertion k.state.nodes self.old.symbols (read_by_head limits k.state head.Assert form.closing
+            (items_of form.items)) assertion.now → TakesKept k tree self.new result }
     {
         let before = self.table.len();
         match self.term_node(words, &assertion.term) {
@@ -91,7 +102,8 @@ impl Store {
     /// Takes `assert`.
     pub(crate) fn assert_command(&mut self, words: &FormWords) -> Result<Command, TakeStop>
         requires { IsReady words.now self.old head.Assert }
-        ensures { (k : Known) (tree : Tree) → IsKept k self.old → IsKnown k → IsFormOf words.now tree → IsCommandForm words.now k.state tree head.Assert → TakesKept k tree self.new result }
+        ensures { (k : Known) (tree : Tree) → IsKept k self.old → IsKnown k → IsFormOf words.now tree
+            → IsCommandForm words.now k.state tree head.Assert → TakesKept k tree self.new result }
     {
         match read_assertion(self.alloc, words, &self.symbols) {
             Err(stop) => Err(stop),

@@ -46,9 +46,12 @@ pub(crate) fn last_term(
     wanted: Sort,
     at: usize,
 ) -> Result<TermRead, TakeStop>
-    ensures { (nodes : List Node) (s : State) (parameters : List Parameter) (items : Trees) (closing : Word) (rest : List Word) → locals ≡ map (λ p. (p.name, p.sort)) parameters
-        → IsScope nodes symbols.now (scope_of s) → AreItemsAt words.now at items closing rest → AreInOrder (drop at words.now)
-        → ReadsAsTerm nodes symbols.now locals (read_map (λ p. p.0) (item closing (term_of_sort limits s parameters wanted) last (items_of items))) result }
+    ensures { (nodes : List Node) (s : State) (parameters : List Parameter) (items : Trees) (closing : Word)
+        (rest : List Word) → locals ≡ map (λ p. (p.name, p.sort)) parameters
+        → IsScope nodes symbols.now (scope_of s) → AreItemsAt words.now at items closing rest
+        → AreInOrder (drop at words.now)
+        → ReadsAsTerm nodes symbols.now locals
+        (read_map (λ p. p.0) (item closing (term_of_sort limits s parameters wanted) last (items_of items))) result }
 {
     match words.kind(at) {
         TokenKind::RightParen => Err(TakeStop::Fault(words.fault(5, at))),
@@ -86,7 +89,8 @@ fn label_between<'a>(
     last: usize,
 ) -> Result<&'a [u8], ScriptFault>
     ensures { result_as (λ b. b.now) result
-        ≡ label_of (λ n. is_some (found terms.now n)) (word_at words.now at) (word_at words.now name) (word_at words.now end) (word_at words.now last) }
+        ≡ label_of (λ n. is_some (found terms.now n)) (word_at words.now at) (word_at words.now name)
+        (word_at words.now end) (word_at words.now last) }
 {
     named_word(words, at)?;
     let label = fresh_name(words, terms, name)?;
@@ -116,7 +120,8 @@ fn named_assertion<'a>(
     words: &FormWords<'a>,
     symbols: &Symbols,
 ) -> Result<Assertion<'a>, TakeStop>
-    ensures { (s : State) (items : Trees) (closing : Word) → IsScope s.nodes symbols.now (scope_of s) → AreItemsAt words.now 2 items closing [] → AreInOrder (drop 2 words.now)
+    ensures { (s : State) (items : Trees) (closing : Word) → IsScope s.nodes symbols.now (scope_of s)
+        → AreItemsAt words.now 2 items closing [] → AreInOrder (drop 2 words.now)
         → (word_at words.now 2).kind ≡ kinds.LeftParen → reading.is_word (codes "!") (word_at words.now 3) ≡ true
         → ReadsAssertion s.nodes symbols.now (read_by_head limits s head.Assert closing (items_of items)) result }
 {
@@ -148,7 +153,8 @@ fn plain_assertion<'a>(
     words: &FormWords<'a>,
     symbols: &Symbols,
 ) -> Result<Assertion<'a>, TakeStop>
-    ensures { (s : State) (items : Trees) (closing : Word) → IsScope s.nodes symbols.now (scope_of s) → AreItemsAt words.now 2 items closing [] → AreInOrder (drop 2 words.now)
+    ensures { (s : State) (items : Trees) (closing : Word) → IsScope s.nodes symbols.now (scope_of s)
+        → AreItemsAt words.now 2 items closing [] → AreInOrder (drop 2 words.now)
         → ((word_at words.now 2).kind ≡ kinds.LeftParen → reading.is_word (codes "!") (word_at words.now 3) ≡ true → ⊥)
         → ReadsAssertion s.nodes symbols.now (read_by_head limits s head.Assert closing (items_of items)) result }
 {
@@ -164,7 +170,8 @@ pub(crate) fn read_assertion<'a>(
     words: &FormWords<'a>,
     symbols: &Symbols,
 ) -> Result<Assertion<'a>, TakeStop>
-    ensures { (s : State) (items : Trees) (closing : Word) → IsScope s.nodes symbols.now (scope_of s) → AreItemsAt words.now 2 items closing [] → AreInOrder (drop 2 words.now)
+    ensures { (s : State) (items : Trees) (closing : Word) → IsScope s.nodes symbols.now (scope_of s)
+        → AreItemsAt words.now 2 items closing [] → AreInOrder (drop 2 words.now)
         → ReadsAssertion s.nodes symbols.now (read_by_head limits s head.Assert closing (items_of items)) result }
 {
     match words.kind(FIRST) {

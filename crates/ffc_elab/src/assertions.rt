@@ -1,5 +1,6 @@
 //! Assertions.
-ghost use Rattle.std.specs.Prelude.{◌≡◌, ◌<◌, ◌≤◌, [], ◌∷◌, ◌++◌, length, take, vec_len, vec_capacity, IsOk, OnOk, OnErr};
+ghost use Rattle.std.specs.Prelude.{◌≡◌, ◌<◌, ◌≤◌, [], ◌∷◌, ◌++◌, length, take, vec_len, vec_capacity, IsOk, OnOk};
+ghost use Rattle.std.specs.Prelude.{OnErr};
 ghost use Rattle.ffc_smt.specs.Scopes.{with_assertion};
 ghost use Rattle.ffc_smt.specs.TableChecks.{node_of};
 ghost use Rattle.ffc_smt.specs.Terms.{Term};
@@ -23,7 +24,8 @@ fn put_after(
     ensures names { OnOk result (names.new.items ≡ take count names.old.items ++ name ∷ []) }
     ensures old_nodes { OnErr result (nodes.new.items ≡ nodes.old.items) }
     ensures old_names { OnErr result (names.new.items ≡ names.old.items) }
-    ensures sure { vec_len nodes.old < vec_capacity nodes.old → vec_len names.old < vec_capacity names.old → IsOk result }
+    ensures sure { vec_len nodes.old < vec_capacity nodes.old → vec_len names.old < vec_capacity names.old
+        → IsOk result }
 {
     nodes.reserve(1)?;
     names.reserve(1)?;

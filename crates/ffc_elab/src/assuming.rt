@@ -1,5 +1,6 @@
 //! Assumptions of the last command.
-ghost use Rattle.std.specs.Prelude.{◌≡◌, ◌+◌, ◌≤◌, ◌++◌, List, None, length, map, take, vec_len, vec_capacity, OnOk, OnErr};
+ghost use Rattle.std.specs.Prelude.{◌≡◌, ◌+◌, ◌≤◌, ◌++◌, List, None, length, map, take, vec_len, vec_capacity, OnOk};
+ghost use Rattle.std.specs.Prelude.{OnErr};
 ghost use Rattle.ffc_smt.specs.Terms as smt;
 ghost use Rattle.ffc_elab.specs.Answers.{asked_as};
 ghost use Rattle.ffc_elab.specs.Histories.{Known};
@@ -57,7 +58,8 @@ impl Store {
 
     /// Assumes these terms, and what was assumed before no more.
     pub(crate) fn assume(&mut self, asked: &[Asked]) -> Result<(), AllocError>
-        ensures ok { OnOk result ((k : Known) (terms : List smt.Asked) → asked.now ≡ map (asked_as k.state.nodes) terms → IsKept k self.old → IsKept (assuming terms k.state) self.new) }
+        ensures ok { OnOk result ((k : Known) (terms : List smt.Asked) → asked.now ≡ map (asked_as k.state.nodes) terms
+            → IsKept k self.old → IsKept (assuming terms k.state) self.new) }
         ensures err { OnErr result (IsSame self.old self.new) }
     {
         let count = self.in_force.len().saturating_sub(self.assumed);

@@ -27,8 +27,10 @@ fn boolean_name(
     at: usize,
     opening: usize,
 ) -> Result<TermRead, TakeStop>
-    ensures { (nodes : List Node) (s : State) (w : Word) (rest : List Word) → IsScope nodes symbols.now (scope_of s) → IsTreeAt words.now at (Leaf w) rest
-        → ReadsOfSort nodes symbols.now [] sort.Bool (assumed s (word_at words.now opening) w (name_of w)) (Leaf w) at result }
+    ensures { (nodes : List Node) (s : State) (w : Word) (rest : List Word) → IsScope nodes symbols.now (scope_of s)
+        → IsTreeAt words.now at (Leaf w) rest
+        → ReadsOfSort nodes symbols.now [] sort.Bool (assumed s (word_at words.now opening) w (name_of w))
+        (Leaf w) at result }
 {
     match name_at(words, at) {
         None => Err(TakeStop::Fault(words.fault(5, opening))),
@@ -38,7 +40,8 @@ fn boolean_name(
 
 /// Whether `(not`, a word and `)` begin at a place.
 fn is_negation(words: &FormWords, at: usize) -> bool
-    ensures is { (opening closing : Word) (items : Trees) (rest : List Word) → IsTreeAt words.now at (Group opening items closing) rest → IsNegation items result }
+    ensures is { (opening closing : Word) (items : Trees) (rest : List Word)
+        → IsTreeAt words.now at (Group opening items closing) rest → IsNegation items result }
     ensures room { result ≡ true → at + 4 < 2 ^ 64 }
 {
     if words.len().saturating_sub(at) < 4 {
@@ -78,9 +81,11 @@ fn negation_at(
     symbols: &Symbols,
     at: usize,
 ) -> Result<AskedTerm, TakeStop>
-    ensures { (nodes : List Node) (s : State) (opening closing : Word) (items : Trees) (rest : List Word) → IsScope nodes symbols.now (scope_of s)
+    ensures { (nodes : List Node) (s : State) (opening closing : Word) (items : Trees) (rest : List Word)
+        → IsScope nodes symbols.now (scope_of s)
         → IsTreeAt words.now at (Group opening items closing) rest
-        → ReadsAsked nodes symbols.now words.now (assumption_asked s (Group opening items closing)) (Group opening items closing) at result }
+        → ReadsAsked nodes symbols.now words.now (assumption_asked s (Group opening items closing))
+        (Group opening items closing) at result }
 {
     if !is_negation(words, at) {
         return Err(TakeStop::Fault(words.fault(5, at)));
@@ -101,7 +106,8 @@ fn name_alone(
     symbols: &Symbols,
     at: usize,
 ) -> Result<AskedTerm, TakeStop>
-    ensures { (nodes : List Node) (s : State) (w : Word) (rest : List Word) → IsScope nodes symbols.now (scope_of s) → IsTreeAt words.now at (Leaf w) rest
+    ensures { (nodes : List Node) (s : State) (w : Word) (rest : List Word) → IsScope nodes symbols.now (scope_of s)
+        → IsTreeAt words.now at (Leaf w) rest
         → ReadsAsked nodes symbols.now words.now (assumption_asked s (Leaf w)) (Leaf w) at result }
 {
     match boolean_name(alloc, words, symbols, at, at) {
@@ -117,7 +123,8 @@ pub(crate) fn assumption_at(
     symbols: &Symbols,
     at: usize,
 ) -> Result<AskedTerm, TakeStop>
-    ensures { (nodes : List Node) (s : State) (tree : Tree) (rest : List Word) → IsScope nodes symbols.now (scope_of s) → IsTreeAt words.now at tree rest
+    ensures { (nodes : List Node) (s : State) (tree : Tree) (rest : List Word) → IsScope nodes symbols.now (scope_of s)
+        → IsTreeAt words.now at tree rest
         → ReadsAsked nodes symbols.now words.now (assumption_asked s tree) tree at result }
 {
     match words.kind(at) {

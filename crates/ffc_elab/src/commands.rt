@@ -19,7 +19,8 @@ impl Store {
         head: Head,
     ) -> Result<Command, TakeStop>
         requires { IsReady words.now self.old head }
-        ensures { (k : Known) (tree : Tree) → IsKept k self.old → IsKnown k → IsFormOf words.now tree → IsCommandForm words.now k.state tree head → TakesKept k tree self.new result }
+        ensures { (k : Known) (tree : Tree) → IsKept k self.old → IsKnown k → IsFormOf words.now tree
+            → IsCommandForm words.now k.state tree head → TakesKept k tree self.new result }
     {
         match head {
             Head::DeclareConst => self.declare_const_command(words),

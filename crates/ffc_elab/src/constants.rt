@@ -31,7 +31,8 @@ fn constant_node(number: u32, sort: Sort) -> Node
 fn put_constant(table: &mut NodeTable, count: u32, sort: Sort) -> Result<NodeId, TermStop>
     requires sound { IsSoundSort sort }
     requires counted { (sorts : List NodeSort) × IsTableWith sorts (length sorts) table.old × (count ≡ length sorts) }
-    ensures ok { IfOk result (λ id. (table.new ≡ table.old ++ constant_node count sort ∷ []) × (id ≡ length table.old) × (length table.old + 1 ≤ most_nodes)) }
+    ensures ok { IfOk result (λ id. (table.new ≡ table.old ++ constant_node count sort ∷ []) × (id ≡ length table.old)
+        × (length table.old + 1 ≤ most_nodes)) }
     ensures full { IsErrOf result TermStop.Nodes → length table.old ≡ most_nodes }
     ensures err { OnErr result (table.new ≡ table.old) }
 {
@@ -50,7 +51,8 @@ impl Store {
         requires sound { IsSoundSort sort }
         requires known { (k : Known) × IsKept k self.old × IsKnown k }
         ensures ok { OnOk result ((k : Known) → IsKnown k → IsKept k self.old
-            → IsKept (with_state k (declared_in name.now sort k.state)) self.new × (length k.state.nodes + 1 ≤ most_nodes)) }
+            → IsKept (with_state k (declared_in name.now sort k.state)) self.new
+            × (length k.state.nodes + 1 ≤ most_nodes)) }
         ensures full { IsErrOf result TermStop.Nodes → length self.old.table ≡ most_nodes }
         ensures err { OnErr result ((k : Known) → IsKept k self.old → IsKept k self.new) }
     {
@@ -88,7 +90,9 @@ impl Store {
         requires sound { IsSoundSort sort }
         requires known { (k : Known) × IsKept k self.old × IsKnown k }
         ensures ok { OnOk result ((k : Known) → IsKnown k → IsKept k self.old
-            → (length k.state.nodes + 1 ≤ most_nodes) × (All IsOrder (orders_of words.now) → IsKept (in_state (with_orders (orders_of words.now) (declared_in name.now sort k.state))) self.new)) }
+            → (length k.state.nodes + 1 ≤ most_nodes)
+            × (All IsOrder (orders_of words.now)
+            → IsKept (in_state (with_orders (orders_of words.now) (declared_in name.now sort k.state))) self.new)) }
         ensures full { IsErrOf result TermStop.Nodes → length self.old.table ≡ most_nodes }
         ensures err { OnErr result ((k : Known) → IsKept k self.old → IsKept k self.new) }
     {
@@ -117,8 +121,11 @@ impl Store {
     fn declare(&mut self, words: &FormWords, name: &[u8], sort: Sort) -> Result<Command, TakeStop>
         requires sound { IsSoundSort sort }
         requires known { (k : Known) × IsKept k self.old × IsKnown k }
-        ensures { (k : Known) (tree : Tree) (h : Head) → IsKept k self.old → IsKnown k → IsFormOf words.now tree → (form : IsCommandForm words.now k.state tree h)
-            → Ok (smt.Declare name.now sort) ≡ outcome (read_by_head limits k.state h form.closing (items_of form.items)) → TakesKept k tree self.new result }
+        ensures { (k : Known) (tree : Tree) (h : Head) → IsKept k self.old → IsKnown k → IsFormOf words.now tree
+            → (form : IsCommandForm words.now k.state tree h)
+            → Ok (smt.Declare name.now sort)
+            ≡ outcome (read_by_head limits k.state h form.closing (items_of form.items))
+            → TakesKept k tree self.new result }
     {
         match self.name_constant(words, name, sort) {
             Ok(()) => Ok(Command::Quiet(Effect::EndsModel)),
@@ -130,7 +137,8 @@ impl Store {
     /// Takes `declare-const`.
     pub(crate) fn declare_const_command(&mut self, words: &FormWords) -> Result<Command, TakeStop>
         requires { IsReady words.now self.old head.DeclareConst }
-        ensures { (k : Known) (tree : Tree) → IsKept k self.old → IsKnown k → IsFormOf words.now tree → IsCommandForm words.now k.state tree head.DeclareConst → TakesKept k tree self.new result }
+        ensures { (k : Known) (tree : Tree) → IsKept k self.old → IsKnown k → IsFormOf words.now tree
+            → IsCommandForm words.now k.state tree head.DeclareConst → TakesKept k tree self.new result }
     {
         match declare_const(words, &self.symbols) {
             Err(fault) => Err(TakeStop::Fault(fault)),
@@ -141,7 +149,8 @@ impl Store {
     /// Takes `declare-fun`.
     pub(crate) fn declare_fun_command(&mut self, words: &FormWords) -> Result<Command, TakeStop>
         requires { IsReady words.now self.old head.DeclareFun }
-        ensures { (k : Known) (tree : Tree) → IsKept k self.old → IsKnown k → IsFormOf words.now tree → IsCommandForm words.now k.state tree head.DeclareFun → TakesKept k tree self.new result }
+        ensures { (k : Known) (tree : Tree) → IsKept k self.old → IsKnown k → IsFormOf words.now tree
+            → IsCommandForm words.now k.state tree head.DeclareFun → TakesKept k tree self.new result }
     {
         match declare_fun(words, &self.symbols) {
             Err(fault) => Err(TakeStop::Fault(fault)),

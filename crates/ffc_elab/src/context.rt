@@ -125,7 +125,8 @@ impl Context {
     pub fn take(&mut self, form: &Form, lexer: &Lexer) -> Result<Command, TakeStop>
         requires { IsGiven form.now lexer.now }
         ensures taken { (tree : Tree) → form_tree lexer.now.text form.now ≡ Some tree
-            → TakesAs (known_of self.old) tree (command_read limits (state_of self.old) tree) result (known_of self.new) }
+            → TakesAs (known_of self.old) tree (command_read limits (state_of self.old) tree) result
+            (known_of self.new) }
         ensures ok { OnOk result (self.new ≡ self.old ++ map (word_of lexer.now.text) form.now ∷ []) }
         ensures refused { OnErr result (self.new ≡ self.old) }
     {

@@ -42,7 +42,8 @@ pub(crate) fn fresh_name<'a>(
     terms: &Names<Meaning>,
     at: usize,
 ) -> Result<&'a [u8], ScriptFault>
-    ensures { result_as (λ b. b.now) result ≡ outcome (fresh_read (λ name. is_some (found terms.now name)) (Leaf (word_at words.now at))) }
+    ensures { result_as (λ b. b.now) result
+        ≡ outcome (fresh_read (λ name. is_some (found terms.now name)) (Leaf (word_at words.now at))) }
 {
     match name_at(words, at) {
         None => Err(words.fault(5, at)),
@@ -60,7 +61,8 @@ pub(crate) fn fresh_sort_name<'a>(
     at: usize,
 ) -> Result<&'a [u8], ScriptFault>
     ensures { result_as (λ b. b.now) result
-        ≡ outcome (fresh_read (λ name. if bytes_eq name (codes "Bool") then true else is_some (found sorts.now name)) (Leaf (word_at words.now at))) }
+        ≡ outcome (fresh_read (λ name. if bytes_eq name (codes "Bool") then true else is_some (found sorts.now name))
+        (Leaf (word_at words.now at))) }
 {
     match name_at(words, at) {
         None => Err(words.fault(5, at)),
@@ -85,8 +87,10 @@ pub(crate) fn last_sort(
     sorts: &Names<Sort>,
     at: usize,
 ) -> Result<Sort, ScriptFault>
-    ensures { (items : Trees) (closing : Word) → AreItemsAt words.now at items closing [] → AreInOrder (drop at words.now)
-        → result_as (λ s. s) result ≡ outcome (read_map (λ p. p.0) (item closing (sort_read sorts.now) last (items_of items))) }
+    ensures { (items : Trees) (closing : Word) → AreItemsAt words.now at items closing []
+        → AreInOrder (drop at words.now)
+        → result_as (λ s. s) result
+        ≡ outcome (read_map (λ p. p.0) (item closing (sort_read sorts.now) last (items_of items))) }
 {
     match words.kind(at) {
         TokenKind::RightParen => Err(words.fault(5, at)),
@@ -100,7 +104,9 @@ pub(crate) fn last_sort(
 /// `()` and a sort at the place of the second item, after which the form ends.
 pub(crate) fn constant_sort(words: &FormWords, sorts: &Names<Sort>) -> Result<Sort, ScriptFault>
     ensures { (items : Trees) (closing : Word) → AreItemsAt words.now 3 items closing [] → AreInOrder (drop 3 words.now)
-        → result_as (λ s. s) result ≡ outcome (read_map (λ p. p.1.0) (item closing none_read (item closing (sort_read sorts.now) last) (items_of items))) }
+        → result_as (λ s. s) result
+        ≡ outcome
+        (read_map (λ p. p.1.0) (item closing none_read (item closing (sort_read sorts.now) last) (items_of items))) }
 {
     match words.kind(FIRST + 1) {
         TokenKind::LeftParen => match words.kind(FIRST + 2) {
@@ -116,8 +122,10 @@ pub(crate) fn declare_const<'a>(
     words: &FormWords<'a>,
     symbols: &Symbols,
 ) -> Result<(&'a [u8], Sort), ScriptFault>
-    ensures { (s : State) (items : Trees) (closing : Word) → IsScope s.nodes symbols.now (scope_of s) → AreItemsAt words.now 2 items closing [] → AreInOrder (drop 2 words.now)
-        → result_as (λ d. smt.Declare d.0.now d.1) result ≡ outcome (read_by_head limits s head.DeclareConst closing (items_of items)) }
+    ensures { (s : State) (items : Trees) (closing : Word) → IsScope s.nodes symbols.now (scope_of s)
+        → AreItemsAt words.now 2 items closing [] → AreInOrder (drop 2 words.now)
+        → result_as (λ d. smt.Declare d.0.now d.1) result
+        ≡ outcome (read_by_head limits s head.DeclareConst closing (items_of items)) }
 {
     match fresh_name(words, &symbols.terms, FIRST) {
         Err(fault) => Err(fault),
@@ -133,8 +141,10 @@ pub(crate) fn declare_fun<'a>(
     words: &FormWords<'a>,
     symbols: &Symbols,
 ) -> Result<(&'a [u8], Sort), ScriptFault>
-    ensures { (s : State) (items : Trees) (closing : Word) → IsScope s.nodes symbols.now (scope_of s) → AreItemsAt words.now 2 items closing [] → AreInOrder (drop 2 words.now)
-        → result_as (λ d. smt.Declare d.0.now d.1) result ≡ outcome (read_by_head limits s head.DeclareFun closing (items_of items)) }
+    ensures { (s : State) (items : Trees) (closing : Word) → IsScope s.nodes symbols.now (scope_of s)
+        → AreItemsAt words.now 2 items closing [] → AreInOrder (drop 2 words.now)
+        → result_as (λ d. smt.Declare d.0.now d.1) result
+        ≡ outcome (read_by_head limits s head.DeclareFun closing (items_of items)) }
 {
     match fresh_name(words, &symbols.terms, FIRST) {
         Err(fault) => Err(fault),
@@ -145,13 +155,15 @@ pub(crate) fn declare_fun<'a>(
     }
 }
 
-/// `define-sort`: the name and the sort that it stands for.
+/// `define-sort`: the name and its sort.
 pub(crate) fn define_sort<'a>(
     words: &FormWords<'a>,
     symbols: &Symbols,
 ) -> Result<(&'a [u8], Sort), ScriptFault>
-    ensures { (s : State) (items : Trees) (closing : Word) → IsScope s.nodes symbols.now (scope_of s) → AreItemsAt words.now 2 items closing [] → AreInOrder (drop 2 words.now)
-        → result_as (λ d. smt.DefineSort d.0.now d.1) result ≡ outcome (read_by_head limits s head.DefineSort closing (items_of items)) }
+    ensures { (s : State) (items : Trees) (closing : Word) → IsScope s.nodes symbols.now (scope_of s)
+        → AreItemsAt words.now 2 items closing [] → AreInOrder (drop 2 words.now)
+        → result_as (λ d. smt.DefineSort d.0.now d.1) result
+        ≡ outcome (read_by_head limits s head.DefineSort closing (items_of items)) }
 {
     match fresh_sort_name(words, &symbols.sorts, FIRST) {
         Err(fault) => Err(fault),

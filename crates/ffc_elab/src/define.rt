@@ -26,7 +26,9 @@ impl Store {
         name: &[u8],
         value: Meaning,
     ) -> Result<(), AllocError>
-        ensures ok { OnOk result ((k : Known) (m : Meant) → HasGlobalNames k.state → IsDefinition m → IsMeaning k.state.nodes self.old.symbols.terms value m → All IsOrder (orders_of words.now) → IsKept k self.old
+        ensures ok { OnOk result ((k : Known) (m : Meant) → HasGlobalNames k.state → IsDefinition m
+            → IsMeaning k.state.nodes self.old.symbols.terms value m → All IsOrder (orders_of words.now)
+            → IsKept k self.old
             → IsKept (in_state (with_orders (orders_of words.now) (with_name name.now m k.state))) self.new) }
         ensures err { OnErr result (IsSame self.old self.new) }
     {
@@ -47,15 +49,18 @@ impl Store {
     ghost use Rattle.ffc_elab.specs.Reading.{IsFormOf, IsCommandForm, read_by_head};
     ghost use Rattle.ffc_elab.specs.Taking.{IsReady, TakesKept};
 
-    /// Takes a definition without parameters: the name stands for the node of its body.
+    /// Takes a definition without parameters: the name means the node of its body.
     fn define_term(
         &mut self,
         words: &FormWords,
         definition: &Definition,
     ) -> Result<Command, TakeStop>
         requires { (t : Term) × IsSoundRead self.old.table self.old.symbols.terms t definition.now.body }
-        ensures { (k : Known) (tree : Tree) → IsKept k self.old → IsKnown k → IsFormOf words.now tree → (form : IsCommandForm words.now k.state tree head.DefineFun)
-            → IsDefinitionRead k.state.nodes self.old.symbols (read_by_head limits k.state head.DefineFun form.closing (items_of form.items)) definition.now → definition.now.parameters.items ≡ [] → TakesKept k tree self.new result }
+        ensures { (k : Known) (tree : Tree) → IsKept k self.old → IsKnown k → IsFormOf words.now tree
+            → (form : IsCommandForm words.now k.state tree head.DefineFun)
+            → IsDefinitionRead k.state.nodes self.old.symbols (read_by_head limits k.state head.DefineFun form.closing
+            (items_of form.items)) definition.now → definition.now.parameters.items ≡ []
+            → TakesKept k tree self.new result }
     {
         let before = self.table.len();
         match self.term_node(words, &definition.body) {
@@ -80,8 +85,11 @@ impl Store {
         words: &FormWords,
         definition: Definition,
     ) -> Result<Command, TakeStop>
-        ensures { (k : Known) (tree : Tree) → IsKept k self.old → IsKnown k → IsFormOf words.now tree → (form : IsCommandForm words.now k.state tree head.DefineFun)
-            → IsDefinitionRead k.state.nodes self.old.symbols (read_by_head limits k.state head.DefineFun form.closing (items_of form.items)) definition.entry → definition.entry.parameters.items ≢ [] → TakesKept k tree self.new result }
+        ensures { (k : Known) (tree : Tree) → IsKept k self.old → IsKnown k → IsFormOf words.now tree
+            → (form : IsCommandForm words.now k.state tree head.DefineFun)
+            → IsDefinitionRead k.state.nodes self.old.symbols (read_by_head limits k.state head.DefineFun form.closing
+            (items_of form.items)) definition.entry → definition.entry.parameters.items ≢ []
+            → TakesKept k tree self.new result }
     {
         let Definition {
             name,
@@ -115,7 +123,8 @@ impl Store {
     /// Takes `define-fun`.
     pub(crate) fn define_fun_command(&mut self, words: &FormWords) -> Result<Command, TakeStop>
         requires { IsReady words.now self.old head.DefineFun }
-        ensures { (k : Known) (tree : Tree) → IsKept k self.old → IsKnown k → IsFormOf words.now tree → IsCommandForm words.now k.state tree head.DefineFun → TakesKept k tree self.new result }
+        ensures { (k : Known) (tree : Tree) → IsKept k self.old → IsKnown k → IsFormOf words.now tree
+            → IsCommandForm words.now k.state tree head.DefineFun → TakesKept k tree self.new result }
     {
         match read_definition(self.alloc, words, &self.symbols) {
             Err(stop) => Err(stop),

@@ -35,7 +35,8 @@ fn sort_item(
     sorts: &Names<Sort>,
     at: usize,
 ) -> Result<(Sort, usize), ScriptFault>
-    ensures { (items : Trees) (closing : Word) (rest : List Word) → AreItemsAt words.now at items closing rest → ReadsSortItem sorts.now items closing at result }
+    ensures { (items : Trees) (closing : Word) (rest : List Word) → AreItemsAt words.now at items closing rest
+        → ReadsSortItem sorts.now items closing at result }
 {
     match words.kind(at) {
         TokenKind::RightParen => Err(words.fault(5, at)),
@@ -51,8 +52,10 @@ fn sort_and_body(
     names: Names<Sort>,
     at: usize,
 ) -> Result<(Sort, TermRead), TakeStop>
-    ensures { (s : State) (parameters : List Parameter) (items : Trees) (closing : Word) → names ≡ reverse (map pair_of parameters) → IsScope s.nodes symbols.now (scope_of s)
-        → AreItemsAt words.now at items closing [] → AreInOrder (drop at words.now) → ReadsBody s.nodes symbols.now parameters (body_after s parameters closing items) result }
+    ensures { (s : State) (parameters : List Parameter) (items : Trees) (closing : Word) → names
+        ≡ reverse (map pair_of parameters) → IsScope s.nodes symbols.now (scope_of s)
+        → AreItemsAt words.now at items closing [] → AreInOrder (drop at words.now)
+        → ReadsBody s.nodes symbols.now parameters (body_after s parameters closing items) result }
 {
     match sort_item(words, &symbols.sorts, at) {
         Err(fault) => Err(TakeStop::Fault(fault)),
@@ -72,7 +75,8 @@ pub(crate) fn read_definition<'a>(
     words: &FormWords<'a>,
     symbols: &Symbols,
 ) -> Result<Definition<'a>, TakeStop>
-    ensures { (s : State) (items : Trees) (closing : Word) → IsScope s.nodes symbols.now (scope_of s) → AreItemsAt words.now 2 items closing [] → AreInOrder (drop 2 words.now)
+    ensures { (s : State) (items : Trees) (closing : Word) → IsScope s.nodes symbols.now (scope_of s)
+        → AreItemsAt words.now 2 items closing [] → AreInOrder (drop 2 words.now)
         → ReadsDefinition s.nodes symbols.now (read_by_head limits s head.DefineFun closing (items_of items)) result }
 {
     match fresh_name(words, &symbols.terms, FIRST) {

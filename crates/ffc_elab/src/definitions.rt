@@ -1,4 +1,4 @@
-//! Names that stand for terms.
+//! Names of terms.
 ghost use Rattle.std.specs.Prelude.{◌≡◌, OnOk, OnErr};
 ghost use Rattle.ffc_smt.specs.Scopes.{Meant, with_name};
 ghost use Rattle.ffc_terms.specs.Codes.{IsMeaning};
@@ -15,7 +15,8 @@ impl Store {
 
     /// Gives a name to what is no constant: on level 0 where declarations are global, else on the innermost level.
     pub(crate) fn push_name(&mut self, name: &[u8], value: Meaning) -> Result<(), AllocError>
-        ensures ok { OnOk result ((k : Known) (m : Meant) → HasGlobalNames k.state → IsDefinition m → IsMeaning k.state.nodes self.old.symbols.terms value m → IsKept k self.old
+        ensures ok { OnOk result ((k : Known) (m : Meant) → HasGlobalNames k.state → IsDefinition m
+            → IsMeaning k.state.nodes self.old.symbols.terms value m → IsKept k self.old
             → IsKept (with_state k (with_name name.now m k.state)) self.new) }
         ensures err { OnErr result (IsSame self.old self.new) }
         ensures others { (self.new.in_force ≡ self.old.in_force) × (self.new.names ≡ self.old.names) }

@@ -95,7 +95,7 @@ pub(crate) fn count_at(words: &FormWords, at: usize, most: u32) -> Result<u32, S
     }
 }
 
-/// What `get-info` knows by a keyword.
+/// What `get-info` answers for a keyword.
 pub(crate) fn info_named(keyword: &[u8]) -> Option<Info>
     ensures { option_map info_of result ≡ found infos keyword.now }
 {

@@ -151,7 +151,8 @@ impl Store {
 
     /// Opens so many levels.
     pub(crate) fn push(&mut self, count: u32) -> Result<(), AllocError>
-        ensures ok { OnOk result ((k : Known) → level_of k.state + count ≤ 65536 → IsKept k self.old → IsKept (with_state k (pushed count k.state)) self.new) }
+        ensures ok { OnOk result ((k : Known) → level_of k.state + count ≤ 65536 → IsKept k self.old
+            → IsKept (with_state k (pushed count k.state)) self.new) }
         ensures err { OnErr result ((k : Known) → IsKept k self.old → IsKept k self.new) }
     {
         let levels = self.marks.len().saturating_add(count as usize);

@@ -30,7 +30,8 @@ fn make_or_keep(
     weight: u32,
 ) -> Result<NodeId, TermStop>
     requires { (t : Term) × IsCodeOf table.old symbols.now.terms t weight code.now }
-    ensures { (t : Term) → IsCodeOf table.old symbols.now.terms t weight code.now → MakesOrKeeps table.old table.new (made [] table.old t) result }
+    ensures { (t : Term) → IsCodeOf table.old symbols.now.terms t weight code.now → MakesOrKeeps table.old table.new
+        (made [] table.old t) result }
 {
     let before = table.len();
     match make(alloc, table, symbols, code, weight) {
@@ -57,7 +58,8 @@ impl Store {
     /// It costs one look-up a node, and at most two steps more than twice the term's weight.
     pub(crate) fn make_term(&mut self, code: &[Op], weight: u32) -> Result<NodeId, TermStop>
         requires { (t : Term) × IsCodeOf self.old.table self.old.symbols.terms t weight code.now }
-        ensures made { (t : Term) → IsCodeOf self.old.table self.old.symbols.terms t weight code.now → MakesOrKeeps self.old.table self.new.table (made [] self.old.table t) result }
+        ensures made { (t : Term) → IsCodeOf self.old.table self.old.symbols.terms t weight code.now
+            → MakesOrKeeps self.old.table self.new.table (made [] self.old.table t) result }
         ensures others { self.new ≡ record self.old { table = self.new.table } }
     {
         make_or_keep(self.alloc, &mut self.table, &self.symbols, code, weight)
@@ -71,7 +73,8 @@ impl Store {
         term: &TermRead,
     ) -> Result<NodeId, TakeStop>
         requires { (t : Term) × IsSoundRead self.old.table self.old.symbols.terms t term.now }
-        ensures fits { (t : Term) → IsSoundRead self.old.table self.old.symbols.terms t term.now → FitsOrNot words.now self.old.table self.new.table t result }
+        ensures fits { (t : Term) → IsSoundRead self.old.table self.old.symbols.terms t term.now
+            → FitsOrNot words.now self.old.table self.new.table t result }
         ensures others { self.new ≡ record self.old { table = self.new.table } }
     {
         if term.weight > MOST_WEIGHT {

@@ -22,7 +22,8 @@ fn field_of(order: u64) -> Option<FieldId>
 /// The field whose order a word names.
 fn named_by(words: &FormWords, at: usize) -> Option<FieldId>
     ensures { All IsOrder (order_in (word_at words.now at).kind (word_at words.now at).bytes)
-        → option_map order_of_id result ≡ first_named None (order_in (word_at words.now at).kind (word_at words.now at).bytes) }
+        → option_map order_of_id result
+        ≡ first_named None (order_in (word_at words.now at).kind (word_at words.now at).bytes) }
 {
     match words.kind(at) {
         TokenKind::Numeral => field_of(number_of(words.bytes(at))),
@@ -36,7 +37,8 @@ fn named_by(words: &FormWords, at: usize) -> Option<FieldId>
 
 /// The field whose order the words of a form name first.
 pub(crate) fn first_named(words: &FormWords) -> Option<FieldId>
-    ensures { All IsOrder (orders_of words.now) → option_map order_of_id result ≡ first_named None (orders_of words.now) }
+    ensures { All IsOrder (orders_of words.now) → option_map order_of_id result
+        ≡ first_named None (orders_of words.now) }
 {
     for i in 0..words.len() {
         match named_by(words, i) {
@@ -53,7 +55,8 @@ impl Store {
 
     /// Keeps the order that a form names first, if none was named before.
     pub(crate) fn name_orders(&mut self, words: &FormWords)
-        ensures { (s : State) → All IsOrder (orders_of words.now) → IsKept (in_state s) self.old → IsKept (in_state (with_orders (orders_of words.now) s)) self.new }
+        ensures { (s : State) → All IsOrder (orders_of words.now) → IsKept (in_state s) self.old
+            → IsKept (in_state (with_orders (orders_of words.now) s)) self.new }
     {
         if self.first.is_none() {
             self.first = first_named(words);

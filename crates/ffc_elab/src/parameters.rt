@@ -4,7 +4,8 @@ ghost use Rattle.ffc_smt.specs.Trees.{Leaf, Tree, Trees, Word};
 ghost use Rattle.ffc_smt.specs.Scopes.{State, scope_of};
 ghost use Rattle.ffc_words.specs.Outcomes.{outcome};
 ghost use Rattle.ffc_words.specs.Words.{AreItemsAt, IsTreeAt, word_at};
-ghost use Rattle.ffc_elab.specs.Defining.{Adds, ReadsClosedSort, ReadsInside, ReadsParameter, ReadsParameterItem, new_among};
+ghost use Rattle.ffc_elab.specs.Defining.{Adds, ReadsClosedSort, ReadsInside, ReadsParameter, ReadsParameterItem};
+ghost use Rattle.ffc_elab.specs.Defining.{new_among};
 ghost use Rattle.ffc_elab.specs.Reading.{AreInOrder, result_as};
 
 use crate::declaring::free_name;
@@ -45,7 +46,8 @@ fn closed_sort(
     sorts: &Names<Sort>,
     at: usize,
 ) -> Result<(Sort, usize), ScriptFault>
-    ensures { (items : Trees) (closing : Word) (rest : List Word) → AreItemsAt words.now at items closing rest → AreInOrder (drop at words.now) → ReadsClosedSort sorts.now items closing at result }
+    ensures { (items : Trees) (closing : Word) (rest : List Word) → AreItemsAt words.now at items closing rest
+        → AreInOrder (drop at words.now) → ReadsClosedSort sorts.now items closing at result }
 {
     let _count = words.len();
     match words.kind(at) {
@@ -67,7 +69,8 @@ fn parameter_at<'a>(
     sorts: &Names<Sort>,
     at: usize,
 ) -> Result<(&'a [u8], Sort, usize), ScriptFault>
-    ensures { (tree : Tree) (rest : List Word) → IsTreeAt words.now at tree rest → AreInOrder (drop at words.now) → ReadsParameter sorts.now names.now tree at result }
+    ensures { (tree : Tree) (rest : List Word) → IsTreeAt words.now at tree rest → AreInOrder (drop at words.now)
+        → ReadsParameter sorts.now names.now tree at result }
 {
     let _count = words.len();
     match words.kind(at) {
@@ -101,7 +104,8 @@ impl Parameters {
         sorts: &Names<Sort>,
         at: usize,
     ) -> Result<usize, TakeStop>
-        ensures { (tree : Tree) (rest : List Word) → IsTreeAt words.now at tree rest → AreInOrder (drop at words.now) → Adds sorts.now self.old self.new tree at result }
+        ensures { (tree : Tree) (rest : List Word) → IsTreeAt words.now at tree rest → AreInOrder (drop at words.now)
+            → Adds sorts.now self.old self.new tree at result }
     {
         match parameter_at(words, &self.names, sorts, at) {
             Err(fault) => Err(TakeStop::Fault(fault)),
@@ -122,7 +126,8 @@ fn parameters_from(
     sorts: &Names<Sort>,
     at: usize,
 ) -> Result<(Parameters, usize), TakeStop>
-    ensures { (s : State) (items : Trees) (closing : Word) (rest : List Word) → sorts.now ≡ (scope_of s).sorts → AreItemsAt words.now at items closing rest → AreInOrder (drop at words.now)
+    ensures { (s : State) (items : Trees) (closing : Word) (rest : List Word) → sorts.now ≡ (scope_of s).sorts
+        → AreItemsAt words.now at items closing rest → AreInOrder (drop at words.now)
         → ReadsInside s items closing at result }
 {
     let mut read = Parameters::new(alloc);
@@ -147,7 +152,8 @@ pub(crate) fn parameters_at(
     sorts: &Names<Sort>,
     at: usize,
 ) -> Result<(Parameters, usize), TakeStop>
-    ensures { (s : State) (items : Trees) (closing : Word) (rest : List Word) → sorts.now ≡ (scope_of s).sorts → AreItemsAt words.now at items closing rest → AreInOrder (drop at words.now)
+    ensures { (s : State) (items : Trees) (closing : Word) (rest : List Word) → sorts.now ≡ (scope_of s).sorts
+        → AreItemsAt words.now at items closing rest → AreInOrder (drop at words.now)
         → ReadsParameterItem s items closing at result }
 {
     let _count = words.len();

@@ -5,12 +5,15 @@ ghost use Rattle.ffc_smt.specs.Faults.{Read, item, read_map, word_fault};
 ghost use Rattle.ffc_smt.specs.Scopes.{State, level_of};
 ghost use Rattle.ffc_smt.specs.Meaning.{found};
 ghost use Rattle.ffc_smt.specs.Terms as smt;
-ghost use Rattle.ffc_smt.specs.CommandReading.{alone, at_most_one, count_read, counted, get_info, get_option, infos, is_too_late, keyword_read, levels_read, limits, logic_read, one, option_read, options, string_read, truth_read};
+ghost use Rattle.ffc_smt.specs.CommandReading.{alone, at_most_one, count_read, counted, get_info, get_option, infos};
+ghost use Rattle.ffc_smt.specs.CommandReading.{is_too_late, keyword_read, levels_read, limits, logic_read, one};
+ghost use Rattle.ffc_smt.specs.CommandReading.{option_read, options, string_read, truth_read};
 ghost use Rattle.ffc_parts.specs.Heads.{setting_of};
 ghost use Rattle.ffc_parts.specs.declared.heads.Head.TheVariants as head;
 ghost use Rattle.ffc_words.specs.Outcomes.{outcome};
 ghost use Rattle.ffc_words.specs.Words.{AreItemsAt, word_at};
-ghost use Rattle.ffc_elab.specs.Reading.{AreInOrder, IsPlainHead, IsWithin, and_then, end_at, keyword_of, plain_of, read_by_head, result_as, up_to};
+ghost use Rattle.ffc_elab.specs.Reading.{AreInOrder, IsPlainHead, IsWithin, and_then, end_at, keyword_of, plain_of};
+ghost use Rattle.ffc_elab.specs.Reading.{read_by_head, result_as, up_to};
 
 use crate::items::{
     after_item, count_at, end_at, info_named, keyword_at, logic_at, string_at, truth_at,
@@ -25,7 +28,7 @@ pub(crate) const FIRST: usize = 2;
 /// How many levels may be open above level 0.
 pub(crate) const MOST_LEVELS: u32 = 65_536;
 
-/// What `get-info` knows.
+/// What `get-info` answers.
 #[derive(Clone, Copy, Debug, PartialEq, Eq)]
 pub(crate) enum Info {
     SolverName,
@@ -88,7 +91,8 @@ fn option_named<'a>(keyword: &[u8]) -> Plain<'a>
 
 /// `get-option`.
 fn get_option<'a>(words: &FormWords<'a>, at: usize) -> Result<Plain<'a>, ScriptFault>
-    ensures reads { result_as plain_of result ≡ and_then (keyword_of (word_at words.now at)) (λ key. Ok (get_option (found options key))) }
+    ensures reads { result_as plain_of result ≡ and_then (keyword_of (word_at words.now at))
+        (λ key. Ok (get_option (found options key))) }
     ensures within { (level : ℕ) → IfOk result (IsWithin level) }
 {
     let key = keyword_at(words, at)?;
@@ -108,7 +112,8 @@ fn information_named<'a>(keyword: &[u8]) -> Plain<'a>
 
 /// `get-info`.
 fn get_info<'a>(words: &FormWords<'a>, at: usize) -> Result<Plain<'a>, ScriptFault>
-    ensures reads { result_as plain_of result ≡ and_then (keyword_of (word_at words.now at)) (λ key. Ok (get_info (found infos key))) }
+    ensures reads { result_as plain_of result ≡ and_then (keyword_of (word_at words.now at))
+        (λ key. Ok (get_info (found infos key))) }
     ensures within { (level : ℕ) → IfOk result (IsWithin level) }
 {
     let key = keyword_at(words, at)?;
@@ -121,7 +126,8 @@ fn ended<'a>(
     at: usize,
     command: Result<Plain<'a>, ScriptFault>,
 ) -> Result<Plain<'a>, ScriptFault>
-    ensures reads { result_as plain_of result ≡ and_then (result_as plain_of command.entry) (λ c. and_then (end_at (word_at words.now at)) (λ u. Ok c)) }
+    ensures reads { result_as plain_of result ≡ and_then (result_as plain_of command.entry)
+        (λ c. and_then (end_at (word_at words.now at)) (λ u. Ok c)) }
     ensures within { (level : ℕ) → IfOk command.entry (IsWithin level) → IfOk result (IsWithin level) }
 {
     let command = command?;
@@ -135,8 +141,10 @@ fn set_known<'a>(
     setting: Setting,
     logic: bool,
 ) -> Result<Plain<'a>, ScriptFault>
-    ensures reads { (s : State) → s.logic ≡ logic → result_as plain_of result ≡ (if is_too_late s (setting_of setting) then Err (word_fault 7 (word_at words.now 2)) else
-        and_then (outcome (truth_read (Leaf (word_at words.now 3)))) (λ b. and_then (end_at (word_at words.now 4)) (λ u. Ok (smt.SetOption (setting_of setting) b)))) }
+    ensures reads { (s : State) → s.logic ≡ logic → result_as plain_of result
+        ≡ (if is_too_late s (setting_of setting) then Err (word_fault 7 (word_at words.now 2)) else
+        and_then (outcome (truth_read (Leaf (word_at words.now 3))))
+        (λ b. and_then (end_at (word_at words.now 4)) (λ u. Ok (smt.SetOption (setting_of setting) b)))) }
     ensures within { (level : ℕ) → IfOk result (IsWithin level) }
 {
     if logic && setting == Setting::GlobalDeclarations {
@@ -149,7 +157,8 @@ fn set_known<'a>(
 
 /// A keyword, and the end of the form at this place.
 fn information<'a>(words: &FormWords<'a>, end: usize) -> Result<Plain<'a>, ScriptFault>
-    ensures reads { result_as plain_of result ≡ and_then (keyword_of (word_at words.now 2)) (λ _. and_then (end_at (word_at words.now end)) (λ u. Ok smt.SetInfo)) }
+    ensures reads { result_as plain_of result ≡ and_then (keyword_of (word_at words.now 2))
+        (λ _. and_then (end_at (word_at words.now end)) (λ u. Ok smt.SetInfo)) }
     ensures within { (level : ℕ) → IfOk result (IsWithin level) }
 {
     keyword_at(words, FIRST)?;
@@ -159,8 +168,10 @@ fn information<'a>(words: &FormWords<'a>, end: usize) -> Result<Plain<'a>, Scrip
 
 /// `set-info`: its value, if there is one, is not looked at.
 fn set_info<'a>(words: &FormWords<'a>) -> Result<Plain<'a>, ScriptFault>
-    ensures reads { (items : Trees) (closing : Word) → AreItemsAt words.now 2 items closing [] → AreInOrder (drop 2 words.now)
-        → result_as plain_of result ≡ outcome (read_map (λ _. smt.SetInfo) (item closing keyword_read at_most_one (items_of items))) }
+    ensures reads { (items : Trees) (closing : Word) → AreItemsAt words.now 2 items closing []
+        → AreInOrder (drop 2 words.now)
+        → result_as plain_of result
+        ≡ outcome (read_map (λ _. smt.SetInfo) (item closing keyword_read at_most_one (items_of items))) }
     ensures within { (level : ℕ) → IfOk result (IsWithin level) }
 {
     let end = after_item(words, FIRST + 1);
@@ -169,7 +180,8 @@ fn set_info<'a>(words: &FormWords<'a>) -> Result<Plain<'a>, ScriptFault>
 
 /// `set-option`.
 fn set_option<'a>(words: &FormWords<'a>, logic: bool) -> Result<Plain<'a>, ScriptFault>
-    ensures reads { (s : State) (items : Trees) (closing : Word) → s.logic ≡ logic → AreItemsAt words.now 2 items closing [] → AreInOrder (drop 2 words.now)
+    ensures reads { (s : State) (items : Trees) (closing : Word) → s.logic ≡ logic
+        → AreItemsAt words.now 2 items closing [] → AreInOrder (drop 2 words.now)
         → result_as plain_of result ≡ outcome (option_read s closing (items_of items)) }
     ensures within { (level : ℕ) → IfOk result (IsWithin level) }
 {
@@ -198,7 +210,9 @@ fn one_level(words: &FormWords, most: u32) -> Result<u32, ScriptFault>
 
 /// So many levels.
 fn some_levels(words: &FormWords, most: u32) -> Result<u32, ScriptFault>
-    ensures reads { result_as (λ n. n) result ≡ and_then (outcome (count_read (up_to most) (Leaf (word_at words.now 2)))) (λ n. and_then (end_at (word_at words.now 3)) (λ u. Ok n)) }
+    ensures reads { result_as (λ n. n) result
+        ≡ and_then (outcome (count_read (up_to most) (Leaf (word_at words.now 2))))
+        (λ n. and_then (end_at (word_at words.now 3)) (λ u. Ok n)) }
     ensures within { IfOk result (λ n. n ≤ most) }
 {
     let count = count_at(words, FIRST, most)?;
@@ -208,7 +222,8 @@ fn some_levels(words: &FormWords, most: u32) -> Result<u32, ScriptFault>
 
 /// How many levels `push` or `pop` speaks of: at most so many, and 1 where the number is left out.
 fn levels(words: &FormWords, most: u32) -> Result<u32, ScriptFault>
-    ensures reads { (items : Trees) (closing : Word) → AreItemsAt words.now 2 items closing [] → AreInOrder (drop 2 words.now)
+    ensures reads { (items : Trees) (closing : Word) → AreItemsAt words.now 2 items closing []
+        → AreInOrder (drop 2 words.now)
         → result_as (λ n. n) result ≡ outcome (levels_read (up_to most) closing (items_of items)) }
     ensures within { IfOk result (λ n. n ≤ most) }
 {
@@ -221,7 +236,8 @@ fn levels(words: &FormWords, most: u32) -> Result<u32, ScriptFault>
 /// `push`, where so many levels are open.
 fn push<'a>(words: &FormWords<'a>, level: u32) -> Result<Plain<'a>, ScriptFault>
     requires { level ≤ 65536 }
-    ensures reads { (s : State) (items : Trees) (closing : Word) → level_of s ≡ level → AreItemsAt words.now 2 items closing [] → AreInOrder (drop 2 words.now)
+    ensures reads { (s : State) (items : Trees) (closing : Word) → level_of s ≡ level
+        → AreItemsAt words.now 2 items closing [] → AreInOrder (drop 2 words.now)
         → result_as plain_of result ≡ outcome (read_by_head limits s head.Push closing (items_of items)) }
     ensures within { IfOk result (IsWithin level) }
 {
@@ -233,7 +249,8 @@ fn push<'a>(words: &FormWords<'a>, level: u32) -> Result<Plain<'a>, ScriptFault>
 
 /// `pop`, where so many levels are open.
 fn pop<'a>(words: &FormWords<'a>, level: u32) -> Result<Plain<'a>, ScriptFault>
-    ensures reads { (s : State) (items : Trees) (closing : Word) → level_of s ≡ level → AreItemsAt words.now 2 items closing [] → AreInOrder (drop 2 words.now)
+    ensures reads { (s : State) (items : Trees) (closing : Word) → level_of s ≡ level
+        → AreItemsAt words.now 2 items closing [] → AreInOrder (drop 2 words.now)
         → result_as plain_of result ≡ outcome (read_by_head limits s head.Pop closing (items_of items)) }
     ensures within { IfOk result (IsWithin level) }
 {
@@ -245,7 +262,8 @@ fn pop<'a>(words: &FormWords<'a>, level: u32) -> Result<Plain<'a>, ScriptFault>
 
 /// A command that is one word.
 fn alone<'a>(words: &FormWords<'a>, command: Plain<'a>) -> Result<Plain<'a>, ScriptFault>
-    ensures reads { (items : Trees) (closing : Word) → AreItemsAt words.now 2 items closing [] → result_as plain_of result ≡ outcome (alone (plain_of command.entry) closing (items_of items)) }
+    ensures reads { (items : Trees) (closing : Word) → AreItemsAt words.now 2 items closing []
+        → result_as plain_of result ≡ outcome (alone (plain_of command.entry) closing (items_of items)) }
     ensures within { (level : ℕ) → IsWithin level command.entry → IfOk result (IsWithin level) }
 {
     ended(words, FIRST, Ok(command))
@@ -260,7 +278,8 @@ pub(crate) fn read_plain<'a>(
 ) -> Result<Plain<'a>, ScriptFault>
     requires plain { IsPlainHead head }
     requires few { level ≤ 65536 }
-    ensures reads { (s : State) (items : Trees) (closing : Word) → s.logic ≡ logic → level_of s ≡ level → AreItemsAt words.now 2 items closing [] → AreInOrder (drop 2 words.now)
+    ensures reads { (s : State) (items : Trees) (closing : Word) → s.logic ≡ logic → level_of s ≡ level
+        → AreItemsAt words.now 2 items closing [] → AreInOrder (drop 2 words.now)
         → result_as plain_of result ≡ outcome (read_by_head limits s head closing (items_of items)) }
     ensures within { IfOk result (IsWithin level) }
 {

@@ -22,7 +22,8 @@ impl Store {
 
     /// The value of an option.
     fn option_value(&self, setting: Setting) -> Result<Command, AllocError>
-        ensures { IfOk result (λ r. (k : Known) → IsKept k self.now → IsAnswered k.state (smt.GetOption (setting_of setting)) r) }
+        ensures { IfOk result (λ r. (k : Known) → IsKept k self.now
+            → IsAnswered k.state (smt.GetOption (setting_of setting)) r) }
     {
         let text = if self.options.get(setting) {
             b"true".as_slice()
@@ -34,7 +35,8 @@ impl Store {
 
     /// How many levels are open, as it is answered.
     fn level_text(&self) -> Result<Text, AllocError>
-        ensures { IfOk result (λ t. (k : Known) → IsKept k self.now → IsAnswered k.state (smt.GetInfo smt.AssertionStackLevels) (command.Say t)) }
+        ensures { IfOk result (λ t. (k : Known) → IsKept k self.now
+            → IsAnswered k.state (smt.GetInfo smt.AssertionStackLevels) (command.Say t)) }
     {
         let levels = self.marks.len();
         let text = format!(in self.alloc; "(:assertion-stack-levels {levels})")?;
@@ -43,7 +45,8 @@ impl Store {
 
     /// What `get-info` answers.
     fn information(&self, info: Info) -> Result<Command, AllocError>
-        ensures { IfOk result (λ r. (k : Known) → IsKept k self.now → IsAnswered k.state (smt.GetInfo (info_of info)) r) }
+        ensures { IfOk result (λ r. (k : Known) → IsKept k self.now → IsAnswered k.state (smt.GetInfo (info_of info))
+            r) }
     {
         match info {
             Info::SolverName => {
@@ -61,7 +64,8 @@ impl Store {
 
     /// What is answered to a command.
     fn answer(&self, plain: Plain) -> Result<Command, AllocError>
-        ensures { IfOk result (λ r. (k : Known) → IsKept k self.now → IsAnswered (quietly_after (plain_of plain.entry) k.state) (plain_of plain.entry) r) }
+        ensures { IfOk result (λ r. (k : Known) → IsKept k self.now
+            → IsAnswered (quietly_after (plain_of plain.entry) k.state) (plain_of plain.entry) r) }
     {
         match plain {
             Plain::SetLogic | Plain::SetOption(..) | Plain::SetInfo => {
@@ -112,7 +116,8 @@ impl Store {
 
     /// Opens the levels that a command opens.
     fn open(&mut self, plain: Plain) -> Result<(), AllocError>
-        ensures ok { OnOk result ((k : Known) → IsWithin (level_of k.state) plain.entry → IsKept k self.old → IsKept (with_state k (opened plain.entry k.state)) self.new) }
+        ensures ok { OnOk result ((k : Known) → IsWithin (level_of k.state) plain.entry → IsKept k self.old
+            → IsKept (with_state k (opened plain.entry k.state)) self.new) }
         ensures err { OnErr result ((k : Known) → IsKept k self.old → IsKept k self.new) }
     {
         match plain {
@@ -124,7 +129,8 @@ impl Store {
     /// Takes a command.
     pub(crate) fn take_plain(&mut self, plain: Plain) -> Result<Command, AllocError>
         ensures ok { IfOk result (λ r. (k : Known) → IsWithin (level_of k.state) plain.entry → IsKept k self.old
-            → IsKept (in_state (quietly_after (plain_of plain.entry) k.state)) self.new × IsAnswered (quietly_after (plain_of plain.entry) k.state) (plain_of plain.entry) r) }
+            → IsKept (in_state (quietly_after (plain_of plain.entry) k.state)) self.new
+            × IsAnswered (quietly_after (plain_of plain.entry) k.state) (plain_of plain.entry) r) }
         ensures err { OnErr result ((k : Known) → IsKept k self.old → IsKept k self.new) }
     {
         let answer = self.answer(plain)?;
@@ -148,7 +154,8 @@ impl Store {
         head: Head,
     ) -> Result<Command, TakeStop>
         requires { IsPlainHead head }
-        ensures { (k : Known) (tree : Tree) → IsKept k self.old → IsKnown k → IsCommandForm words.now k.state tree head → TakesKept k tree self.new result }
+        ensures { (k : Known) (tree : Tree) → IsKept k self.old → IsKnown k → IsCommandForm words.now k.state tree head
+            → TakesKept k tree self.new result }
     {
         let level = self.marks.len().min(MOST_LEVELS as usize) as u32;
         match read_plain(words, head, self.logic, level) {

@@ -19,7 +19,8 @@ impl Store {
 
     /// Names a sort: on level 0 where declarations are global, else on the innermost level.
     fn push_sort(&mut self, name: &[u8], sort: Sort) -> Result<(), AllocError>
-        ensures ok { OnOk result ((k : Known) → IsKnown k → IsKept k self.old → IsKept (with_state k (with_sort name.now sort k.state)) self.new) }
+        ensures ok { OnOk result ((k : Known) → IsKnown k → IsKept k self.old
+            → IsKept (with_state k (with_sort name.now sort k.state)) self.new) }
         ensures err { OnErr result ((k : Known) → IsKept k self.old → IsKept k self.new) }
     {
         let key = Vec::from_slice(self.alloc, name)?;
@@ -53,7 +54,8 @@ impl Store {
 
     /// Takes `define-sort`.
     pub(crate) fn define_sort_command(&mut self, words: &FormWords) -> Result<Command, TakeStop>
-        ensures { (k : Known) (tree : Tree) → IsKept k self.old → IsKnown k → IsFormOf words.now tree → IsCommandForm words.now k.state tree head.DefineSort → TakesKept k tree self.new result }
+        ensures { (k : Known) (tree : Tree) → IsKept k self.old → IsKnown k → IsFormOf words.now tree
+            → IsCommandForm words.now k.state tree head.DefineSort → TakesKept k tree self.new result }
     {
         match define_sort(words, &self.symbols) {
             Err(fault) => Err(TakeStop::Fault(fault)),

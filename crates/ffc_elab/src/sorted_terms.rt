@@ -44,8 +44,10 @@ pub(crate) fn sorted_term(
     wanted: Sort,
     at: usize,
 ) -> Result<TermRead, TakeStop>
-    ensures { (nodes : List Node) (s : State) (parameters : List Parameter) (tree : Tree) (rest : List Word) → locals ≡ map (λ p. (p.name, p.sort)) parameters
-        → IsScope nodes symbols.now (scope_of s) → IsTreeAt words.now at tree rest → ReadsOfSort nodes symbols.now locals wanted (term_of_sort limits s parameters wanted tree) tree at result }
+    ensures { (nodes : List Node) (s : State) (parameters : List Parameter) (tree : Tree) (rest : List Word) → locals
+        ≡ map (λ p. (p.name, p.sort)) parameters
+        → IsScope nodes symbols.now (scope_of s) → IsTreeAt words.now at tree rest
+        → ReadsOfSort nodes symbols.now locals wanted (term_of_sort limits s parameters wanted tree) tree at result }
 {
     match term_at(alloc, words, symbols, locals, at, MOST_HEIGHT) {
         Err(stop) => Err(stop),

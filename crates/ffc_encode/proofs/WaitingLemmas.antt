@@ -1,9 +1,9 @@
 -- Sums that are opened: what waits is worth the same after a node has given way to its parts, in whatever order it lies.
-use Rattle.std.proofs.Common.{◌≡◌, ℕ, zero, suc, ◌+◌, ◌-◌, ◌*◌, ◌^◌, ◌%◌, ◌<◌, Bool, true, false, List, [], ◌∷◌, ◌++◌, length, take, drop, get_or, map, sum_by, All, refl, sym, ap, ap₂, ◌∙◌, subst, arith, append_assoc, append-nil, one-mul, add-mul, mul_assoc, length-append, drop-cons, add-one, ◌≤◌}
+use Rattle.std.proofs.Common.{◌≡◌, ℕ, zero, suc, ◌+◌, ◌-◌, ◌*◌, ◌^◌, ◌%◌, ◌<◌, List, [], ◌∷◌, ◌++◌, length, take, drop, get_or, map, sum_by, All, refl, sym, ap, ap₂, ◌∙◌, subst, arith, append_assoc, append-nil, one-mul, add-mul, mul_assoc, length-append, drop-cons, add-one, ◌≤◌}
 use Rattle.std.proofs.Math.Nat.{mod-mod, mod-eq_of_lt, pow-suc, pow-zero}
-use Rattle.std.proofs.lemmas.Nat.{mul-mod_first, mul-mod_second}
+use Rattle.std.proofs.lemmas.Nat.{mul-mod_second}
 use Rattle.std.specs.List.Sorted.{IsPermutation}
-use Rattle.std.proofs.lemmas.List.Sorted.{IsPermutation-refl, IsPermutation-trans, IsPermutation-cons, IsPermutation-middle, IsPermutation-append_right, IsPermutation-sym, IsPermutation-pop_more, All-permutation, sum_by-IsPermutation}
+use Rattle.std.proofs.lemmas.List.Sorted.{IsPermutation-trans, IsPermutation-cons, IsPermutation-middle, IsPermutation-append_right, IsPermutation-sym, IsPermutation-pop_more, All-permutation, sum_by-IsPermutation}
 use Rattle.std.proofs.lemmas.List.Elements.{All-head, All-tail, All-append, All-cons, All-nil, All-push}
 use Rattle.std.proofs.lemmas.List.Sums.{sum_by-cons, sum_by-append, sum_by_push}
 use Rattle.ffc_field.specs.Modular.{neg_mod}
@@ -18,7 +18,8 @@ use Rattle.ffc_trees.specs.NodePolynomials.{poly_in, sum_of, bit_sum_of, node_po
 use Rattle.ffc_encode.specs.declared.sums.Owed.{Owed}
 use Rattle.ffc_poly.specs.Ordered.{sum_of as total}
 use Rattle.ffc_encode.specs.Waiting.{owed_of, owed, AreOwed, geometric, Takes, IsOfNode}
-use Rattle.ffc_encode.proofs.ExpandLemmas.{node_expands, poly_before}
+use Rattle.ffc_trees.proofs.ProductLemmas.{poly_before}
+use Rattle.ffc_encode.proofs.ExpandLemmas.{node_expands}
 
 -- ---- permutations
 

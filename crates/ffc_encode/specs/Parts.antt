@@ -1,22 +1,13 @@
 -- Nodes whose polynomials are made, and the polynomials that are kept.
-use Rattle.std.specs.Prelude.{ℕ, ◌≤◌, List, [], ◌∷◌, All, IfSome, sum_by}
+use Rattle.std.specs.Prelude.{ℕ, ◌≤◌, List, All, IfSome, sum_by}
 use Rattle.std.specs.Ordering.{nat_cmp}
 use Rattle.std.specs.BTreeMap.{BTreeMap, get}
 use Rattle.ffc_ring.specs.Polynomial.{Terms, SamePolynomial}
 use Rattle.ffc_term.specs.declared.node.Node.{Node}
-use Rattle.ffc_term.specs.declared.node.Node.TheVariants.{Add, Mul, Neg, Bitsum}
 use Rattle.ffc_term.specs.Values.{product_by}
 use Rattle.ffc_term.specs.Tables.{IsFieldAt}
 use Rattle.ffc_term.specs.Measuring.{degree_at, length_at}
 use Rattle.ffc_trees.specs.NodePolynomials.{poly_at}
-
--- the nodes that a node's polynomial is made of
-abbrev pub parts_of : Node → List ℕ
-parts_of (Add ids) = ids
-parts_of (Mul ids) = ids
-parts_of (Neg a) = a ∷ []
-parts_of (Bitsum ids) = ids
-parts_of _ = []
 
 -- a field node within the limits on degree and length
 pub record IsWithin (nodes : List Node) (p id : ℕ) : Type 0 where

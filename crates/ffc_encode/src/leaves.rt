@@ -61,7 +61,8 @@ pub fn leaf<F: Field, O: MonoOrder>(
     id: NodeId,
 ) -> Result<Option<Poly<F, O>>, AllocError>
     requires { IsFieldAt table.now F.ORDER id }
-    ensures { IfOk result (λ o. IfSome o (λ r. SamePolynomial F.ORDER r (scaled (F.value weight) (poly_at table.now id)))) }
+    ensures { IfOk result
+        (λ o. IfSome o (λ r. SamePolynomial F.ORDER r (scaled (F.value weight) (poly_at table.now id)))) }
 {
     match table.node(id) {
         Node::FieldConst(..) => Ok(Some(term(alloc, weight, &[(id, 1)])?)),

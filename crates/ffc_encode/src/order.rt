@@ -22,7 +22,8 @@ struct Visit {
 
 /// Lets nodes wait to be looked at.
 fn visit_all(waiting: &mut BinaryHeap<Visit>, ids: &[NodeId], made: bool) -> Result<(), AllocError>
-    ensures { OnOk result (IsPermutation (map (visit_of made) ids.now ++ heap_items waiting.old) (heap_items waiting.new)) }
+    ensures { OnOk result (IsPermutation (map (visit_of made) ids.now ++ heap_items waiting.old)
+        (heap_items waiting.new)) }
 {
     for id in ids {
         waiting.push(Visit { node: *id, made })?;
@@ -37,7 +38,8 @@ fn visit_parts(
     id: NodeId,
 ) -> Result<(), AllocError>
     requires { id < length table.now }
-    ensures { OnOk result (IsPermutation (visits_of (node_at table.now id) ++ heap_items waiting.old) (heap_items waiting.new)) }
+    ensures { OnOk result (IsPermutation (visits_of (node_at table.now id) ++ heap_items waiting.old)
+        (heap_items waiting.new)) }
 {
     match table.node(id) {
         Node::Add(ids) => visit_all(waiting, ids.as_slice(), false),

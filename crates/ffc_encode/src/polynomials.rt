@@ -105,7 +105,8 @@ fn is_within(table: &NodeTable, id: NodeId) -> Result<(), EncodeStop>
     ensures low { OnOk result (degree_at table.now id ≤ 255) }
     ensures short { OnOk result (length_at table.now id ≤ 65536) }
     ensures too_high { IsErrOf result EncodeStop.TooHigh ↔ (255 < degree_at table.now id) }
-    ensures too_long { IsErrOf result EncodeStop.TooLong ↔ ((degree_at table.now id ≤ 255) × (65536 < length_at table.now id)) }
+    ensures too_long { IsErrOf result EncodeStop.TooLong
+        ↔ ((degree_at table.now id ≤ 255) × (65536 < length_at table.now id)) }
 {
     if table.degree(id) > MOST_DEGREE {
         return Err(EncodeStop::TooHigh);
@@ -162,7 +163,8 @@ impl<'a, F: Field, O: MonoOrder> Polynomials<'a, F, O> {
         requires { IsFieldAt self.old F.ORDER id }
         ensures nodes { self.new ≡ self.old }
         ensures too_high { IsErrOf result EncodeStop.TooHigh ↔ (255 < degree_at self.old id) }
-        ensures too_long { IsErrOf result EncodeStop.TooLong ↔ ((degree_at self.old id ≤ 255) × (65536 < length_at self.old id)) }
+        ensures too_long { IsErrOf result EncodeStop.TooLong
+            ↔ ((degree_at self.old id ≤ 255) × (65536 < length_at self.old id)) }
     {
         is_within(self.table, id)?;
         learn(self.alloc, self.table, &mut self.known, id)?;
@@ -189,7 +191,8 @@ impl<'a, F: Field, O: MonoOrder> Polynomials<'a, F, O> {
         ensures same { IfOk result (λ r. SamePolynomial F.ORDER r.now (poly_at self.old id)) }
         ensures value { IfOk result (λ r. HasValues F.ORDER self.old id r.now) }
         ensures too_high { IsErrOf result EncodeStop.TooHigh ↔ (255 < degree_at self.old id) }
-        ensures too_long { IsErrOf result EncodeStop.TooLong ↔ ((degree_at self.old id ≤ 255) × (65536 < length_at self.old id)) }
+        ensures too_long { IsErrOf result EncodeStop.TooLong
+            ↔ ((degree_at self.old id ≤ 255) × (65536 < length_at self.old id)) }
     {
         let _nodes = self.table.len();
         is_within(self.table, id)?;
@@ -211,7 +214,8 @@ pub fn poly_of<F: Field, O: MonoOrder>(
     ensures same { IfOk result (λ r. SamePolynomial F.ORDER r (poly_at table.now id)) }
     ensures value { IfOk result (λ r. HasValues F.ORDER table.now id r) }
     ensures too_high { IsErrOf result EncodeStop.TooHigh ↔ (255 < degree_at table.now id) }
-    ensures too_long { IsErrOf result EncodeStop.TooLong ↔ ((degree_at table.now id ≤ 255) × (65536 < length_at table.now id)) }
+    ensures too_long { IsErrOf result EncodeStop.TooLong
+        ↔ ((degree_at table.now id ≤ 255) × (65536 < length_at table.now id)) }
 {
     let _nodes = table.len();
     is_within(table, id)?;

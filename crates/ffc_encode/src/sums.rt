@@ -27,7 +27,8 @@ pub struct Owed {
 
 /// Lets a multiple of a node's polynomial wait.
 fn owe<F: Field>(waiting: &mut BinaryHeap<Owed>, node: NodeId, weight: F) -> Result<(), AllocError>
-    ensures { OnOk result (IsPermutation (owed_of node (F.value weight) ∷ heap_items waiting.old) (heap_items waiting.new)) }
+    ensures { OnOk result (IsPermutation (owed_of node (F.value weight) ∷ heap_items waiting.old)
+        (heap_items waiting.new)) }
 {
     waiting.push(Owed {
         node,
@@ -43,7 +44,8 @@ fn owe_all<F: Field>(
     first: F,
     ratio: F,
 ) -> Result<(), AllocError>
-    ensures { OnOk result (IsPermutation (geometric F.ORDER (F.value first) (F.value ratio) ids.now ++ heap_items waiting.old) (heap_items waiting.new)) }
+    ensures { OnOk result (IsPermutation (geometric F.ORDER (F.value first) (F.value ratio) ids.now
+        ++ heap_items waiting.old) (heap_items waiting.new)) }
 {
     let mut weight = first;
     for id in ids {
@@ -65,7 +67,8 @@ fn is_next(waiting: &BinaryHeap<Owed>, node: NodeId) -> bool
 
 /// Takes the node of the greatest number with the sum of its weights.
 fn next<F: Field>(waiting: &mut BinaryHeap<Owed>) -> Option<Owed>
-    ensures { MatchOption result (heap_items waiting.old ≡ []) (λ x. Takes F.ORDER (heap_items waiting.old) x (heap_items waiting.new)) }
+    ensures { MatchOption result (heap_items waiting.old ≡ [])
+        (λ x. Takes F.ORDER (heap_items waiting.old) x (heap_items waiting.new)) }
 {
     let Some(first) = waiting.pop() else {
         return None;
@@ -103,7 +106,8 @@ fn open<F: Field>(
     requires field { IsFieldAt table.now F.ORDER id }
     requires waiting { AreOwed table.now F.ORDER (heap_items waiting.old) }
     ensures waiting { IfOk result (λ b. IsTrue b → AreOwed table.now F.ORDER (heap_items waiting.new)) }
-    ensures same { IfOk result (λ b. IsTrue b → SamePolynomial F.ORDER (owed (node_polys table.now) (heap_items waiting.new))
+    ensures same { IfOk result
+        (λ b. IsTrue b → SamePolynomial F.ORDER (owed (node_polys table.now) (heap_items waiting.new))
         (scaled (F.value weight) (poly_at table.now id) ++ owed (node_polys table.now) (heap_items waiting.old))) }
 {
     match table.node(id) {
@@ -137,8 +141,11 @@ fn settle<F: Field, O: MonoOrder>(
     requires known { AreKnown F.ORDER table.now known.now }
     requires waiting { AreOwed table.now F.ORDER (heap_items waiting.old) }
     ensures waiting { IfOk result (λ b. IsTrue b → AreOwed table.now F.ORDER (heap_items waiting.new)) }
-    ensures same { IfOk result (λ b. IsTrue b → SamePolynomial F.ORDER (sum_of parts.new.items ++ owed (node_polys table.now) (heap_items waiting.new))
-        (sum_of parts.old.items ++ (scaled item.weight (poly_at table.now item.node) ++ owed (node_polys table.now) (heap_items waiting.old)))) }
+    ensures same { IfOk result
+        (λ b. IsTrue b → SamePolynomial F.ORDER (sum_of parts.new.items ++ owed (node_polys table.now)
+        (heap_items waiting.new))
+        (sum_of parts.old.items ++ (scaled item.weight (poly_at table.now item.node) ++ owed (node_polys table.now)
+        (heap_items waiting.old)))) }
 {
     let weight = F::of(u128::from(item.weight));
     if let Some(part) = known.get(&item.node) {

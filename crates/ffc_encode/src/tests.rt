@@ -2,7 +2,8 @@
 ghost use Rattle.std.specs.Prelude.{◌≡◌, ℕ, List, ◌<◌, length, All, IsTrue};
 ghost use Rattle.ffc_field.specs.Orders.{IsOrder};
 ghost use Rattle.ffc_term.specs.declared.node.Node.{Node};
-ghost use Rattle.ffc_term.specs.Tables.{Fits, IsBooleanAt, IsFieldAt, IsFieldIte, IsNumbered, AreBoolean, AreOfOneField, constant_count};
+ghost use Rattle.ffc_term.specs.Tables.{Fits, IsBooleanAt, IsFieldAt, IsFieldIte, IsNumbered, AreBoolean};
+ghost use Rattle.ffc_term.specs.Tables.{AreOfOneField, constant_count};
 
 use crate::{EncodeStop, NodeClause, Polynomials, clauses_of, poly_of};
 use ffc_field::{BabyBear, Field, FieldId};

@@ -6,13 +6,13 @@ ghost use Rattle.ffc_field.specs.Modular.{add_mod, sub_mod, mul_mod, neg_mod, po
 pub trait Field: Copy + Eq {
     ghost ORDER: { ℕ };
 
-    /// The residue that an element stands for.
+    /// The residue of an element.
     ghost value: { Self → ℕ };
 
     /// How many elements there are.
     const ORDER: u64;
 
-    /// The element that a number stands for.
+    /// The element of a number.
     fn of(n: u128) -> Self
         ensures { value result ≡ n % ORDER };
 

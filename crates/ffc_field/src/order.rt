@@ -2,7 +2,8 @@
 ghost use Rattle.std.specs.Prelude.{◌≡◌, ℕ, ◌%◌, ◌<◌, ◌≤◌, ◌^◌};
 ghost use Rattle.std.proofs.Common.{rules};
 ghost use Rattle.ffc_field.specs.Modular.{IsPrime};
-ghost use Rattle.ffc_field.specs.Primality.{two_is_prime, three_is_prime, five_is_prime, seventeen_is_prime, fermat_four_is_prime, baby_bear_is_prime, koala_bear_is_prime};
+ghost use Rattle.ffc_field.specs.Primality.{two_is_prime, three_is_prime, five_is_prime, seventeen_is_prime};
+ghost use Rattle.ffc_field.specs.Primality.{fermat_four_is_prime, baby_bear_is_prime, koala_bear_is_prime};
 
 use crate::word::Word;
 

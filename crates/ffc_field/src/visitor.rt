@@ -6,10 +6,10 @@ use crate::field::Field;
 use crate::id::FieldId;
 use crate::{BabyBear, F2, F3, F5, F17, F65537, Goldilocks, KoalaBear};
 
-/// Work that can be done over each field, for a caller that knows the field by its name alone.
+/// Work that can be done over each field, for a caller that has the name of the field alone.
 ///
 /// The members speak of the order, not of the type: two fields of one order are the same to a contract. `gives` sees
-/// the work as it begins, so what the work changes behind a `&mut` is handed back in `Out`.
+/// the work as it begins, so what the work changes through a `&mut` is returned in `Out`.
 pub trait ForField {
     type Out;
 

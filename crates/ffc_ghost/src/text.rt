@@ -4,7 +4,7 @@ ghost use Rattle.std.specs.Borrow.{ftrue};
 
 use std::marker::Model;
 
-/// Bytes that clauses read as a list, for a reader that lets go of the text that it has read. At run time there are none.
+/// Bytes that clauses read as a list, for a reader that drops the text that it has read. At run time there are none.
 #[derive(Drop)]
 pub struct GhostText {
     pub ghost bytes: { List ℕ },

@@ -1,4 +1,4 @@
--- What each step of the scanner keeps between two tokens, and what it knows at the end of the text.
+-- What each step of the scanner keeps between two tokens, and what holds of it at the end of the text.
 use Rattle.std.proofs.Common.{◌≡◌, ℕ, ◌+◌, ◌-◌, ◌<◌, ◌≤◌, Bool, true, false, cond, List, [], ◌∷◌, ◌++◌, length, take, drop, refl, sym, ap, ◌∙◌, subst, arith, Option, Some, None, Result, Ok, Err, eqb, inl, inr}
 use Rattle.std.specs.Option.{is_some}
 use Rattle.std.specs.Result.{IsErrAnd}
@@ -28,7 +28,7 @@ use Rattle.ffc_lex.proofs.FitsLemmas.{append_nil, nothing, cut, comment_first, w
 use Rattle.ffc_lex.proofs.ReadyLemmas.{stays, arrived, at_start, ahead_first, given}
 use Rattle.ffc_lex.proofs.StepLemmas.{through, halts, skips, bad_fault}
 
--- a byte between two tokens, which nothing stands before
+-- a byte between two tokens, before which there is nothing
 pub record IsFirst (n : ℕ) (text : List ℕ) (c : ℕ) (s : Scan) : Type 0 where
   pub facing : IsFacing n text c s
   pub limit : s.at.index < max_bytes
@@ -192,7 +192,7 @@ pub stop_after : (r : Result (Option (List TokenRecord)) LexStop) (stop : LexSto
 stop_after (Ok x) stop n text s e h = absurd e
 stop_after (Err other) stop n text s e h = subst (λ t. AfterStop t n text s) (sym e) h
 
--- want of memory, which changes nothing
+-- out of memory, which changes nothing
 pub stop_memory : (stop : LexStop) (n : ℕ) (text : List ℕ) (s : Scan) → stop ≡ Memory → IsReady n text s → AfterStop stop n text s
 stop_memory stop n text s e h = subst (λ t. AfterStop t n text s) (sym e) h
 

@@ -7,7 +7,7 @@ use Rattle.ffc_lex.specs.declared.tokens.TokenKind.TheVariants as kinds
 use Rattle.ffc_lex.specs.Bytes.{byte_class}
 use Rattle.ffc_lex.specs.Lexeme.{Lexeme, Skip, Token as Lexed, Bad, Unended, lexeme_at, comment_at, outside_at}
 
--- a token other than a parenthesis stands inside one
+-- a token other than a parenthesis is inside one
 abbrev pub FitsDepth : TokenKind → ℕ → Type 0
 FitsDepth kinds.LeftParen depth = Unit {0}
 FitsDepth kinds.RightParen depth = Unit {0}

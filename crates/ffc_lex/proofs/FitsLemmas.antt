@@ -99,7 +99,7 @@ string_texted depth xs c f e t = string_on false false depth xs c f (λ n cs. st
 pub string_paired : (depth : ℕ) (xs : List ℕ) (c : ℕ) → IsString true depth xs → eqb c 34 ≡ true → IsString false depth (xs ++ c ∷ [])
 string_paired depth xs c f e = string_on true false depth xs c f (λ n cs. string_pair n c cs e)
 
--- the lexeme behind the byte that leads it
+-- the lexeme after the byte that leads it
 
 led_at : (class : ByteClass) (p : ℕ → Bool) (depth : ℕ) (xs ys : List ℕ) → (f : IsLed class p depth xs) → lexeme_at depth (xs ++ ys) ≡ inside_at class f.head (f.body ++ ys)
 led_at class p depth xs ys f = ap (λ zs. lexeme_at depth (zs ++ ys)) f.split ∙ at_inside depth f.head (f.body ++ ys) class f.inside f.led

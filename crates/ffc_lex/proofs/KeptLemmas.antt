@@ -46,7 +46,7 @@ ready_extends n text piece s r =
       fits = subst (λ xs. Fits s.mode s.depth xs) (sym same) r.fits;
     }
 
--- a text with a piece behind it, up to the first byte past the limit
+-- a text with a piece after it, up to the first byte past the limit
 front_of : (text piece : List ℕ) (limit room : ℕ) → limit ≡ length text + room → text ++ take (min (length piece) room) piece ≡ take limit (text ++ piece)
 front_of text piece limit room e =
     let front : take (min (length piece) room) piece ≡ take room piece = ap (λ k. take k piece) (min_comm (length piece) room) ∙ take_min room piece in
@@ -127,7 +127,7 @@ kept_fed text piece more given fault s held wider bytes start end k low wider_is
     } in
     subst (λ xs. IsKept xs given fault s wider bytes start end) (sym more_is) all
 
--- where a token of the last form stands
+-- where a token of the last form is
 pub token_within : (token : Token) (text : List ℕ) (given kept : ℕ) (bytes : List ℕ) (start end : ℕ) → IsLastForm text given kept bytes start end
     → Contains (last_form_of text given) token → IsBetween start end token
 token_within token text given kept bytes start end form is =

@@ -40,7 +40,7 @@ prefix_more p xs c cs all on =
     let e : length xs < length xs + (1 + prefix_len p cs) = omega arith in
     rw (prefix_len-append p xs (c ∷ cs), same, on) e
 
--- the element behind a front
+-- the element after a front
 pub get_seam : (xs : List ℕ) (c : ℕ) (cs : List ℕ) → get_or (xs ++ c ∷ cs) (length xs) 0 ≡ c
 get_seam [] c cs = refl
 get_seam (x ∷ xs) c cs = get_seam xs c cs

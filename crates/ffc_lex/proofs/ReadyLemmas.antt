@@ -16,7 +16,7 @@ use Rattle.ffc_lex.specs.Scan.{Scan, Fits, IsReady, IsFacing, IsStopped, IsForm,
 use Rattle.ffc_lex.proofs.ListLemmas.{drop-drop, rest_from}
 use Rattle.ffc_lex.proofs.ReadingLemmas.{read_after, read_form, read_end}
 
--- the place behind one more byte
+-- the place after one more byte
 pub place_after-snoc : (xs : List ℕ) (c : ℕ) (place : Place) → place_after (xs ++ c ∷ []) place ≡ past c (place_after xs place)
 place_after-snoc [] c place = refl
 place_after-snoc (x ∷ xs) c place = place_after-snoc xs c (past x place)
@@ -68,7 +68,7 @@ stays n text c s mode f l fits =
       fits = subst (λ xs. Fits mode s.depth xs) (sym (scanned-snoc n text c s f)) fits;
     }
 
--- the place behind so many bytes, and what is scanned from there on
+-- the place after so many bytes, and what is scanned from there on
 abbrev pub arrived : ℕ → Place → Open → Scan
 arrived kept place left = record { kept = kept; at = place; start = place; mode = modes.Between; depth = left.depth; first = left.first; tokens = left.tokens }
 

@@ -81,7 +81,7 @@ limit_fault n text c s f limit e =
     next_past (scanned text s ++ c ∷ cs) s.start (open_of s) (omega arith)
     ∙ ap (λ p. Halt (Stopped (fault_at 17 p))) (place_so_far n text s (max_bytes - s.start.index) (c ∷ cs) f.ready i))
 
--- a byte that can't stand there
+-- a byte that is not allowed there
 pub bad_fault : (n : ℕ) (text : List ℕ) (c : ℕ) (s : Scan) → IsFacing n text c s → s.at.index < max_bytes
     → ((cs : List ℕ) → lexeme_at s.depth (scanned text s ++ c ∷ cs) ≡ Bad (length (scanned text s)) (length (scanned text s) + 1))
     → IsStopped n text (fault_at 1 s.at)

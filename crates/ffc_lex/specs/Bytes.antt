@@ -1,6 +1,6 @@
 -- Classes of bytes: SMT-LIB 2.6, section 3.1 (lexicon), for this project's scripts. A word here is what the standard
 -- spells numerals, decimals, simple symbols and reserved words with; outside strings, quoted symbols and comments no
--- byte above 126 stands.
+-- byte above 126 is allowed.
 use Rattle.std.specs.Prelude.{ℕ, Bool, false, ◌==◌, ◌&&◌, ◌||◌, nat_le, codes, if◌then◌else◌}
 use Rattle.std.specs.List.{list_any}
 use Rattle.ffc_lex.specs.declared.byte_classes.ByteClass.{ByteClass}
@@ -22,7 +22,7 @@ is_mark c = list_any (λ d. c == d) (codes "~!@$%^&*_-+=<>.?/")
 unfoldable pub is_word_byte : ℕ → Bool
 is_word_byte c = is_letter c || is_digit c || is_mark c
 
--- tab, LF, CR and blank
+-- tab, LF, CR and space
 abbrev pub is_white : ℕ → Bool
 is_white c = c == 9 || c == 10 || c == 13 || c == 32
 
@@ -30,11 +30,11 @@ is_white c = c == 9 || c == 10 || c == 13 || c == 32
 unfoldable pub is_line_end : ℕ → Bool
 is_line_end c = c == 10 || c == 13
 
--- what may stand inside a string or a quoted symbol, but for what ends it: 32 to 126, 128 to 255, tab, LF and CR
+-- what may be inside a string or a quoted symbol, but for what ends it: 32 to 126, 128 to 255, tab, LF and CR
 unfoldable pub is_text_byte : ℕ → Bool
 is_text_byte c = is_white c || (nat_le 32 c && nat_le c 126) || (nat_le 128 c && nat_le c 255)
 
--- what may stand between the bars of a quoted symbol: no bar and no backslash
+-- what may be between the bars of a quoted symbol: no bar and no backslash
 unfoldable pub is_quoted_byte : ℕ → Bool
 is_quoted_byte c = if c == 124 then false else if c == 92 then false else is_text_byte c
 

@@ -1,5 +1,5 @@
--- What a lexer keeps true of its fields: of the text it holds a window, which are the bytes behind those that were let go,
--- and the last form that was given, from its first token to behind its last, in the window or beside it.
+-- What a lexer keeps true of its fields: of the text it holds a window, which are the bytes after those that were dropped,
+-- and the last form that was given, from its first token to the end of its last, in the window or beside it.
 use Rattle.std.specs.Prelude.{◌≡◌, ℕ, ◌+◌, ◌-◌, ◌<◌, ◌≤◌, List, ◌++◌, All, length, take, drop, Option, None}
 use Rattle.ffc_lex.specs.declared.faults.LexFault.{LexFault}
 use Rattle.ffc_lex.specs.Limits.{max_bytes}
@@ -10,7 +10,7 @@ use Rattle.ffc_lex.specs.Scan.{Scan, IsBetween, IsReady}
 abbrev pub IsBeside : List ℕ → ℕ → List ℕ → ℕ → ℕ → Type 0
 IsBeside text kept bytes start end = start < kept → bytes ≡ take (end - start) (drop start text)
 
--- the tokens of the last form stand in a range, of which the bytes are held
+-- the tokens of the last form are in a range, of which the bytes are held
 pub record IsLastForm (text : List ℕ) (given kept : ℕ) (bytes : List ℕ) (start end : ℕ) : Type 0 where
   pub tokens : (more : List ℕ) → All (IsBetween start end) (last_form_of (text ++ more) given)
   pub order : start ≤ end

@@ -1,4 +1,4 @@
--- What a text begins with: a token, white space, a comment, or a byte that can't stand there. SMT-LIB 2.6, section 3.1,
+-- What a text begins with: a token, white space, a comment, or a byte that is not allowed there. SMT-LIB 2.6, section 3.1,
 -- by cases on the first byte and by longest words. The bytes of a text are all that has come; more may follow.
 use Rattle.std.specs.Prelude.{ℕ, ◌+◌, Bool, true, false, ◌==◌, nat_lt, List, [], ◌∷◌, length, take, if◌then◌else◌, Option, Some, None, is_some, slice_index}
 use Rattle.std.specs.List.{prefix_len, position_or_len}
@@ -14,39 +14,39 @@ pub data Lexeme : Type 0 where
   Skip : ℕ → Lexeme
   -- a token of so many bytes
   Token : TokenKind → ℕ → Lexeme
-  -- behind so many bytes one can't stand; the second number is of the bytes that say so
+  -- after so many bytes none is allowed; the second number is of the bytes that say so
   Bad : ℕ → ℕ → Lexeme
   -- all bytes that have come belong to it, and more may; whether they would be a whole token, or a part that may go on
   Unended : Bool → Lexeme
 
--- the word at the front and what stands before it, of so many bytes, are a token of this kind or none
+-- the word at the front and what comes before it, of so many bytes, are a token of this kind or none
 abbrev pub judged : Option TokenKind → ℕ → Lexeme
 judged None size = Bad 0 size
 judged (Some kind) size = Token kind size
 
--- the longest word at the front, behind so many bytes of the token
+-- the longest word at the front, after so many bytes of the token
 unfoldable pub word_at : (List ℕ → Option TokenKind) → ℕ → List ℕ → Lexeme
 word_at kind before bytes =
     let n = prefix_len is_word_byte bytes in
     if nat_lt n (length bytes) then judged (kind (take n bytes)) (before + n) else Unended (is_some (kind bytes))
 
--- behind a semicolon
+-- after a semicolon
 unfoldable pub comment_at : List ℕ → Lexeme
 comment_at bytes =
     let n = position_or_len is_line_end bytes in
     if nat_lt n (length bytes) then Skip (n + 2) else Unended true
 
--- the byte behind the text of a quoted symbol
+-- the byte after the text of a quoted symbol
 abbrev pub closed : ℕ → ℕ → Lexeme
 closed c n = if c == 124 then Token Quoted (n + 2) else Bad (n + 1) (n + 2)
 
--- behind a bar
+-- after a bar
 unfoldable pub quoted_at : List ℕ → Lexeme
 quoted_at bytes =
     let n = prefix_len is_quoted_byte bytes in
     if nat_lt n (length bytes) then closed (slice_index bytes n) n else Unended true
 
--- behind so many bytes of a string, the last of them a quotation mark that may be the first of two or not
+-- after so many bytes of a string, the last of them a quotation mark that may be the first of two or not
 unfoldable pub string_at : ℕ → Bool → List ℕ → Lexeme
 string_at n mark [] = Unended true
 string_at n false (c ∷ cs) =

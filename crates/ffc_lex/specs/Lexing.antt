@@ -15,7 +15,7 @@ pub record Lexing : Type 0 where
   pub fault : Option LexFault
   pub finished : Bool
 
--- The text with a piece behind it. What follows the first byte past the limit is ignored.
+-- The text with a piece after it. What follows the first byte past the limit is ignored.
 abbrev pub extended : List ℕ → List ℕ → List ℕ
 extended text piece = take (max_bytes + 1) (text ++ piece)
 
@@ -32,7 +32,7 @@ abbrev pub due_fault : Option LexFault → List ℕ → ℕ → Option LexFault
 due_fault (Some fault) text given = Some fault
 due_fault None text given = fault_behind (next_form_of text given) text
 
--- the form that is to be answered now: none behind a fault
+-- the form that is to be answered now: none after a fault
 abbrev pub due_form : Option LexFault → List ℕ → ℕ → Option (List Token)
 due_form (Some fault) text given = None
 due_form None text given = next_form_of text given

@@ -1,4 +1,4 @@
--- Where the tokens of a form stand: each after the one before it, all of them in the text, and the first is the
+-- Where the tokens of a form are: each after the one before it, all of them in the text, and the first is the
 -- parenthesis that opens it.
 use Rattle.std.specs.Prelude.{◌≡◌, ℕ, ◌+◌, ◌<◌, ◌≤◌, ◌⊎◌, List, ◌∷◌, length, All}
 use Rattle.std.specs.List.{AllPairs}

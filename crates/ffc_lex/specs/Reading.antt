@@ -20,7 +20,7 @@ past c place = record {
   column = if c == 10 then 1 else place.column + 1;
 }
 
--- the place behind these bytes
+-- the place after these bytes
 abbrev pub place_after : List ℕ → Place → Place
 place_after [] place = place
 place_after (c ∷ cs) place = place_after cs (past c place)

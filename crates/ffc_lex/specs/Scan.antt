@@ -21,7 +21,7 @@ use Rattle.ffc_lex.specs.Lexeme.{Bad, lexeme_at, string_at}
 use Rattle.ffc_lex.specs.Reading.{past, place_after, token_at, Open, Reading, Stopped, halted, read, reading_of, forms_of}
 
 pub record Scan : Type 0 where
-  -- how many bytes of the text were let go
+  -- how many bytes of the text were dropped
   pub kept : ℕ
   pub at : Place
   pub start : Place
@@ -50,7 +50,7 @@ abbrev pub IsBetween : ℕ → ℕ → Token → Type 0
 IsBetween low high t = (low ≤ t.start) × (t.start + t.length ≤ high)
 
 -- The tokens end before a place, none begins before the first, and no byte from that one on, or from where the next token
--- may begin, was let go.
+-- may begin, was dropped.
 pub record IsHeld (gone next high : ℕ) (tokens : List Token) : Type 0 where
   pub kept : gone ≤ first_start tokens next
   pub between : All (IsBetween (first_start tokens next) high) tokens
@@ -112,7 +112,7 @@ pub record IsLed (class : ByteClass) (p : ℕ → Bool) (depth : ℕ) (bytes : L
   pub passed : prefix_len p body ≡ length body
   pub inside : 0 < depth
 
--- the same, in a comment, which may stand outside a form
+-- the same, in a comment, which may be outside a form
 pub record IsComment (bytes : List ℕ) : Type 0 where
   pub head : ℕ
   pub body : List ℕ
@@ -193,7 +193,7 @@ kind_in Quoted bytes = Some kinds.Str
 kind_in Str bytes = Some kinds.Str
 kind_in StrMark bytes = Some kinds.Str
 
--- a byte that begins what is scanned in this mode inside a form, and can't stand outside of one
+-- a byte that begins what is scanned in this mode inside a form, and is not allowed outside of one
 pub record Begins (mode : Mode) (c : ℕ) : Type 0 where
   pub inside : (depth : ℕ) → 0 < depth → Fits mode depth (c ∷ [])
   pub outside : (rest : List ℕ) → lexeme_at 0 (c ∷ rest) ≡ Bad 0 1
@@ -211,12 +211,12 @@ IsNoParenthesis classes.Hash = Unit {0}
 IsNoParenthesis classes.Word = Unit {0}
 IsNoParenthesis classes.Other = Unit {0}
 
--- the text may be read on from here, behind this byte of it
+-- the text may be read on from here, after this byte of it
 pub record IsFacing (n : ℕ) (text : List ℕ) (c : ℕ) (s : Scan) : Type 0 where
   pub ready : IsReady n text s
   pub next : slice_get text s.at.index ≡ Some c
 
--- what stands after a call that has stopped: where memory was wanting, the same text may be read on
+-- what is left after a call that has stopped: where memory ran out, the same text may be read on
 abbrev pub AfterStop : LexStop → ℕ → List ℕ → Scan → Type 0
 AfterStop (Fault fault) n text s = IsStopped n text fault
 AfterStop Memory n text s = IsReady n text s

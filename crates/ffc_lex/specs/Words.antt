@@ -48,7 +48,7 @@ abbrev pub is_signed_residue : List ℕ → Bool
 is_signed_residue [] = false
 is_signed_residue (c ∷ cs) = if c == 45 then is_residue cs else is_residue (c ∷ cs)
 
--- f, an optional minus sign, a numeral, m, and a numeral: what stands after the # of a field literal
+-- f, an optional minus sign, a numeral, m, and a numeral: what comes after the # of a field literal
 unfoldable pub is_field_word : List ℕ → Bool
 is_field_word [] = false
 is_field_word (c ∷ cs) = if c == 102 then is_signed_residue cs else false

@@ -5,7 +5,7 @@ ghost use Rattle.ffc_lex.specs.Bytes.{byte_class, is_line_end, is_quoted_byte, i
 /// What a byte is, at the start of a token or between two.
 #[derive(Clone, Copy, Debug, PartialEq, Eq)]
 pub enum ByteClass {
-    /// Tab, LF, CR and blank.
+    /// Tab, LF, CR and space.
     White,
     Semicolon,
     LeftParen,
@@ -16,7 +16,7 @@ pub enum ByteClass {
     Hash,
     /// What words are made of.
     Word,
-    /// What stands only in strings, quoted symbols and comments.
+    /// What occurs only in strings, quoted symbols and comments.
     Other,
 }
 
@@ -68,7 +68,7 @@ pub(crate) fn is_quote(byte: u8) -> bool
     byte == b'"'
 }
 
-/// Whether a byte may stand in a string.
+/// Whether a byte may occur in a string.
 #[tactic(auto, unfolding(crate::specs::Bytes::is_text_byte))]
 pub(crate) fn is_text(byte: u8) -> bool
     ensures { result ≡ is_text_byte byte }
@@ -76,7 +76,7 @@ pub(crate) fn is_text(byte: u8) -> bool
     matches!(byte, b'\t' | b'\n' | b'\r' | 32..=126 | 128..=255)
 }
 
-/// Whether a byte may stand between the bars of a quoted symbol.
+/// Whether a byte may occur between the bars of a quoted symbol.
 #[tactic(auto, unfolding(crate::specs::Bytes::is_quoted_byte))]
 pub(crate) fn is_quoted(byte: u8) -> bool
     ensures { result ≡ is_quoted_byte byte }

@@ -6,7 +6,7 @@ use std::alloc::{AllocError, AllocFailed};
 pub struct LexFault {
     pub line: u64,
     pub column: u64,
-    /// 1 for a byte that can't stand there, 2 for a text that ends inside a form, 3 for a parenthesis that closes no form, 14
+    /// 1 for a byte that is not allowed there, 2 for a text that ends inside a form, 3 for a parenthesis that closes no form, 14
     /// for one that opens too many, and 17 for a byte too many.
     pub code: u8,
 }
@@ -15,7 +15,7 @@ pub struct LexFault {
 #[derive(Clone, Copy, Debug, PartialEq, Eq)]
 pub enum LexStop {
     Fault(LexFault),
-    /// Memory was wanting.
+    /// Out of memory.
     Memory,
 }
 

@@ -4,7 +4,7 @@ ghost use Rattle.ffc_lex.specs.Kept.{IsBeside};
 
 use std::alloc::{AllocError, Global};
 
-/// Where the form stands in the text, and its bytes once the window has let them go.
+/// Where the form is in the text, and its bytes once the window has dropped them.
 #[derive(Drop)]
 pub(crate) struct LastForm {
     pub(crate) start: u64,
@@ -24,7 +24,8 @@ impl LastForm {
         requires within { self.old.end ≤ kept + length window.now }
         ensures start { self.new.start ≡ self.old.start }
         ensures end { self.new.end ≡ self.old.end }
-        ensures bytes { OnOk result ((text : List ℕ) → window.now ≡ drop kept text → IsBeside text kept self.old.bytes.items self.old.start self.old.end
+        ensures bytes { OnOk result ((text : List ℕ) → window.now ≡ drop kept text
+            → IsBeside text kept self.old.bytes.items self.old.start self.old.end
             → self.new.bytes.items ≡ take (self.old.end - self.old.start) (drop self.old.start text)) }
         ensures err { OnErr result (self.new ≡ self.old) }
     {
@@ -52,7 +53,8 @@ impl LastForm {
         requires to { start + count ≤ self.now.end }
         requires beside { self.now.start < kept → length self.now.bytes.items ≡ self.now.end - self.now.start }
         requires within { self.now.end ≤ kept + length window.now }
-        ensures { (text : List ℕ) → window.now ≡ drop kept text → IsBeside text kept self.now.bytes.items self.now.start self.now.end
+        ensures { (text : List ℕ) → window.now ≡ drop kept text → IsBeside text kept self.now.bytes.items self.now.start
+            self.now.end
             → result.now ≡ take count (drop start text) }
     {
         if self.start < kept {

@@ -7,7 +7,7 @@ pub fn reading_goes_on()
     ensures { GoesOn }
 {}
 
-/// The tokens of a form stand in order, in the text, and the first one opens the form.
+/// The tokens of a form are in order, in the text, and the first one opens the form.
 pub fn forms_are_in_order()
     ensures { FormsAreInOrder }
 {}

@@ -1,5 +1,6 @@
 //! The lexer: bytes in any pieces to forms and text faults.
-ghost use Rattle.std.specs.Prelude.{◌≡◌, ℕ, ◌+◌, ◌-◌, ◌≤◌, false, true, [], length, take, drop, Some, None, IfOk, IfErr, IfSome, IfNone, OnOk};
+ghost use Rattle.std.specs.Prelude.{◌≡◌, ℕ, ◌+◌, ◌-◌, ◌≤◌, false, true, [], length, take, drop, Some, None, IfOk};
+ghost use Rattle.std.specs.Prelude.{IfErr, IfSome, IfNone, OnOk};
 ghost use Rattle.ffc_lex.specs.Lexing.{IsOfLastForm, IsRead, MatchStop, due_fault, due_form, end_fault, extended};
 
 use crate::MAX_BYTES;
@@ -18,14 +19,14 @@ const MAX_DEAD: usize = 4096;
 /// kept: from the first fault on, each call answers that fault.
 ///
 /// Each byte is looked at once, and a word's once more when it ends, so the time is linear in the text, whatever the pieces
-/// are. Of the text it holds the form that isn't ended, the last one that was given and what was fed behind them: its memory
+/// are. Of the text it holds the form that isn't ended, the last one that was given and what was fed after them: its memory
 /// is at most a constant times the bytes of these and of the largest piece.
 #[derive(Drop)]
 pub struct Lexer {
     alloc: Global,
     /// The text so far.
     told: GhostText,
-    /// The text without the bytes that were let go.
+    /// The text without the bytes that were dropped.
     window: Vec<u8>,
     scanner: Scanner,
     given: u64,
@@ -42,7 +43,8 @@ impl Model for Lexer {
 
     ghost view = { λ l. record { text = l.told.bytes; given = l.given; fault = l.fault; finished = l.finished } };
 
-    ghost invariant = { λ l. IsKept l.told.bytes l.given l.fault l.scanner l.window.items l.form.bytes.items l.form.start l.form.end };
+    ghost invariant = { λ l. IsKept l.told.bytes l.given l.fault l.scanner l.window.items l.form.bytes.items
+        l.form.start l.form.end };
 }
 
 impl Lexer {
@@ -71,7 +73,8 @@ impl Lexer {
         requires { self.old.finished ≡ false }
         ensures ok { OnOk result ((self.old.fault ≡ None)
             × (self.new ≡ record self.old { text = extended self.old.text piece.now })) }
-        ensures stop { IfErr result (λ stop. (self.new ≡ self.old) × MatchStop stop (λ fault. self.old.fault ≡ Some fault) (self.old.fault ≡ None)) }
+        ensures stop { IfErr result (λ stop. (self.new ≡ self.old)
+            × MatchStop stop (λ fault. self.old.fault ≡ Some fault) (self.old.fault ≡ None)) }
     {
         if let Some(fault) = self.fault {
             return Err(LexStop::Fault(fault));
@@ -109,11 +112,13 @@ impl Lexer {
     /// Every other byte is judged at once.
     pub fn next_form(&mut self) -> Result<Option<Form>, LexStop>
         ensures form { IfOk result (λ found. found ≡ due_form self.old.fault self.old.text self.old.given) }
-        ensures given { IfOk result (λ found. IfSome found (λ form. self.new ≡ record self.old { given = self.old.given + 1 })) }
+        ensures given { IfOk result
+            (λ found. IfSome found (λ form. self.new ≡ record self.old { given = self.old.given + 1 })) }
         ensures none { IfOk result (λ found. IfNone found (self.new ≡ self.old)) }
         ensures no_fault { OnOk result (due_fault self.old.fault self.old.text self.old.given ≡ None) }
         ensures stop { IfErr result (λ stop. MatchStop stop
-            (λ fault. (due_fault self.old.fault self.old.text self.old.given ≡ Some fault) × (self.new ≡ record self.old { fault = Some fault }))
+            (λ fault. (due_fault self.old.fault self.old.text self.old.given ≡ Some fault)
+            × (self.new ≡ record self.old { fault = Some fault }))
             (self.new ≡ self.old)) }
     {
         if let Some(fault) = self.fault {
@@ -142,7 +147,8 @@ impl Lexer {
         ensures ok { OnOk result ((end_fault self.old.fault self.old.text ≡ None)
             × (self.new ≡ record self.old { finished = true })) }
         ensures stop { IfErr result (λ stop. MatchStop stop
-            (λ fault. (end_fault self.old.fault self.old.text ≡ Some fault) × (self.new ≡ record self.old { fault = Some fault; finished = true }))
+            (λ fault. (end_fault self.old.fault self.old.text ≡ Some fault)
+            × (self.new ≡ record self.old { fault = Some fault; finished = true }))
             (self.new ≡ self.old)) }
     {
         if let Some(fault) = self.fault {

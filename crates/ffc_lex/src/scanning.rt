@@ -1,8 +1,11 @@
 //! The scanner: looks at each byte of a text once, in order, and makes tokens of them.
-ghost use Rattle.std.specs.Prelude.{◌≡◌, ℕ, ◌+◌, ◌-◌, ◌<◌, ◌≤◌, ◌==◌, false, if◌then◌else◌, List, [], drop, length, IfOk, IfSome, OnOk, OnErr};
+ghost use Rattle.std.specs.Prelude.{◌≡◌, ℕ, ◌+◌, ◌-◌, ◌<◌, ◌≤◌, ◌==◌, false, if◌then◌else◌, List, [], drop, length};
+ghost use Rattle.std.specs.Prelude.{IfOk, IfSome, OnOk, OnErr};
 ghost use Rattle.ffc_lex.specs.Bytes.{byte_class};
 ghost use Rattle.ffc_lex.specs.Reading.{end_fault_of, fault_at as fault_at_place, origin, past};
-ghost use Rattle.ffc_lex.specs.Scan.{AfterByte, AfterEnd, AfterScan, AfterTake, Begins, IsFacing, IsNoParenthesis, IsReady, begun, is_ended_by, first_start, floor_of, IsHeld, kind_in, moved, reach, scanned, settled, with_token, with_token_through};
+ghost use Rattle.ffc_lex.specs.Scan.{AfterByte, AfterEnd, AfterScan, AfterTake, Begins, IsFacing, IsNoParenthesis};
+ghost use Rattle.ffc_lex.specs.Scan.{IsReady, begun, is_ended_by, first_start, floor_of, IsHeld, kind_in, moved, reach};
+ghost use Rattle.ffc_lex.specs.Scan.{scanned, settled, with_token, with_token_through};
 
 use crate::byte_classes::{ByteClass, class_of, ends_line, is_quote, is_quoted, is_text, is_word};
 use crate::faults::{LexFault, LexStop};
@@ -14,7 +17,7 @@ use std::alloc::{AllocError, Global};
 use std::marker::Model;
 use std::mem;
 
-/// The place behind a byte.
+/// The place after a byte.
 fn place_past(byte: u8, place: Place) -> Place
     requires index { place.index < MAX_BYTES }
     requires line { place.line ≤ place.index + 1 }
@@ -53,7 +56,7 @@ fn fault_at(place: Place, code: u8) -> LexStop
 #[derive(Drop)]
 pub(crate) struct Scanner {
     alloc: Global,
-    /// How many bytes in front of the text were let go.
+    /// How many bytes in front of the text were dropped.
     kept: u64,
     /// The next byte.
     at: Place,
@@ -72,7 +75,15 @@ impl Model for Scanner {
 
     ghost Value = { Scan };
 
-    ghost view = { λ s. record { kept = s.kept; at = s.at; start = s.start; mode = s.mode; depth = s.depth; first = s.first; tokens = s.tokens.items } };
+    ghost view = { λ s. record {
+      kept = s.kept;
+      at = s.at;
+      start = s.start;
+      mode = s.mode;
+      depth = s.depth;
+      first = s.first;
+      tokens = s.tokens.items;
+    } };
 
     ghost invariant = { λ s. IsInRange s.kept s.at s.start s.mode s.depth s.tokens.items };
 }
@@ -98,7 +109,7 @@ impl Scanner {
         }
     }
 
-    /// How many bytes in front of the text were let go.
+    /// How many bytes in front of the text were dropped.
     pub(crate) fn kept(&self) -> u64
         ensures result { result ≡ self.now.kept }
         ensures within { result ≤ self.now.at.index }
@@ -216,7 +227,8 @@ impl Scanner {
     /// What token the bytes from the start to the next byte are, if they are one.
     fn kind_so_far(&self, window: &[u8]) -> Option<TokenKind>
         requires { self.now.at.index ≤ self.now.kept + length window.now }
-        ensures { (text : List ℕ) → window.now ≡ drop self.now.kept text → result ≡ kind_in self.now.mode (scanned text self.now) }
+        ensures { (text : List ℕ) → window.now ≡ drop self.now.kept text → result
+            ≡ kind_in self.now.mode (scanned text self.now) }
     {
         match self.mode {
             Mode::Word => kind_of_word(self.so_far(window)),
@@ -229,7 +241,8 @@ impl Scanner {
     /// The fault of a text that ends here.
     pub(crate) fn fault_at_end(&self, window: &[u8]) -> Option<LexFault>
         requires { self.now.at.index ≤ self.now.kept + length window.now }
-        ensures { (n : ℕ) (text : List ℕ) → window.now ≡ drop self.now.kept text → IsReady n text self.now → self.now.at.index ≡ length text → result ≡ end_fault_of text }
+        ensures { (n : ℕ) (text : List ℕ) → window.now ≡ drop self.now.kept text → IsReady n text self.now
+            → self.now.at.index ≡ length text → result ≡ end_fault_of text }
     {
         if self.depth == 0 {
             return None;
@@ -245,7 +258,8 @@ impl Scanner {
         requires { self.old.at.index ≤ self.old.kept + length window.now }
         ensures kept { self.new.kept ≡ self.old.kept }
         ensures same { self.new.at ≡ self.old.at }
-        ensures ended { (n : ℕ) (text : List ℕ) → window.now ≡ drop self.old.kept text → IsFacing n text byte self.old → AfterEnd result n text byte self.new }
+        ensures ended { (n : ℕ) (text : List ℕ) → window.now ≡ drop self.old.kept text → IsFacing n text byte self.old
+            → AfterEnd result n text byte self.new }
     {
         if !self.ends_before(byte) {
             return Ok(());
@@ -310,7 +324,8 @@ impl Scanner {
         requires held { self.old.kept ≤ self.old.start.index }
         ensures kept { self.new.kept ≡ self.old.kept }
         ensures step { OnOk result (self.new.at.index ≡ self.old.at.index + 1) }
-        ensures read { (n : ℕ) (text : List ℕ) → IsFacing n text byte self.old → self.old.mode ≡ Mode.Between → byte_class byte ≡ ByteClass.LeftParen → AfterByte result n text self.new }
+        ensures read { (n : ℕ) (text : List ℕ) → IsFacing n text byte self.old → self.old.mode ≡ Mode.Between
+            → byte_class byte ≡ ByteClass.LeftParen → AfterByte result n text self.new }
     {
         if self.depth == MAX_DEPTH {
             return Err(fault_at(self.at, 14));
@@ -327,8 +342,10 @@ impl Scanner {
         requires held { self.old.kept ≤ self.old.start.index }
         ensures kept { self.new.kept ≡ self.old.kept }
         ensures step { OnOk result (self.new.at.index ≡ self.old.at.index + 1) }
-        ensures held { IfOk result (λ found. IfSome found (λ form. IsHeld self.old.kept self.new.at.index self.new.at.index form)) }
-        ensures read { (n : ℕ) (text : List ℕ) → IsFacing n text byte self.old → self.old.mode ≡ Mode.Between → byte_class byte ≡ ByteClass.RightParen → AfterTake result n text self.new }
+        ensures held { IfOk result
+            (λ found. IfSome found (λ form. IsHeld self.old.kept self.new.at.index self.new.at.index form)) }
+        ensures read { (n : ℕ) (text : List ℕ) → IsFacing n text byte self.old → self.old.mode ≡ Mode.Between
+            → byte_class byte ≡ ByteClass.RightParen → AfterTake result n text self.new }
     {
         if self.depth == 0 {
             return Err(fault_at(self.at, 3));
@@ -347,7 +364,8 @@ impl Scanner {
         requires held { self.old.kept ≤ self.old.start.index }
         ensures kept { self.new.kept ≡ self.old.kept }
         ensures step { OnOk result (self.new.at.index ≡ self.old.at.index + 1) }
-        ensures read { (n : ℕ) (text : List ℕ) → IsFacing n text byte self.old → self.old.mode ≡ Mode.Between → Begins mode byte → AfterByte result n text self.new }
+        ensures read { (n : ℕ) (text : List ℕ) → IsFacing n text byte self.old → self.old.mode ≡ Mode.Between
+            → Begins mode byte → AfterByte result n text self.new }
     {
         if self.depth == 0 {
             return Err(fault_at(self.at, 1));
@@ -362,7 +380,8 @@ impl Scanner {
         requires held { self.old.kept ≤ self.old.start.index }
         ensures kept { self.new.kept ≡ self.old.kept }
         ensures step { OnOk result (self.new.at.index ≡ self.old.at.index + 1) }
-        ensures read { (n : ℕ) (text : List ℕ) → IsFacing n text byte self.old → self.old.mode ≡ Mode.Between → byte_class byte ≡ class → IsNoParenthesis class → AfterByte result n text self.new }
+        ensures read { (n : ℕ) (text : List ℕ) → IsFacing n text byte self.old → self.old.mode ≡ Mode.Between
+            → byte_class byte ≡ class → IsNoParenthesis class → AfterByte result n text self.new }
     {
         match class {
             ByteClass::White => {
@@ -389,8 +408,10 @@ impl Scanner {
         requires held { self.old.kept ≤ self.old.start.index }
         ensures kept { self.new.kept ≡ self.old.kept }
         ensures step { OnOk result (self.new.at.index ≡ self.old.at.index + 1) }
-        ensures held { IfOk result (λ found. IfSome found (λ form. IsHeld self.old.kept self.new.at.index self.new.at.index form)) }
-        ensures read { (n : ℕ) (text : List ℕ) → IsFacing n text byte self.old → self.old.mode ≡ Mode.Between → AfterTake result n text self.new }
+        ensures held { IfOk result
+            (λ found. IfSome found (λ form. IsHeld self.old.kept self.new.at.index self.new.at.index form)) }
+        ensures read { (n : ℕ) (text : List ℕ) → IsFacing n text byte self.old → self.old.mode ≡ Mode.Between
+            → AfterTake result n text self.new }
     {
         match class_of(byte) {
             ByteClass::LeftParen => {
@@ -410,7 +431,8 @@ impl Scanner {
         requires { self.old.at.index < MAX_BYTES }
         ensures kept { self.new.kept ≡ self.old.kept }
         ensures step { self.new.at.index ≡ self.old.at.index + 1 }
-        ensures read { (n : ℕ) (text : List ℕ) → IsFacing n text byte self.old → self.old.mode ≡ Mode.Comment → IsReady n text self.new }
+        ensures read { (n : ℕ) (text : List ℕ) → IsFacing n text byte self.old → self.old.mode ≡ Mode.Comment
+            → IsReady n text self.new }
     {
         self.advance(byte);
         if ends_line(byte) {
@@ -424,7 +446,8 @@ impl Scanner {
         requires held { self.old.kept ≤ self.old.start.index }
         ensures kept { self.new.kept ≡ self.old.kept }
         ensures step { OnOk result (self.new.at.index ≡ self.old.at.index + 1) }
-        ensures read { (n : ℕ) (text : List ℕ) → IsFacing n text byte self.old → self.old.mode ≡ Mode.Quoted → AfterByte result n text self.new }
+        ensures read { (n : ℕ) (text : List ℕ) → IsFacing n text byte self.old → self.old.mode ≡ Mode.Quoted
+            → AfterByte result n text self.new }
     {
         if byte == b'|' {
             self.push_through(TokenKind::Quoted, byte)?;
@@ -443,7 +466,8 @@ impl Scanner {
         requires held { self.old.kept ≤ self.old.start.index }
         ensures kept { self.new.kept ≡ self.old.kept }
         ensures step { OnOk result (self.new.at.index ≡ self.old.at.index + 1) }
-        ensures read { (n : ℕ) (text : List ℕ) → IsFacing n text byte self.old → self.old.mode ≡ Mode.Str → AfterByte result n text self.new }
+        ensures read { (n : ℕ) (text : List ℕ) → IsFacing n text byte self.old → self.old.mode ≡ Mode.Str
+            → AfterByte result n text self.new }
     {
         if is_quote(byte) {
             self.stay(Mode::StrMark, byte);
@@ -461,7 +485,8 @@ impl Scanner {
         requires { self.old.at.index < MAX_BYTES }
         ensures kept { self.new.kept ≡ self.old.kept }
         ensures step { OnOk result (self.new.at.index ≡ self.old.at.index + 1) }
-        ensures read { (n : ℕ) (text : List ℕ) → IsFacing n text byte self.old → is_ended_by self.old.mode byte ≡ false → (self.old.mode ≡ Mode.Between → ⊥) → AfterByte result n text self.new }
+        ensures read { (n : ℕ) (text : List ℕ) → IsFacing n text byte self.old → is_ended_by self.old.mode byte ≡ false
+            → (self.old.mode ≡ Mode.Between → ⊥) → AfterByte result n text self.new }
     {
         match self.mode {
             Mode::Comment => {
@@ -486,8 +511,10 @@ impl Scanner {
         requires { self.old.at.index < self.old.kept + length window.now }
         ensures kept { self.new.kept ≡ self.old.kept }
         ensures step { OnOk result (self.new.at.index ≡ self.old.at.index + 1) }
-        ensures held { IfOk result (λ found. IfSome found (λ form. IsHeld self.old.kept self.new.at.index self.new.at.index form)) }
-        ensures read { (n : ℕ) (text : List ℕ) → window.now ≡ drop self.old.kept text → IsReady n text self.old → AfterTake result n text self.new }
+        ensures held { IfOk result
+            (λ found. IfSome found (λ form. IsHeld self.old.kept self.new.at.index self.new.at.index form)) }
+        ensures read { (n : ℕ) (text : List ℕ) → window.now ≡ drop self.old.kept text → IsReady n text self.old
+            → AfterTake result n text self.new }
     {
         let byte = window[(self.at.index - self.kept) as usize];
         self.end_before(window, byte)?;
@@ -504,12 +531,14 @@ impl Scanner {
     }
 
     /// Looks at the bytes of the text that weren't looked at, up to the end of a form, and gives it. The window has the text
-    /// behind the bytes that were let go.
+    /// after the bytes that were dropped.
     pub(crate) fn scan(&mut self, window: &[u8]) -> Result<Option<Form>, LexStop>
         requires { self.old.at.index ≤ self.old.kept + length window.now }
         ensures kept { self.new.kept ≡ self.old.kept }
-        ensures held { IfOk result (λ found. IfSome found (λ form. IsHeld self.old.kept self.new.at.index self.new.at.index form)) }
-        ensures read { (n : ℕ) (text : List ℕ) → window.now ≡ drop self.old.kept text → IsReady n text self.old → AfterScan result n text self.new }
+        ensures held { IfOk result
+            (λ found. IfSome found (λ form. IsHeld self.old.kept self.new.at.index self.new.at.index form)) }
+        ensures read { (n : ℕ) (text : List ℕ) → window.now ≡ drop self.old.kept text → IsReady n text self.old
+            → AfterScan result n text self.new }
     {
         while ((self.at.index - self.kept) as usize) < window.len() {
             match self.take(window) {
@@ -532,7 +561,7 @@ pub(crate) fn first_start_of(tokens: &[Token], otherwise: u64) -> u64
     }
 }
 
-/// The bytes behind the first.
+/// The bytes after the first.
 fn behind_first(bytes: &[u8]) -> &[u8]
     ensures { result.now ≡ drop 1 bytes.now }
 {

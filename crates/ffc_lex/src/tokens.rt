@@ -17,18 +17,18 @@ pub enum TokenKind {
     FieldLiteral,
 }
 
-/// A token, and where it stands in the text.
+/// A token, and where it is in the text.
 #[derive(Clone, Copy, Debug, PartialEq, Eq)]
 pub struct Token {
     pub kind: TokenKind,
-    /// How many bytes of the text stand before it.
+    /// How many bytes of the text come before it.
     pub start: u64,
     pub length: u64,
     pub line: u64,
     pub column: u64,
 }
 
-/// A place in the text: how many bytes stand before it, and its line and column.
+/// A place in the text: how many bytes come before it, and its line and column.
 #[derive(Clone, Copy, Debug, PartialEq, Eq)]
 pub struct Place {
     pub index: u64,

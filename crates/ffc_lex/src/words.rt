@@ -2,7 +2,8 @@
 ghost use Rattle.std.specs.Prelude.{◌≡◌, ℕ};
 ghost use Rattle.std.specs.List.{list_all, prefix_len};
 ghost use Rattle.ffc_lex.specs.Bytes.{is_digit, is_word_byte};
-ghost use Rattle.ffc_lex.specs.Words.{hash_kind, is_decimal, is_field_word, is_fraction, is_numeral, is_order_part, is_residue, is_signed_residue, is_symbol_word, keyword_kind, word_kind};
+ghost use Rattle.ffc_lex.specs.Words.{hash_kind, is_decimal, is_field_word, is_fraction, is_numeral, is_order_part};
+ghost use Rattle.ffc_lex.specs.Words.{is_residue, is_signed_residue, is_symbol_word, keyword_kind, word_kind};
 
 use crate::byte_classes::is_word;
 use crate::tokens::TokenKind;
@@ -13,7 +14,7 @@ fn is_digit_byte(byte: u8) -> bool
     byte.is_ascii_digit()
 }
 
-/// How many digits stand at the front.
+/// How many digits there are at the front.
 fn count_of_digits(word: &[u8]) -> usize
     ensures { result ≡ prefix_len is_digit word.now }
 {

@@ -106,7 +106,7 @@ zip_ids [] (a ∷ ids) env e = absurd (omega (arith, e))
 zip_ids (n ∷ names) [] env e = absurd (omega (arith, e))
 zip_ids (n ∷ names) (a ∷ ids) env e = ap (λ xs. a ∷ xs) (zip_ids names ids env (omega (arith, e)))
 
--- the local variables of a let behind the others
+-- the local variables of a let after the others
 bound_locals : (names : List Name) (ids before : List ℕ) (env : Env ℕ) → length ids ≡ length names
     → (before ++ reverse (ids_in env)) ++ reverse ids ≡ before ++ reverse (ids_in (zip names ids ++ env))
 bound_locals names ids before env e =

@@ -102,7 +102,7 @@ module _ (symbols : Env Meaning) (wanted : Made) where
 pub starts : (nodes : List Node) → IsTable nodes → Grows nodes nodes
 starts nodes table = record { more = []; put = sym (append-nil nodes); table = table }
 
--- the macro that is found is the one that stands there
+-- the macro that is found is the one that is there
 pub callee_found : (symbols : Symbols) (place : ℕ) (m callee : Macro) → Some m ≡ macro_at symbols place → at_slot (map (λ x. x.1) symbols.terms) place ≡ Some (meaning.Macro callee) → m ≡ callee
 callee_found symbols place m callee e there = by_entry (at_slot symbols.terms place) e (sym (at_slot_map (λ (x : Name × Meaning). x.1) symbols.terms place) ∙ there)
   where

@@ -1,4 +1,4 @@
--- A machine that makes nodes by code, and what it comes to.
+-- A machine that makes nodes by code, and its result.
 use Rattle.std.specs.Prelude.{◌≡◌, ℕ, zero, suc, ◌+◌, ◌≤◌, ◌⊎◌, List, [], ◌∷◌, ◌++◌, length, map, reverse, Option, Some, None, Result, Ok, Err, slice_get}
 use Rattle.ffc_term.specs.declared.node.Node.{Node}
 use Rattle.ffc_term.specs.declared.node.Node.TheVariants as node
@@ -166,7 +166,7 @@ pub record IsCodeOf (nodes : List Node) (symbols : Env Meaning) (t : Term) (limi
   pub is : IsCode nodes symbols [] t code
   pub light : weight t ≤ limit
 
--- within so many steps it comes to its end
+-- within so many steps it reaches its end
 pub record CanRun (symbols : Env Meaning) (nodes : List Node) (w : Making) (limit : ℕ) : Type 0 where
   pub steps : ℕ
   pub wanted : Made

@@ -1,5 +1,6 @@
-//! The making of nodes, operation by operation, on stacks of its own.
-ghost use Rattle.std.specs.Prelude.{◌≡◌, ◌≤◌, ◌+◌, ◌++◌, ◌∷◌, [], ℕ, suc, List, length, map, reverse, slice_get, OnOk, Some, None};
+//! Interns the nodes of terms, operation by operation, on stacks of its own.
+ghost use Rattle.std.specs.Prelude.{◌≡◌, ◌≤◌, ◌+◌, ◌++◌, ◌∷◌, [], ℕ, suc, List, length, map, reverse, slice_get, OnOk};
+ghost use Rattle.std.specs.Prelude.{Some, None};
 ghost use Rattle.ffc_term.specs.declared.node.Node.{Node};
 ghost use Rattle.ffc_term.specs.Tables.{Fits, IsNumbered, IsFieldIte, IsTable};
 ghost use Rattle.ffc_smt.specs.Making as nodes_of;
@@ -13,7 +14,8 @@ ghost use Rattle.ffc_terms.specs.declared.scope.Meaning.{Meaning};
 ghost use Rattle.ffc_terms.specs.declared.scope.Meaning.TheVariants as meaning;
 ghost use Rattle.ffc_smt.specs.Meaning.{Env};
 ghost use Rattle.ffc_making.specs.Machine as machine;
-ghost use Rattle.ffc_making.specs.Machine.{Acts, AreLast, CanAct, CanApply, CanGo, CanRun, GoesOn, IsCodeOf, Puts, Runs, Steps, Takes};
+ghost use Rattle.ffc_making.specs.Machine.{Acts, AreLast, CanAct, CanApply, CanGo, CanRun, GoesOn, IsCodeOf, Puts};
+ghost use Rattle.ffc_making.specs.Machine.{Runs, Steps, Takes};
 
 use ffc_parts::{Operator, apply, put};
 use ffc_term::{Node, NodeId, NodeTable, TermStop};
@@ -21,7 +23,7 @@ use ffc_terms::{Op, Symbols};
 use std::alloc::{AllocError, Global};
 use std::marker::Model;
 
-/// Where the making goes on after the code of a macro, and where the local variables begin there.
+/// Where the walk goes on after the code of a macro, and where the local variables begin there.
 #[derive(Drop)]
 struct Return<'a> {
     rest: &'a [Op],
@@ -47,7 +49,8 @@ impl<'a> Model for Maker<'a> {
 
     ghost Value = { Making };
 
-    ghost view = { λ m. making m.rest.now m.base (map (λ c. saved c.rest.now c.base) m.calls.items) m.stack.items m.locals.items };
+    ghost view = { λ m. making m.rest.now m.base (map (λ c. saved c.rest.now c.base) m.calls.items) m.stack.items
+        m.locals.items };
 }
 
 /// The last of these nodes become local variables, the last of them first.
@@ -56,7 +59,8 @@ fn move_last(
     locals: &mut Vec<NodeId>,
     count: usize,
 ) -> Result<(), AllocError>
-    ensures { OnOk result ((kept ids : List ℕ) → AreLast stack.old.items kept ids count → (stack.new.items ≡ kept) × (locals.new.items ≡ locals.old.items ++ reverse ids)) }
+    ensures { OnOk result ((kept ids : List ℕ) → AreLast stack.old.items kept ids count → (stack.new.items ≡ kept)
+        × (locals.new.items ≡ locals.old.items ++ reverse ids)) }
 {
     for _ in 0..count {
         match stack.pop() {
@@ -95,7 +99,8 @@ impl<'a> Maker<'a> {
 
     /// The code ends: that of a macro, or that of the whole term.
     fn end(&mut self) -> Result<Option<NodeId>, TermStop>
-        ensures { (n : ℕ) (symbols : Env Meaning) (wanted : Made) (nodes : List Node) → IsTable nodes → self.old.rest ≡ [] → GoesOn (suc n) symbols wanted nodes self.old → Steps n symbols wanted nodes nodes self.new result }
+        ensures { (n : ℕ) (symbols : Env Meaning) (wanted : Made) (nodes : List Node) → IsTable nodes → self.old.rest
+            ≡ [] → GoesOn (suc n) symbols wanted nodes self.old → Steps n symbols wanted nodes nodes self.new result }
     {
         match self.calls.pop() {
             None => match self.stack.pop() {
@@ -116,7 +121,8 @@ impl<'a> Maker<'a> {
         requires fits { Fits table.old node }
         requires plain { ¬ (IsFieldIte node) }
         requires numbered { IsNumbered table.old node }
-        ensures { Puts table.old table.new (nodes_of.interned table.old node) (machine.waiting self.old.rest (nodes_of.interned table.old node).id self.old) self.new result }
+        ensures { Puts table.old table.new (nodes_of.interned table.old node)
+            (machine.waiting self.old.rest (nodes_of.interned table.old node).id self.old) self.new result }
     {
         let id = put(table, node)?;
         self.stack.push(id)?;
@@ -125,7 +131,8 @@ impl<'a> Maker<'a> {
 
     /// A local variable's node waits.
     fn fetch(&mut self, slot: usize) -> Result<(), AllocError>
-        ensures { OnOk result ((id : ℕ) → slice_get self.old.locals (self.old.base + slot) ≡ Some id → self.new ≡ machine.waiting self.old.rest id self.old) }
+        ensures { OnOk result ((id : ℕ) → slice_get self.old.locals (self.old.base + slot) ≡ Some id → self.new
+            ≡ machine.waiting self.old.rest id self.old) }
     {
         let Some(place) = self.base.checked_add(slot) else {
             return Err(AllocError);
@@ -148,7 +155,8 @@ impl<'a> Maker<'a> {
         requires { CanApply table.old self.old.stack f count }
         ensures { (kept ids : List ℕ) → AreLast self.old.stack kept ids count
             → Puts table.old table.new (nodes_of.applied_made (operator_of f) table.old ids)
-            (machine.making self.old.rest self.old.base self.old.calls (kept ++ (nodes_of.applied_made (operator_of f) table.old ids).id ∷ []) self.old.locals) self.new result }
+            (machine.making self.old.rest self.old.base self.old.calls
+            (kept ++ (nodes_of.applied_made (operator_of f) table.old ids).id ∷ []) self.old.locals) self.new result }
     {
         let first = self.stack.len() - count;
         let id = apply(table, alloc, f, &self.stack[first..])?;
@@ -160,7 +168,8 @@ impl<'a> Maker<'a> {
     /// The last nodes become local variables.
     fn bind(&mut self, count: usize) -> Result<(), AllocError>
         ensures { OnOk result ((kept ids : List ℕ) → AreLast self.old.stack kept ids count
-            → self.new ≡ machine.making self.old.rest self.old.base self.old.calls kept (self.old.locals ++ reverse ids)) }
+            → self.new ≡ machine.making self.old.rest self.old.base self.old.calls kept
+            (self.old.locals ++ reverse ids)) }
     {
         move_last(&mut self.stack, &mut self.locals, count)
     }
@@ -176,8 +185,10 @@ impl<'a> Maker<'a> {
 
     /// A macro's code comes next, with the last nodes as its parameters.
     fn call(&mut self, symbols: &'a Symbols, place: usize, count: usize) -> Result<(), AllocError>
-        ensures { OnOk result ((callee : Macro) (kept ids : List ℕ) → at_slot (map (λ x. x.1) symbols.now.terms) place ≡ Some (meaning.Macro callee) → AreLast self.old.stack kept ids count
-            → self.new ≡ machine.making callee.code.items (length self.old.locals) (self.old.calls ++ machine.saved self.old.rest self.old.base ∷ []) kept (self.old.locals ++ reverse ids)) }
+        ensures { OnOk result ((callee : Macro) (kept ids : List ℕ) → at_slot (map (λ x. x.1) symbols.now.terms) place
+            ≡ Some (meaning.Macro callee) → AreLast self.old.stack kept ids count
+            → self.new ≡ machine.making callee.code.items (length self.old.locals)
+            (self.old.calls ++ machine.saved self.old.rest self.old.base ∷ []) kept (self.old.locals ++ reverse ids)) }
     {
         let Some(callee) = symbols.macro_at(place) else {
             return Err(AllocError);
@@ -200,7 +211,8 @@ impl<'a> Maker<'a> {
         op: Op,
     ) -> Result<(), TermStop>
         requires { CanAct symbols.now.terms table.old self.old op }
-        ensures { (n : ℕ) (wanted : Made) → machine.Goes (GoesOn n symbols.now.terms wanted) symbols.now.terms wanted table.old self.old (op ∷ self.old.rest)
+        ensures { (n : ℕ) (wanted : Made) → machine.Goes (GoesOn n symbols.now.terms wanted) symbols.now.terms wanted
+            table.old self.old (op ∷ self.old.rest)
             → Acts n symbols.now.terms wanted table.old table.new self.new result }
     {
         let _before = table.len();
@@ -240,7 +252,8 @@ impl<'a> Maker<'a> {
         symbols: &'a Symbols,
     ) -> Result<Option<NodeId>, TermStop>
         requires { CanGo symbols.now.terms table.old self.old }
-        ensures { (n : ℕ) (wanted : Made) → GoesOn (suc n) symbols.now.terms wanted table.old self.old → Steps n symbols.now.terms wanted table.old table.new self.new result }
+        ensures { (n : ℕ) (wanted : Made) → GoesOn (suc n) symbols.now.terms wanted table.old self.old
+            → Steps n symbols.now.terms wanted table.old table.new self.new result }
     {
         let _before = table.len();
         match self.next() {
@@ -252,7 +265,7 @@ impl<'a> Maker<'a> {
         }
     }
 
-    /// Up to so many steps, which are enough to come to the end.
+    /// Up to so many steps, which are enough to reach the end.
     fn run(
         &mut self,
         alloc: Global,
@@ -261,7 +274,8 @@ impl<'a> Maker<'a> {
         steps: u64,
     ) -> Result<Option<NodeId>, TermStop>
         requires { CanRun symbols.now.terms table.old self.old steps }
-        ensures { (n : ℕ) (wanted : Made) → n ≤ steps → GoesOn n symbols.now.terms wanted table.old self.old → Runs wanted table.old table.new result }
+        ensures { (n : ℕ) (wanted : Made) → n ≤ steps → GoesOn n symbols.now.terms wanted table.old self.old
+            → Runs wanted table.old table.new result }
     {
         let _before = table.len();
         for _ in 0..steps {
@@ -287,7 +301,8 @@ pub fn make(
     limit: u32,
 ) -> Result<NodeId, TermStop>
     requires { (t : Term) × IsCodeOf table.old symbols.now.terms t limit code.now }
-    ensures { (t : Term) → IsCodeOf table.old symbols.now.terms t limit code.now → Makes table.old table.new (nodes_of.made [] table.old t) result }
+    ensures { (t : Term) → IsCodeOf table.old symbols.now.terms t limit code.now
+        → Makes table.old table.new (nodes_of.made [] table.old t) result }
 {
     let mut maker = Maker::new(alloc, code);
     match maker.run(alloc, table, symbols, 2 * (limit as u64) + 1) {

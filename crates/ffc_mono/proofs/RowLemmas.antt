@@ -16,7 +16,7 @@ cut-marks start (m ∷ ms) =
     (ap₂ ◌∷◌ (take-append_seam m (flat ms))
     (ap (cut_at (start + length m) (marks_from (start + length m) ms)) (drop-append_seam m (flat ms)) ∙ cut-marks (start + length m) ms))
 
--- the list that a buffer and marks stand for
+-- the list that a buffer and marks give
 pub row-view : (ps : List (ℕ × ℕ)) (ks : List Mark) (ms : List Monomial) → IsRow ps ks ms → cut_at 0 ks ps ≡ ms
 row-view ps ks ms r = ap₂ (cut_at 0) r.marks r.powers ∙ cut-marks 0 ms
 

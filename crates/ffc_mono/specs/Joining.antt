@@ -1,4 +1,4 @@
--- How the exponents of a variable that two monomials share are joined.
+-- How the exponents of a variable that two monomials share are merged.
 use Rattle.std.specs.Prelude.{ℕ, ◌+◌, max}
 use Rattle.ffc_mono.specs.declared.powers.Joining.{Joining}
 use Rattle.ffc_mono.specs.declared.powers.Joining.TheVariants.{Sum, Maximum}

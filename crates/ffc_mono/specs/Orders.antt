@@ -1,5 +1,5 @@
 -- Lexicographic and graded reverse lexicographic order (Cox, Little and O'Shea, chapter 2, section 2,
--- definitions 3 and 6). Variables are numbered, and a lower number stands for an earlier variable.
+-- definitions 3 and 6). Variables are numbered, and a lower number is an earlier variable.
 use Rattle.std.specs.Prelude.{◌≡◌, ℕ, ◌<◌, ◌⊎◌, ◌↔◌, reverse}
 use Rattle.std.specs.Ordering.{nat_cmp, ordering_then}
 use Rattle.std.specs.declared.cmp.Ordering.{Ordering}

@@ -1,7 +1,9 @@
-//! The laws of leading terms and of graded orders. The functions do nothing when they run: each stands for the laws in
+//! The laws of leading terms and of graded orders. The functions do nothing when they run: each states the laws in
 //! its contract.
-ghost use Rattle.ffc_mono.specs.Graded.{GradedReverseLexIsGraded, OneVariableIsGraded, GreaterIsNoLower, DescentIsShort, DescentInOneIsShort};
-ghost use Rattle.ffc_mono.specs.Leading.{LeadingOfProduct, LeadingOfMultiple, LeadingOfSum, LeadingOfEqualSum, CancelledSumIsBelow, CancelledStepIsBelow, OneLeading};
+ghost use Rattle.ffc_mono.specs.Graded.{GradedReverseLexIsGraded, OneVariableIsGraded, GreaterIsNoLower};
+ghost use Rattle.ffc_mono.specs.Graded.{DescentIsShort, DescentInOneIsShort};
+ghost use Rattle.ffc_mono.specs.Leading.{LeadingOfProduct, LeadingOfMultiple, LeadingOfSum, LeadingOfEqualSum};
+ghost use Rattle.ffc_mono.specs.Leading.{CancelledSumIsBelow, CancelledStepIsBelow, OneLeading};
 ghost use Rattle.ffc_mono.specs.MonomialOrder.{DivisorIsNoGreater};
 
 /// The leading terms of products, multiples and sums, in every monomial order.

@@ -1,5 +1,6 @@
 //! Monomials.
-ghost use Rattle.std.specs.Prelude.{◌≡◌, ℕ, ◌≤◌, ◌<◌, ◌↔◌, List, max, ◌+◌, ◌-◌, length, IsTrue, IsOk, IfOk, OnOk, IsErrOf};
+ghost use Rattle.std.specs.Prelude.{◌≡◌, ℕ, ◌≤◌, ◌<◌, ◌↔◌, List, max, ◌+◌, ◌-◌, length, IsTrue, IsOk, IfOk, OnOk};
+ghost use Rattle.std.specs.Prelude.{IsErrOf};
 ghost use Rattle.ffc_ring.specs.Monomial.{IsMonomial, degree, exponent, Divides, AreCoprime, mono_mul, mono_lcm};
 
 use crate::borrowed::MonoRef;
@@ -51,7 +52,8 @@ impl Model for Mono {
 
     ghost view = { λ m. m.powers.items };
 
-    ghost invariant = { λ m. IsMonomial m.powers.items × (m.total_degree ≡ degree m.powers.items) × (m.total_degree ≤ 1024)
+    ghost invariant = { λ m. IsMonomial m.powers.items × (m.total_degree ≡ degree m.powers.items)
+        × (m.total_degree ≤ 1024)
         × (m.mask ≡ mask_of m.powers.items) };
 }
 
@@ -116,9 +118,11 @@ impl Mono {
     /// The least common multiple, in one walk over both. Whether it has too high a degree is seen before, in another.
     pub fn lcm(&self, other: &Mono) -> Result<Mono, MonoStop>
         ensures value { IfOk result (λ m. m ≡ mono_lcm self.now other.now) }
-        ensures exponents { IfOk result (λ m. (x : ℕ) → exponent m x ≡ max (exponent self.now x) (exponent other.now x)) }
+        ensures exponents { IfOk result (λ m. (x : ℕ) → exponent m x
+            ≡ max (exponent self.now x) (exponent other.now x)) }
         ensures fits { OnOk result (degree (mono_lcm self.now other.now) ≤ DEGREE_LIMIT) }
-        ensures degree_over { IsErrOf result MonoStop.DegreeOver ↔ (DEGREE_LIMIT < degree (mono_lcm self.now other.now)) }
+        ensures degree_over { IsErrOf result MonoStop.DegreeOver
+            ↔ (DEGREE_LIMIT < degree (mono_lcm self.now other.now)) }
     {
         let first = self.pairs();
         let second = other.pairs();

@@ -3,7 +3,9 @@ ghost use Rattle.std.specs.Prelude.{◌≡◌};
 ghost use Rattle.std.specs.declared.cmp.Ordering.{Ordering};
 ghost use Rattle.ffc_ring.specs.Monomial.{Monomial};
 ghost use Rattle.ffc_mono.specs.MonomialOrder.{IsMonomialOrder};
-ghost use Rattle.ffc_mono.specs.Orders.{lex_cmp, reverse_lex_cmp, graded_reverse_lex_cmp, IsLexGreater, IsGradedReverseLexGreater, AnswersBy, LexIsByFirstDifference, GradedReverseLexIsByLastDifference};
+ghost use Rattle.ffc_mono.specs.Orders.{lex_cmp, reverse_lex_cmp, graded_reverse_lex_cmp, IsLexGreater};
+ghost use Rattle.ffc_mono.specs.Orders.{IsGradedReverseLexGreater, AnswersBy, LexIsByFirstDifference};
+ghost use Rattle.ffc_mono.specs.Orders.{GradedReverseLexIsByLastDifference};
 
 use crate::borrowed::MonoRef;
 use crate::mono::Mono;

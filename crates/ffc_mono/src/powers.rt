@@ -1,7 +1,9 @@
 //! Monomials as slices of powers: pairs of variable and exponent, with strictly increasing variables and
 //! exponents of at least 1. Each function here walks its slices once, side by side.
-ghost use Rattle.std.specs.Prelude.{◌≡◌, ℕ, ◌+◌, ◌^◌, ◌<◌, ◌≤◌, ◌↔◌, ◌%◌, ◌++◌, length, take, false, IsTrue, IfOk, OnOk, OnErr, SomeIff};
-ghost use Rattle.ffc_ring.specs.Monomial.{IsMonomial, degree, joined, mono_mul, mono_lcm, mono_quotient, Divides, AreCoprime};
+ghost use Rattle.std.specs.Prelude.{◌≡◌, ℕ, ◌+◌, ◌^◌, ◌<◌, ◌≤◌, ◌↔◌, ◌%◌, ◌++◌, length, take, false, IsTrue, IfOk};
+ghost use Rattle.std.specs.Prelude.{OnOk, OnErr, SomeIff};
+ghost use Rattle.ffc_ring.specs.Monomial.{IsMonomial, degree, joined, mono_mul, mono_lcm, mono_quotient, Divides};
+ghost use Rattle.ffc_ring.specs.Monomial.{AreCoprime};
 ghost use Rattle.std.specs.Int.{bit_at};
 ghost use Rattle.ffc_mono.specs.Joining.{joining_of};
 ghost use Rattle.ffc_mono.specs.Masks.{mask_of};
@@ -15,7 +17,7 @@ pub type Power = (u32, u32);
 /// Powers in memory: up to four take none of their own.
 pub type Powers = SmallVec<Power, 4>;
 
-/// How the exponents of a variable that two monomials share are joined.
+/// How the exponents of a variable that two monomials share are merged.
 #[derive(Clone, Copy)]
 pub enum Joining {
     Sum,
@@ -23,7 +25,7 @@ pub enum Joining {
 }
 
 impl Joining {
-    /// The joined exponent.
+    /// The merged exponent.
     fn of(self, first: u32, second: u32) -> u32
         requires { first + second < 2 ^ 32 }
         ensures { result ≡ joining_of self first second }
@@ -91,7 +93,7 @@ pub fn lcm_degree(first: &[Power], second: &[Power]) -> u32
     total + degree_of(left) + degree_of(right)
 }
 
-/// Two monomials joined.
+/// Two monomials merged.
 pub fn joined(
     alloc: Global,
     joining: Joining,

@@ -1,5 +1,6 @@
 //! Rows of monomials.
-ghost use Rattle.std.specs.Prelude.{◌≡◌, ◌<◌, ◌≤◌, ◌+◌, ◌-◌, ◌^◌, ◌==◌, map, List, [], ◌∷◌, ◌++◌, length, take, slice_range, get_or, All, OnOk, OnErr, IfOk, IsOk};
+ghost use Rattle.std.specs.Prelude.{◌≡◌, ◌<◌, ◌≤◌, ◌+◌, ◌-◌, ◌^◌, ◌==◌, map, List, [], ◌∷◌, ◌++◌, length, take};
+ghost use Rattle.std.specs.Prelude.{slice_range, get_or, All, OnOk, OnErr, IfOk, IsOk};
 ghost use Rattle.std.specs.Vec.{vec_len, vec_capacity};
 ghost use Rattle.ffc_ring.specs.Monomial.{degree, mono_mul};
 ghost use Rattle.ffc_mono.specs.declared.row.Mark.{Mark};

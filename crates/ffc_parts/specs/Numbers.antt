@@ -1,4 +1,4 @@
--- Numbers as the elaborator has them: those that are too large for every use are not told apart.
+-- Numbers as the elaborator has them: those that are too large for every use are not distinguished.
 use Rattle.std.specs.Prelude.{ℕ, ◌-◌, ◌^◌, min, if◌then◌else◌, Option, Some, None}
 use Rattle.ffc_parts.specs.declared.numbers.Signed.{Signed}
 use Rattle.ffc_smt.specs.Numbers as numbers

@@ -7,13 +7,14 @@ ghost use Rattle.ffc_smt.specs.Asking.{IsSortAt};
 ghost use Rattle.ffc_smt.specs.Making as making;
 ghost use Rattle.ffc_smt.specs.Terms as term;
 ghost use Rattle.ffc_parts.specs.Operators.{operator_of};
-ghost use Rattle.ffc_parts.specs.Growing.{AllOfOneSort, AreAlike, AreTaken, AreAllAt, AreOfOneSort, Makes, MakesAll, implied};
+ghost use Rattle.ffc_parts.specs.Growing.{AllOfOneSort, AreAlike, AreTaken, AreAllAt, AreOfOneSort, Makes, MakesAll};
+ghost use Rattle.ffc_parts.specs.Growing.{implied};
 
 use crate::operators::Operator;
 use ffc_term::{Node, NodeId, NodeList, NodeTable, Sort, TermStop};
 use std::alloc::{AllocError, Global};
 
-/// The number of a node, which is put behind the others where it is new.
+/// The number of a node, which is put after the others where it is new.
 pub fn put(table: &mut NodeTable, node: Node) -> Result<NodeId, TermStop>
     requires fits { Fits table.old node }
     requires plain { ¬ (IsFieldIte node) }
@@ -105,7 +106,8 @@ pub fn neighbours(
     parts: &mut Vec<NodeId>,
 ) -> Result<(), TermStop>
     requires { AreOfOneSort table.old first rest.now }
-    ensures { MakesAll table.old table.new (making.neighbours table.old first rest.now) parts.old.items parts.new.items result }
+    ensures { MakesAll table.old table.new (making.neighbours table.old first rest.now) parts.old.items parts.new.items
+        result }
 {
     let _before = table.len();
     let mut last = first;
@@ -126,7 +128,8 @@ pub fn differences_from(
     parts: &mut Vec<NodeId>,
 ) -> Result<(), TermStop>
     requires { AreOfOneSort table.old a rest.now }
-    ensures { MakesAll table.old table.new (making.differences_from table.old a rest.now) parts.old.items parts.new.items result }
+    ensures { MakesAll table.old table.new (making.differences_from table.old a rest.now) parts.old.items
+        parts.new.items result }
 {
     let _before = table.len();
     for b in rest {
@@ -144,7 +147,8 @@ pub fn differences(
     parts: &mut Vec<NodeId>,
 ) -> Result<(), TermStop>
     requires { AllOfOneSort table.old ids.now }
-    ensures { MakesAll table.old table.new (making.differences table.old ids.now) parts.old.items parts.new.items result }
+    ensures { MakesAll table.old table.new (making.differences table.old ids.now) parts.old.items parts.new.items
+        result }
 {
     let _before = table.len();
     for (i, a) in ids.iter().enumerate() {

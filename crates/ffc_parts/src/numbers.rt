@@ -1,5 +1,6 @@
 //! Numbers in scripts: numerals, orders, and the constants of fields.
-ghost use Rattle.std.specs.Prelude.{◌≡◌, ◌==◌, ◌+◌, ◌*◌, if◌then◌else◌, Some, None, ◌<◌, ◌≤◌, ◌^◌, MatchOption, min, option_map};
+ghost use Rattle.std.specs.Prelude.{◌≡◌, ◌==◌, ◌+◌, ◌*◌, if◌then◌else◌, Some, None, ◌<◌, ◌≤◌, ◌^◌, MatchOption, min};
+ghost use Rattle.std.specs.Prelude.{option_map};
 ghost use Rattle.std.specs.List.{list_all, position_or_len};
 ghost use Rattle.ffc_lex.specs.Bytes.{is_digit};
 ghost use Rattle.ffc_smt.specs.Meaning.{residue_of_number};
@@ -32,7 +33,8 @@ pub fn size_of_digits(digits: &[u8]) -> Option<u128>
 
 /// One more digit.
 fn longer(size: Option<u128>, digit: u8) -> Option<u128>
-    ensures { MatchOption size (result ≡ None) (λ n. MatchOption result (2 ^ 128 ≤ 10 * n + digit) (λ m. m ≡ 10 * n + digit)) }
+    ensures { MatchOption size (result ≡ None) (λ n. MatchOption result (2 ^ 128 ≤ 10 * n + digit)
+        (λ m. m ≡ 10 * n + digit)) }
 {
     size?.checked_mul(10)?.checked_add(u128::from(digit))
 }
@@ -90,7 +92,9 @@ fn is_number(digits: &[u8]) -> bool
 /// A number of this sign and these digits, unless the size is 2^128 or more.
 fn with_sign(negative: bool, digits: &[u8]) -> Option<Signed>
     ensures { option_map signed_as result
-        ≡ small_only (if numbers.is_number digits.now then Some (record { negative = negative; size = numbers.number_of digits.now }) else None) }
+        ≡ small_only
+        (if numbers.is_number digits.now then Some (record { negative = negative; size = numbers.number_of digits.now })
+        else None) }
 {
     if !is_number(digits) {
         return None;
@@ -126,7 +130,7 @@ pub fn constant_of(name: &[u8]) -> Option<Signed>
     }
 }
 
-/// How many bytes stand before the first `m`.
+/// How many bytes come before the first `m`.
 fn m_place(bytes: &[u8]) -> usize
     ensures { result ≡ position_or_len (λ c. c == 109) bytes.now }
 {

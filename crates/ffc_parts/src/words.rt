@@ -6,7 +6,7 @@ ghost use Rattle.ffc_parts.specs.Words.{is_kind_of_word, is_name_by_kind};
 
 use ffc_lex::{TokenKind, is_reserved};
 
-/// The name that a symbol is, unless it is reserved; that of a quoted symbol is what stands between the bars.
+/// The name that a symbol is, unless it is reserved; that of a quoted symbol is what is between the bars.
 pub fn name_of(kind: TokenKind, bytes: &[u8]) -> Option<&[u8]>
     ensures { option_copied result ≡ name_by_kind kind bytes.now }
 {

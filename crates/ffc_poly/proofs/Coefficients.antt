@@ -121,7 +121,7 @@ IsNoneOf-removed m k (n ∷ ns) h =
       | inr there ↦ rw (removed-off m n ns there) (h.0, IsNoneOf-removed m k ns h.1)
     ]
 
--- the monomials but the first term's have coefficients behind it
+-- the monomials but the first term's have coefficients after it
 removed_behind : (p : ℕ) (all : Terms) (t : ℕ × Monomial) (ts : Terms) (ns : List Monomial) → ((m : Monomial) → coefficient p all m ≢ 0 → coefficient p (t ∷ ts) m ≢ 0) → AreItsMonomials p all ns → AreItsMonomials p ts (removed t.1 ns)
 removed_behind p all t ts [] into d = tt
 removed_behind p all t ts (n ∷ ns) into d =
@@ -171,7 +171,7 @@ module _ (p : ℕ) (cmp : Monomial → Monomial → Ordering) (laws : IsMonomial
   pub first_nonzero : (t : ℕ × Monomial) (ts : Terms) → IsOrdered p cmp limit (t ∷ ts) → coefficient p (t ∷ ts) t.1 ≢ 0
   first_nonzero t ts h e = omega (arith, coefficient-first t ts h, h.0)
 
-  -- what has a coefficient behind the first term has it in the whole
+  -- what has a coefficient after the first term has it in the whole
   pub behind_nonzero : (t : ℕ × Monomial) (ts : Terms) → IsOrdered p cmp limit (t ∷ ts) → (m : Monomial) → coefficient p ts m ≢ 0 → coefficient p (t ∷ ts) m ≢ 0
   behind_nonzero t ts h m ne e =
       elim (cases_monomial t.1 m) [

@@ -41,7 +41,7 @@ length-exchanged (x ∷ xs) zero t h = omega (arith, length-append t (sum_of xs)
 length-exchanged (x ∷ xs) (suc i) t h =
     omega (arith, length-exchanged xs i t (omega arith), length-append x (sum_of (set xs i t)), length-append x (sum_of xs))
 
--- two first terms joined: the one at j goes, and the one at i has s as its coefficient, or goes where s is 0
+-- two first terms merged: the one at j goes, and the one at i has s as its coefficient, or goes where s is 0
 module _ (xs : List Terms) (i j : ℕ) (t : Terms) (place : i < length xs) (some : 0 < length (get_or xs i [])) (rival : IsRival xs i j) where
   abbrev y : Terms
   y = drop 1 (get_or xs j [])

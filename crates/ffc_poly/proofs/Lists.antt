@@ -5,7 +5,7 @@ use Rattle.ffc_ring.specs.Monomial.{Monomial, degree}
 use Rattle.ffc_ring.specs.Polynomial.{Terms}
 use Rattle.ffc_poly.specs.Ordered.{residues, IsOrdered, AreWithin, HasDegree}
 
--- an element pushed stands in front of what is left
+-- an element pushed is in front of what is left
 pub pushed : {A : Type 0} (out out' : List A) (x : A) (left all : List A) → out' ≡ out ++ x ∷ [] → out ++ (x ∷ left) ≡ all → out' ++ left ≡ all
 pushed out out' x left all e h = ap (λ k. k ++ left) e ∙ simp append_assoc h
 
@@ -27,7 +27,7 @@ module _ {F : Type 0} (value : F → ℕ) where
   residues-push out out' k m r n e v w =
       ap (residues value) e ∙ residues-append out ((k, m) ∷ []) ∙ ap₂ (λ (x : ℕ) (y : Monomial). residues value out ++ (x, y) ∷ []) v w
 
--- what is behind the first term
+-- what is after the first term
 pub residues-rest : {F : Type 0} (value : F → ℕ) (p : ℕ) (cmp : Monomial → Monomial → Ordering) (limit : ℕ) (ts rest : List (F × Monomial)) (t : F × Monomial) → ts ≡ t ∷ rest → IsOrdered p cmp limit (residues value ts) → IsOrdered p cmp limit (residues value rest)
 residues-rest value p cmp limit ts rest t is h =
     let first : IsOrdered p cmp limit (residues value (t ∷ rest)) = subst (λ k. IsOrdered p cmp limit (residues value k)) is h in first.5

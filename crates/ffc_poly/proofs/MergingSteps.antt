@@ -46,7 +46,7 @@ module _ (p : ℕ) (cmp : Monomial → Monomial → Ordering) (c : ℕ) (a b : T
   pub step_cancelled : cmp s.1 t.1 ≡ Equal → add_mod p s.0 (mul_mod p c t.0) ≡ 0 → merged p cmp c (drop i a) (drop j b) ≡ merged p cmp c (drop (i + 1) a) (drop (j + 1) b)
   step_cancelled e zero_k = equal e ∙ cond-true _ _ _ (eq-eqb _ 0 zero_k)
 
--- where one side has ended, what is left of both stands one after the other
+-- where one side has ended, what is left of both comes one after the other
 ended : (p : ℕ) (cmp : Monomial → Monomial → Ordering) (c : ℕ) (a b : Terms) (i j : ℕ) → (length a ≤ i) ⊎ (length b ≤ j) → drop i a ++ multiplied p c (drop j b) ≡ merged p cmp c (drop i a) (drop j b)
 ended p cmp c a b i j (inl h) =
     let none : drop i a ≡ [] = drop_all i a h in

@@ -91,7 +91,7 @@ module _ (p : ℕ) (positive : 0 < p) (cmp : Monomial → Monomial → Ordering)
       (sym (step_cancelled p cmp 1 a (times p c m b) i j in_a in_products (get_or a i (0, [])) (get_or (times p c m b) j (0, [])) refl refl (monomials Equal e) (sym sums ∙ none)))
       ∙ so_far
 
--- where one side has ended, what is left of both stands one after the other
+-- where one side has ended, what is left of both comes one after the other
 pub multiple_finished : (p : ℕ) → 0 < p → (cmp : Monomial → Monomial → Ordering) (c : ℕ) (m : Monomial) (a b : Terms) (i j : ℕ) (out first second all : Terms) → first ≡ out ++ slice_range a i (length a) → second ≡ first ++ times p c m (drop j b) → (length a ≤ i) ⊎ (length b ≤ j) → out ++ merged p cmp 1 (drop i a) (drop j (times p c m b)) ≡ all → second ≡ all
 multiple_finished p positive cmp c m a b i j out first second all e f h so_far =
     let products = times p c m b in

@@ -1,6 +1,8 @@
 //! Sums that grow and shrink by multiples of short polynomials.
-ghost use Rattle.std.specs.Prelude.{◌≡◌, ◌≢◌, ℕ, ◌+◌, ◌<◌, ◌≤◌, ◌↔◌, [], ◌∷◌, ◌++◌, length, IsNone, IfOk, IfSome, OnOk, OnErr, IsErrOf, MatchOption};
-ghost use Rattle.ffc_ring.specs.Polynomial.{SamePolynomial, term_product, scaled, difference, PassesDegree, PassesTerms};
+ghost use Rattle.std.specs.Prelude.{◌≡◌, ◌≢◌, ℕ, ◌+◌, ◌<◌, ◌≤◌, ◌↔◌, [], ◌∷◌, ◌++◌, length, IsNone, IfOk, IfSome, OnOk};
+ghost use Rattle.std.specs.Prelude.{OnErr, IsErrOf, MatchOption};
+ghost use Rattle.ffc_ring.specs.Polynomial.{SamePolynomial, term_product, scaled, difference, PassesDegree};
+ghost use Rattle.ffc_ring.specs.Polynomial.{PassesTerms};
 ghost use Rattle.ffc_mono.specs.Leading.{IsLeading};
 
 use crate::poly::{Poly, TERM_LIMIT};
@@ -39,7 +41,8 @@ impl<F: Field, O: MonoOrder> Model for Accumulator<F, O> {
 
     ghost view = { λ a. sum_of a.tails.items };
 
-    ghost invariant = { λ a. AreOrdered F.ORDER O.cmp 1024 a.tails.items × (PassesTerms F.ORDER 131072 (sum_of a.tails.items) → ⊥) };
+    ghost invariant = { λ a. AreOrdered F.ORDER O.cmp 1024 a.tails.items
+        × (PassesTerms F.ORDER 131072 (sum_of a.tails.items) → ⊥) };
 }
 
 impl<F: Field, O: MonoOrder> Accumulator<F, O> {
@@ -58,7 +61,8 @@ impl<F: Field, O: MonoOrder> Accumulator<F, O> {
         requires { F.value k ≢ 0 }
         ensures sum { OnOk result (SamePolynomial F.ORDER self.new (self.old ++ scaled (F.value k) p.now)) }
         ensures fits { OnOk result (PassesTerms F.ORDER TERM_LIMIT (self.old ++ scaled (F.value k) p.now) → ⊥) }
-        ensures terms_over { IsErrOf result PolyStop.TermsOver → PassesTerms F.ORDER TERM_LIMIT (self.old ++ scaled (F.value k) p.now) }
+        ensures terms_over { IsErrOf result PolyStop.TermsOver → PassesTerms F.ORDER TERM_LIMIT
+            (self.old ++ scaled (F.value k) p.now) }
         ensures no_product { IsErrOf result PolyStop.DegreeOver → ⊥ }
         ensures unchanged { OnErr result (self.new ≡ self.old) }
     {
@@ -95,7 +99,8 @@ impl<F: Field, O: MonoOrder> Accumulator<F, O> {
     pub fn subtract(&mut self, p: &Poly<F, O>) -> Result<(), PolyStop>
         ensures difference { OnOk result (SamePolynomial F.ORDER self.new (difference F.ORDER self.old p.now)) }
         ensures fits { OnOk result (PassesTerms F.ORDER TERM_LIMIT (difference F.ORDER self.old p.now) → ⊥) }
-        ensures terms_over { IsErrOf result PolyStop.TermsOver → PassesTerms F.ORDER TERM_LIMIT (difference F.ORDER self.old p.now) }
+        ensures terms_over { IsErrOf result PolyStop.TermsOver → PassesTerms F.ORDER TERM_LIMIT
+            (difference F.ORDER self.old p.now) }
         ensures short { length self.old + length p.now ≤ TERM_LIMIT → IsErrOf result PolyStop.TermsOver → ⊥ }
         ensures no_product { IsErrOf result PolyStop.DegreeOver → ⊥ }
         ensures unchanged { OnErr result (self.new ≡ self.old) }
@@ -115,9 +120,11 @@ impl<F: Field, O: MonoOrder> Accumulator<F, O> {
         ensures fits { OnOk result (PassesTerms F.ORDER TERM_LIMIT
             (difference F.ORDER self.old (term_product (F.value c) m.entry.powers.now q.now)) → ⊥) }
         ensures terms_over { IsErrOf result PolyStop.TermsOver
-            → PassesTerms F.ORDER TERM_LIMIT (difference F.ORDER self.old (term_product (F.value c) m.entry.powers.now q.now)) }
+            → PassesTerms F.ORDER TERM_LIMIT
+            (difference F.ORDER self.old (term_product (F.value c) m.entry.powers.now q.now)) }
         ensures short { length self.old + length q.now ≤ TERM_LIMIT → IsErrOf result PolyStop.TermsOver → ⊥ }
-        ensures degree_over { IsErrOf result PolyStop.DegreeOver ↔ PassesDegree F.ORDER DEGREE_LIMIT ((F.value c, m.entry.powers.now) ∷ []) q.now }
+        ensures degree_over { IsErrOf result PolyStop.DegreeOver ↔ PassesDegree F.ORDER DEGREE_LIMIT
+            ((F.value c, m.entry.powers.now) ∷ []) q.now }
         ensures unchanged { OnErr result (self.new ≡ self.old) }
     {
         let multiple = q.times(c, m)?;

@@ -57,7 +57,8 @@ pub fn merged_multiple<F: Field, O: MonoOrder>(
     requires c_is { F.value c ≢ 0 }
     requires fits { RowFits DEGREE_LIMIT m.powers.now b.now }
     ensures ordered { IfOk result (λ v. IsOrdered F.ORDER O.cmp DEGREE_LIMIT v) }
-    ensures same { IfOk result (λ v. SamePolynomial F.ORDER v (a.now ++ term_product (F.value c) m.entry.powers.now b.now)) }
+    ensures same { IfOk result
+        (λ v. SamePolynomial F.ORDER v (a.now ++ term_product (F.value c) m.entry.powers.now b.now)) }
 {
     let mut out = TermList::new(alloc);
     let mut product = MonoRow::new(alloc);

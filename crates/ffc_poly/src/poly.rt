@@ -1,8 +1,10 @@
 //! Polynomials.
-ghost use Rattle.std.specs.Prelude.{◌≡◌, ◌≢◌, ℕ, ◌+◌, ◌*◌, ◌<◌, ◌≤◌, ◌↔◌, List, [], ◌∷◌, ◌++◌, length, drop, get_or, IsTrue, IsOk, IsNone, IfOk, IfSome, OnOk, IsErrOf, IfErr};
+ghost use Rattle.std.specs.Prelude.{◌≡◌, ◌≢◌, ℕ, ◌+◌, ◌*◌, ◌<◌, ◌≤◌, ◌↔◌, List, [], ◌∷◌, ◌++◌, length, drop, get_or};
+ghost use Rattle.std.specs.Prelude.{IsTrue, IsOk, IsNone, IfOk, IfSome, OnOk, IsErrOf, IfErr};
 ghost use Rattle.ffc_field.specs.Modular.{add_mod, sub_mod, mul_mod};
 ghost use Rattle.ffc_ring.specs.Monomial.{mono_value};
-ghost use Rattle.ffc_ring.specs.Polynomial.{SamePolynomial, term_product, product, scaled, difference, poly_value, PassesDegree, PassesTerms};
+ghost use Rattle.ffc_ring.specs.Polynomial.{SamePolynomial, term_product, product, scaled, difference, poly_value};
+ghost use Rattle.ffc_ring.specs.Polynomial.{PassesDegree, PassesTerms};
 ghost use Rattle.ffc_mono.specs.Leading.{IsLeading};
 ghost use Rattle.ffc_poly.specs.Ordered.{residues, sum_of, IsOrdered, IsConstant, IsWithinTerms, IsOverTerms, point_of};
 
@@ -123,7 +125,8 @@ impl<F: Field, O: MonoOrder> Poly<F, O> {
     pub fn from_terms(alloc: Global, terms: &[(F, Mono)]) -> Result<Self, PolyStop>
         ensures sum { IfOk result (λ r. SamePolynomial F.ORDER r (residues F.value terms.now)) }
         ensures fits { OnOk result (PassesTerms F.ORDER TERM_LIMIT (residues F.value terms.now) → ⊥) }
-        ensures terms_over { IsErrOf result PolyStop.TermsOver → PassesTerms F.ORDER TERM_LIMIT (residues F.value terms.now) }
+        ensures terms_over { IsErrOf result PolyStop.TermsOver → PassesTerms F.ORDER TERM_LIMIT
+            (residues F.value terms.now) }
         ensures short { length terms.now ≤ TERM_LIMIT → IsErrOf result PolyStop.TermsOver → ⊥ }
         ensures no_product { IsErrOf result PolyStop.DegreeOver → ⊥ }
     {
@@ -205,7 +208,8 @@ impl<F: Field, O: MonoOrder> Poly<F, O> {
         requires { F.value c ≢ 0 }
         ensures sum { IfOk result (λ r. SamePolynomial F.ORDER r (self.now ++ scaled (F.value c) other.now)) }
         ensures fits { OnOk result (IsWithinTerms F.ORDER TERM_LIMIT (self.now ++ scaled (F.value c) other.now)) }
-        ensures over { IsErrOf result PolyStop.TermsOver → IsOverTerms F.ORDER TERM_LIMIT (self.now ++ scaled (F.value c) other.now) }
+        ensures over { IsErrOf result PolyStop.TermsOver → IsOverTerms F.ORDER TERM_LIMIT
+            (self.now ++ scaled (F.value c) other.now) }
         ensures no_product { IsErrOf result PolyStop.DegreeOver → ⊥ }
     {
         let alloc = self.terms.allocator();
@@ -219,7 +223,8 @@ impl<F: Field, O: MonoOrder> Poly<F, O> {
         ensures value { IfOk result (λ r. (point : ℕ → ℕ) → poly_value F.ORDER point r
             ≡ add_mod F.ORDER (poly_value F.ORDER point self.now) (poly_value F.ORDER point other.now)) }
         ensures fits { OnOk result (PassesTerms F.ORDER TERM_LIMIT (self.now ++ other.now) → ⊥) }
-        ensures terms_over { IsErrOf result PolyStop.TermsOver → PassesTerms F.ORDER TERM_LIMIT (self.now ++ other.now) }
+        ensures terms_over { IsErrOf result PolyStop.TermsOver → PassesTerms F.ORDER TERM_LIMIT
+            (self.now ++ other.now) }
         ensures short { length self.now + length other.now ≤ TERM_LIMIT → IsErrOf result PolyStop.TermsOver → ⊥ }
         ensures no_product { IsErrOf result PolyStop.DegreeOver → ⊥ }
     {
@@ -232,7 +237,8 @@ impl<F: Field, O: MonoOrder> Poly<F, O> {
         ensures value { IfOk result (λ r. (point : ℕ → ℕ) → poly_value F.ORDER point r
             ≡ sub_mod F.ORDER (poly_value F.ORDER point self.now) (poly_value F.ORDER point other.now)) }
         ensures fits { OnOk result (PassesTerms F.ORDER TERM_LIMIT (difference F.ORDER self.now other.now) → ⊥) }
-        ensures terms_over { IsErrOf result PolyStop.TermsOver → PassesTerms F.ORDER TERM_LIMIT (difference F.ORDER self.now other.now) }
+        ensures terms_over { IsErrOf result PolyStop.TermsOver → PassesTerms F.ORDER TERM_LIMIT
+            (difference F.ORDER self.now other.now) }
         ensures short { length self.now + length other.now ≤ TERM_LIMIT → IsErrOf result PolyStop.TermsOver → ⊥ }
         ensures no_product { IsErrOf result PolyStop.DegreeOver → ⊥ }
     {
@@ -241,12 +247,15 @@ impl<F: Field, O: MonoOrder> Poly<F, O> {
 
     /// self + c*m*other, in one merge: no list of the products is made.
     pub fn add_multiple(&self, c: F, m: MonoRef<'_>, other: &Self) -> Result<Self, PolyStop>
-        ensures sum { IfOk result (λ r. SamePolynomial F.ORDER r (self.now ++ term_product (F.value c) m.entry.powers.now other.now)) }
-        ensures fits { OnOk result (PassesTerms F.ORDER TERM_LIMIT (self.now ++ term_product (F.value c) m.entry.powers.now other.now) → ⊥) }
+        ensures sum { IfOk result
+            (λ r. SamePolynomial F.ORDER r (self.now ++ term_product (F.value c) m.entry.powers.now other.now)) }
+        ensures fits { OnOk result
+            (PassesTerms F.ORDER TERM_LIMIT (self.now ++ term_product (F.value c) m.entry.powers.now other.now) → ⊥) }
         ensures terms_over { IsErrOf result PolyStop.TermsOver
             → PassesTerms F.ORDER TERM_LIMIT (self.now ++ term_product (F.value c) m.entry.powers.now other.now) }
         ensures short { length self.now + length other.now ≤ TERM_LIMIT → IsErrOf result PolyStop.TermsOver → ⊥ }
-        ensures degree_over { IsErrOf result PolyStop.DegreeOver ↔ PassesDegree F.ORDER DEGREE_LIMIT ((F.value c, m.entry.powers.now) ∷ []) other.now }
+        ensures degree_over { IsErrOf result PolyStop.DegreeOver ↔ PassesDegree F.ORDER DEGREE_LIMIT
+            ((F.value c, m.entry.powers.now) ∷ []) other.now }
     {
         let own = self.listed();
         if c.residue() == 0 {
@@ -270,9 +279,11 @@ impl<F: Field, O: MonoOrder> Poly<F, O> {
         ensures fits { OnOk result (PassesTerms F.ORDER TERM_LIMIT
             (difference F.ORDER self.now (term_product (F.value c) m.entry.powers.now other.now)) → ⊥) }
         ensures terms_over { IsErrOf result PolyStop.TermsOver
-            → PassesTerms F.ORDER TERM_LIMIT (difference F.ORDER self.now (term_product (F.value c) m.entry.powers.now other.now)) }
+            → PassesTerms F.ORDER TERM_LIMIT
+            (difference F.ORDER self.now (term_product (F.value c) m.entry.powers.now other.now)) }
         ensures short { length self.now + length other.now ≤ TERM_LIMIT → IsErrOf result PolyStop.TermsOver → ⊥ }
-        ensures degree_over { IsErrOf result PolyStop.DegreeOver ↔ PassesDegree F.ORDER DEGREE_LIMIT ((F.value c, m.entry.powers.now) ∷ []) other.now }
+        ensures degree_over { IsErrOf result PolyStop.DegreeOver ↔ PassesDegree F.ORDER DEGREE_LIMIT
+            ((F.value c, m.entry.powers.now) ∷ []) other.now }
     {
         self.add_multiple(c.neg(), m, other)
     }
@@ -286,8 +297,10 @@ impl<F: Field, O: MonoOrder> Poly<F, O> {
         ensures value { IfOk result (λ r. (point : ℕ → ℕ) → poly_value F.ORDER point r
             ≡ mul_mod F.ORDER (poly_value F.ORDER point self.now) (poly_value F.ORDER point other.now)) }
         ensures fits { OnOk result (PassesTerms F.ORDER TERM_LIMIT (product self.now other.now) → ⊥) }
-        ensures terms_over { IsErrOf result PolyStop.TermsOver → PassesTerms F.ORDER TERM_LIMIT (product self.now other.now) }
-        ensures degree_over { IsErrOf result PolyStop.DegreeOver ↔ PassesDegree F.ORDER DEGREE_LIMIT self.now other.now }
+        ensures terms_over { IsErrOf result PolyStop.TermsOver → PassesTerms F.ORDER TERM_LIMIT
+            (product self.now other.now) }
+        ensures degree_over { IsErrOf result PolyStop.DegreeOver ↔ PassesDegree F.ORDER DEGREE_LIMIT self.now
+            other.now }
     {
         let alloc = self.terms.allocator();
         if self.is_zero() {
@@ -311,19 +324,22 @@ impl<F: Field, O: MonoOrder> Poly<F, O> {
         ensures value { IfOk result (λ r. (point : ℕ → ℕ) → poly_value F.ORDER point r
             ≡ mul_mod F.ORDER (F.value c * mono_value point m.now) (poly_value F.ORDER point self.now)) }
         ensures no_more_terms { IsErrOf result PolyStop.TermsOver → ⊥ }
-        ensures degree_over { IsErrOf result PolyStop.DegreeOver ↔ PassesDegree F.ORDER DEGREE_LIMIT ((F.value c, m.now) ∷ []) self.now }
+        ensures degree_over { IsErrOf result PolyStop.DegreeOver ↔ PassesDegree F.ORDER DEGREE_LIMIT
+            ((F.value c, m.now) ∷ []) self.now }
     {
         self.times(c, m.as_ref())
     }
 
     /// The product with c and a borrowed monomial, in one pass.
     pub fn times(&self, c: F, m: MonoRef<'_>) -> Result<Self, PolyStop>
-        ensures product { IfOk result (λ r. SamePolynomial F.ORDER r (term_product (F.value c) m.entry.powers.now self.now)) }
+        ensures product { IfOk result
+            (λ r. SamePolynomial F.ORDER r (term_product (F.value c) m.entry.powers.now self.now)) }
         ensures value { IfOk result (λ r. (point : ℕ → ℕ) → poly_value F.ORDER point r
             ≡ mul_mod F.ORDER (F.value c * mono_value point m.entry.powers.now) (poly_value F.ORDER point self.now)) }
         ensures no_longer { IfOk result (λ r. length r ≤ length self.now) }
         ensures no_more_terms { IsErrOf result PolyStop.TermsOver → ⊥ }
-        ensures degree_over { IsErrOf result PolyStop.DegreeOver ↔ PassesDegree F.ORDER DEGREE_LIMIT ((F.value c, m.entry.powers.now) ∷ []) self.now }
+        ensures degree_over { IsErrOf result PolyStop.DegreeOver ↔ PassesDegree F.ORDER DEGREE_LIMIT
+            ((F.value c, m.entry.powers.now) ∷ []) self.now }
     {
         let alloc = self.terms.allocator();
         if c.residue() == 0 {

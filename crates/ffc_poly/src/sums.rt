@@ -41,7 +41,8 @@ pub fn add_scaled_from<F: Field, O: MonoOrder>(
     requires b_is { IsOrdered F.ORDER O.cmp DEGREE_LIMIT (drop from_b b.now) }
     requires c_is { F.value c ≢ 0 }
     ensures ordered { IfOk result (λ v. IsOrdered F.ORDER O.cmp DEGREE_LIMIT v) }
-    ensures same { IfOk result (λ v. SamePolynomial F.ORDER v (drop from_a a.now ++ scaled (F.value c) (drop from_b b.now))) }
+    ensures same { IfOk result
+        (λ v. SamePolynomial F.ORDER v (drop from_a a.now ++ scaled (F.value c) (drop from_b b.now))) }
 {
     let mut out = TermList::new(alloc);
     let mut i = from_a;

@@ -1,5 +1,6 @@
 //! Sums of ordered lists of terms.
-ghost use Rattle.std.specs.Prelude.{◌≡◌, ◌≢◌, ◌<◌, ◌≤◌, ◌⊎◌, [], ◌∷◌, ◌++◌, length, get_or, set, drop, ◌+◌, false, IsTrue, IfOk, OnOk, OnErr, MatchOption};
+ghost use Rattle.std.specs.Prelude.{◌≡◌, ◌≢◌, ◌<◌, ◌≤◌, ◌⊎◌, [], ◌∷◌, ◌++◌, length, get_or, set, drop, ◌+◌, false};
+ghost use Rattle.std.specs.Prelude.{IsTrue, IfOk, OnOk, OnErr, MatchOption};
 ghost use Rattle.ffc_ring.specs.Polynomial.{SamePolynomial};
 ghost use Rattle.ffc_poly.specs.Ordered.{sum_of, IsOrdered};
 ghost use Rattle.ffc_poly.specs.Tails.{AreOrdered, lead_of, AreEmpty, IsHighest, IsAlone, IsRival, IsTop};
@@ -121,7 +122,8 @@ fn higher<F: Field, O: MonoOrder>(tails: &[Tail<F>], best: Option<usize>, i: usi
 
 /// The place of a list whose leading monomial is below none of the others', or none where all lists are empty.
 fn highest<F: Field, O: MonoOrder>(tails: &[Tail<F>]) -> Option<usize>
-    ensures { MatchOption result (AreEmpty tails.now (length tails.now)) (λ b. IsHighest O.cmp tails.now (length tails.now) b) }
+    ensures { MatchOption result (AreEmpty tails.now (length tails.now))
+        (λ b. IsHighest O.cmp tails.now (length tails.now) b) }
 {
     let mut best = None;
     for i in 0..tails.len() {
@@ -136,7 +138,8 @@ fn is_rival<F: Field>(tails: &[Tail<F>], i: usize, j: usize) -> bool
     requires second { j < length tails.now }
     requires some { 0 < length (get_or tails.now i []) }
     ensures rival { IsTrue result → IsRival tails.now i j }
-    ensures other { result ≡ false → j ≢ i → (get_or tails.now j [] ≡ []) ⊎ (lead_of tails.now j ≢ lead_of tails.now i) }
+    ensures other { result ≡ false → j ≢ i → (get_or tails.now j [] ≡ [])
+        ⊎ (lead_of tails.now j ≢ lead_of tails.now i) }
 {
     if j == i {
         return false;
@@ -177,7 +180,8 @@ pub fn drop_first_of<F: Field>(tails: &mut Vec<Tail<F>>, i: usize)
 fn set_first_of<F: Field>(tails: &mut Vec<Tail<F>>, i: usize, c: F)
     requires place { i < length tails.old.items }
     requires some { 0 < length (get_or tails.old.items i []) }
-    ensures { tails.new.items ≡ set tails.old.items i ((F.value c, lead_of tails.old.items i) ∷ drop 1 (get_or tails.old.items i [])) }
+    ensures { tails.new.items ≡ set tails.old.items i ((F.value c, lead_of tails.old.items i)
+        ∷ drop 1 (get_or tails.old.items i [])) }
 {
     let tail = &mut tails[i];
     tail.set_first(c);
@@ -201,7 +205,8 @@ pub fn first_of<F: Field>(
 ) -> Result<(F, Mono), AllocError>
     requires place { i < length tails.now }
     requires some { 0 < length (get_or tails.now i []) }
-    ensures { IfOk result (λ t. (F.value t.0 ≡ (get_or (get_or tails.now i []) 0 (0, [])).0) × (t.1 ≡ lead_of tails.now i)) }
+    ensures { IfOk result (λ t. (F.value t.0 ≡ (get_or (get_or tails.now i []) 0 (0, [])).0)
+        × (t.1 ≡ lead_of tails.now i)) }
 {
     let tail = &tails[i];
     let (c, m) = tail.first();
@@ -236,7 +241,8 @@ pub fn settled<F: Field, O: MonoOrder>(tails: &mut Vec<Tail<F>>) -> Option<usize
     requires { AreOrdered F.ORDER O.cmp DEGREE_LIMIT tails.old.items }
     ensures ordered { AreOrdered F.ORDER O.cmp DEGREE_LIMIT tails.new.items }
     ensures same { SamePolynomial F.ORDER (sum_of tails.new.items) (sum_of tails.old.items) }
-    ensures found { MatchOption result (AreEmpty tails.new.items (length tails.new.items)) (λ i. IsTop O.cmp tails.new.items i) }
+    ensures found { MatchOption result (AreEmpty tails.new.items (length tails.new.items))
+        (λ i. IsTop O.cmp tails.new.items i) }
 {
     loop {
         let Some(i) = highest::<F, O>(tails.as_slice()) else {

@@ -1,5 +1,6 @@
 //! Terms laid flat.
-ghost use Rattle.std.specs.Prelude.{◌≡◌, ℕ, ◌+◌, ◌<◌, ◌≤◌, [], ◌∷◌, ◌++◌, map, length, set, take, get_or, slice_range, IfOk, OnOk};
+ghost use Rattle.std.specs.Prelude.{◌≡◌, ℕ, ◌+◌, ◌<◌, ◌≤◌, [], ◌∷◌, ◌++◌, map, length, set, take, get_or, slice_range};
+ghost use Rattle.std.specs.Prelude.{IfOk, OnOk};
 ghost use Rattle.std.specs.Vec.{vec_len, vec_capacity};
 ghost use Rattle.ffc_field.specs.Modular.{mul_mod};
 ghost use Rattle.ffc_ring.specs.Monomial.{degree, mono_mul};
@@ -90,7 +91,8 @@ impl<F: Field> TermList<F> {
     /// Appends c*m*n.
     pub fn push_product(&mut self, c: F, m: MonoRef<'_>, n: MonoRef<'_>) -> Result<(), AllocError>
         requires { degree m.powers.now + degree n.powers.now ≤ 1024 }
-        ensures { OnOk result (self.new ≡ self.old ++ (F.value c, mono_mul m.entry.powers.now n.entry.powers.now) ∷ []) }
+        ensures { OnOk result (self.new ≡ self.old ++ (F.value c, mono_mul m.entry.powers.now n.entry.powers.now)
+            ∷ []) }
     {
         self.coefficients.reserve(1)?;
         self.monomials.push_product(m, n)?;

@@ -1,12 +1,12 @@
 -- The count of the monomials in given variables up to a degree, by Pascal's rule: those without the first variable, and
 -- the others divided by it.
-use Rattle.std.proofs.Common.{◌≡◌, ◌≢◌, ◌⊎◌, ℕ, zero, suc, ◌+◌, ◌-◌, ◌<◌, ◌≤◌, cond, eqb, List, [], ◌∷◌, length, refl, sym, ap, ap₂, ◌∙◌, subst, inl, inr, arith, eq-eqb, ne_eqb}
+use Rattle.std.proofs.Common.{◌≡◌, ◌≢◌, ℕ, zero, suc, ◌+◌, ◌-◌, ◌≤◌, cond, eqb, List, [], ◌∷◌, length, refl, sym, ap, ◌∙◌, inl, inr, arith, eq-eqb, ne_eqb}
 use Rattle.std.proofs.lemmas.Bool.{cond-true, cond-false, cases_eq}
 use Rattle.ffc_field.specs.Binomial.{choose, choose-none, choose-all}
 use Rattle.ffc_ring.specs.Monomial.{Monomial, IsMonomial, exponent, degree, mono_mul, mono_quotient, Divides}
 use Rattle.ffc_ring.specs.Polynomial.{IsNoneOf}
-use Rattle.ffc_ring.specs.Counting.{IsAmong, IsIn, AreUpTo, AreDifferent}
-use Rattle.ffc_ring.proofs.MonomialLemmas.{one_monomial, exponent-here, exponent-there, exponent-mono_quotient, IsMonomialFrom-mono_quotient, degree-mono_quotient, mono_mul-mono_quotient}
+use Rattle.ffc_ring.specs.Counting.{IsIn, AreUpTo, AreDifferent}
+use Rattle.ffc_ring.proofs.MonomialLemmas.{exponent-here, exponent-there, exponent-mono_quotient, IsMonomialFrom-mono_quotient, degree-mono_quotient, mono_mul-mono_quotient}
 
 nothing_less : (x : ℕ) → 0 - x ≡ 0
 nothing_less x = omega arith

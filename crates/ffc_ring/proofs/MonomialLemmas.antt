@@ -23,7 +23,7 @@ pub from_lower : (low high : ℕ) (m : Monomial) → IsMonomialFrom high m → l
 from_lower low high [] v h = tt
 from_lower low high (p ∷ m) v h = (omega arith, v.1, v.2)
 
--- the exponents behind equal first powers
+-- the exponents after equal first powers
 tails_alike : (p q : ℕ × ℕ) (m n : Monomial) → IsMonomialFrom (suc p.0) m → IsMonomialFrom (suc p.0) n → p.0 ≡ q.0 → ((x : ℕ) → exponent (p ∷ m) x ≡ exponent (q ∷ n) x) → (x : ℕ) → exponent m x ≡ exponent n x
 tails_alike p q m n v w same h x =
     elim (cases_eq x p.0) [
@@ -53,7 +53,7 @@ one_monomial low (p ∷ m) (q ∷ n) v w h =
           absurd (omega arith)
     ]
 
--- ---- one power joined in
+-- ---- one power merged in
 
 pub with_power-less : (f : ℕ → ℕ → ℕ) (x e : ℕ) (p : ℕ × ℕ) (m : Monomial) → x < p.0 → with_power f x e (p ∷ m) ≡ (x, e) ∷ p ∷ m
 with_power-less f x e p m h = cond-true _ _ _ (lt-ltb x p.0 h)
@@ -119,7 +119,7 @@ module _ (f : ℕ → ℕ → ℕ) (j : Joins f) where
             ])
       ]
 
-  -- ---- joined monomials
+  -- ---- merged monomials
 
   pub IsMonomialFrom-joined : (low : ℕ) (m n : Monomial) → IsMonomialFrom low m → IsMonomialFrom low n → IsMonomialFrom low (joined f m n)
   IsMonomialFrom-joined low [] n v w = w
@@ -220,7 +220,7 @@ Divides-mono_mul m n v w x = omega (arith, exponent-mono_mul m n v w x)
 
 -- ---- quotients
 
--- divisibility behind equal first variables
+-- divisibility after equal first variables
 pub tail_divides : (p q : ℕ × ℕ) (m n : Monomial) → IsMonomialFrom (suc p.0) m → IsMonomialFrom (suc p.0) n → p.0 ≡ q.0 → Divides (p ∷ m) (q ∷ n) → Divides m n
 tail_divides p q m n v w same d x =
     elim (cases_eq x p.0) [
@@ -228,7 +228,7 @@ tail_divides p q m n v w same d x =
       | inr there ↦ omega (arith, d x, exponent-there p m x there, exponent-there q n x (omega arith))
     ]
 
--- a monomial whose variables lie above q's variable divides what is behind q
+-- a monomial whose variables lie above q's variable divides what is after q
 pub divides_tail : (q : ℕ × ℕ) (m n : Monomial) → IsMonomialFrom (suc q.0) m → Divides m (q ∷ n) → Divides m n
 divides_tail q m n v d x =
     elim (cases_eq x q.0) [
@@ -320,12 +320,12 @@ exponent_within_degree (p ∷ m) x =
 
 -- ---- joining from the front
 
--- a power of an earlier variable stands in front
+-- a power of an earlier variable is in front
 pub with_power-front : (f : ℕ → ℕ → ℕ) (p : ℕ × ℕ) (m : Monomial) → IsMonomialFrom (suc p.0) m → with_power f p.0 p.1 m ≡ p ∷ m
 with_power-front f p [] v = refl
 with_power-front f p (q ∷ m) v = with_power-less f p.0 p.1 q m v.0
 
--- the second monomial's first power stands in front where all of the first come later
+-- the second monomial's first power is in front where all of the first come later
 pub joined-second : (f : ℕ → ℕ → ℕ) (q : ℕ × ℕ) (m n : Monomial) → IsMonomialFrom (suc q.0) m → joined f m (q ∷ n) ≡ q ∷ joined f m n
 joined-second f q [] n v = refl
 joined-second f q (p ∷ m) n v =
@@ -333,17 +333,17 @@ joined-second f q (p ∷ m) n v =
     ∙ with_power-more f p.0 p.1 q (joined f m n) (omega arith)
 
 module _ (f : ℕ → ℕ → ℕ) (j : Joins f) where
-  -- the first monomial's first power stands in front where all of the second come later
+  -- the first monomial's first power is in front where all of the second come later
   pub joined-first : (p : ℕ × ℕ) (m n : Monomial) → IsMonomialFrom (suc p.0) m → IsMonomialFrom (suc p.0) n → joined f (p ∷ m) n ≡ p ∷ joined f m n
   joined-first p m n v w = with_power-front f p (joined f m n) (IsMonomialFrom-joined f j (suc p.0) m n v w)
 
-  -- first powers of one variable are joined
+  -- first powers of one variable are merged
   pub joined-both : (p q : ℕ × ℕ) (m n : Monomial) → IsMonomialFrom (suc p.0) m → p.0 ≡ q.0 → joined f (p ∷ m) (q ∷ n) ≡ (p.0, f p.1 q.1) ∷ joined f m n
   joined-both p q m n v same =
       ap (with_power f p.0 p.1) (joined-second f q m n (from_lower (suc q.0) (suc p.0) m v (omega arith)))
       ∙ with_power-same f p.0 p.1 q (joined f m n) same
 
-  -- nothing joined
+  -- nothing merged
   pub joined-nothing : (low : ℕ) (m : Monomial) → IsMonomialFrom low m → joined f m [] ≡ m
   joined-nothing low [] v = refl
   joined-nothing low (p ∷ m) v = ap (with_power f p.0 p.1) (joined-nothing (suc p.0) m v.2) ∙ with_power-front f p m v.2

@@ -387,7 +387,7 @@ coefficient-term_product p c m n a v w u =
     ∙ ap (λ k. c * k) (weighted-alike (λ k. one_at (mono_mul m n) (mono_mul m k)) (one_at n) a u (λ k x. shifted_one m n k v w x) ∙ sym (written-is_weighted a n)))
     ∙ sym (mul-mod_second c (written a n) p)
 
--- a monomial of the terms behind the first, whose product is another
+-- a monomial of the terms after the first, whose product is another
 behind_first : (p : ℕ) (m k : Monomial) (t : ℕ × Monomial) (a : Terms) → IsMonomial t.1 × AreTerms a → mono_mul m t.1 ≢ k → (n : Monomial) × IsMonomial n × (coefficient p a n ≢ 0) × (k ≡ mono_mul m n) → (n : Monomial) × IsMonomial n × (coefficient p (t ∷ a) n ≢ 0) × (k ≡ mono_mul m n)
 behind_first p m k t a u there (n, w, some, e) =
     (n, w, (λ none. some (sym (ap (λ x. x % p) (written-off n t a (λ same. there (ap (mono_mul m) same ∙ sym e)))) ∙ none)), e)

@@ -1,9 +1,9 @@
 -- All monomials in given variables up to a degree, listed: those without the first variable, and it times those of one degree
 -- less.
-use Rattle.std.proofs.Common.{◌≡◌, ◌≢◌, ℕ, zero, suc, ◌+◌, ◌≤◌, List, [], ◌∷◌, ◌++◌, length, map, refl, sym, ap, ◌∙◌, inl, inr, arith, length-append, zero-add}
+use Rattle.std.proofs.Common.{◌≡◌, ℕ, zero, suc, ◌+◌, List, [], ◌∷◌, ◌++◌, length, map, refl, sym, ap, ◌∙◌, inl, inr, arith, length-append, zero-add}
 use Rattle.std.proofs.lemmas.Bool.{cases_eq}
 use Rattle.ffc_field.specs.Binomial.{choose, choose-none, choose-all}
-use Rattle.ffc_ring.specs.Monomial.{Monomial, IsMonomial, exponent, degree, mono_mul}
+use Rattle.ffc_ring.specs.Monomial.{Monomial, IsMonomial, exponent, mono_mul}
 use Rattle.ffc_ring.specs.Polynomial.{IsNoneOf}
 use Rattle.ffc_ring.specs.Counting.{IsAmong, IsIn, AreUpTo, AreDifferent, AreApart}
 use Rattle.ffc_ring.proofs.CountingLemmas.{pascal, variable_is}

@@ -27,7 +27,7 @@ abbrev pub degree : Monomial → ℕ
 degree [] = 0
 degree (p ∷ m) = p.1 + degree m
 
--- a monomial with the power x^e joined in: where x occurs already, f makes its exponent of the two
+-- a monomial with the power x^e merged in: where x occurs already, f makes its exponent of the two
 abbrev pub with_power : (ℕ → ℕ → ℕ) → ℕ → ℕ → Monomial → Monomial
 with_power f x e [] = (x, e) ∷ []
 with_power f x e (p ∷ m) =
@@ -35,7 +35,7 @@ with_power f x e (p ∷ m) =
     then (x, e) ∷ p ∷ m
     else (if x == p.0 then (x, f e p.1) ∷ m else p ∷ with_power f x e m)
 
--- two monomials joined, one power after another
+-- two monomials merged, one power after another
 abbrev pub joined : (ℕ → ℕ → ℕ) → Monomial → Monomial → Monomial
 joined f [] n = n
 joined f (p ∷ m) n = with_power f p.0 p.1 (joined f m n)

@@ -4,7 +4,7 @@
 -- A polynomial is a finite map from monomials to residues other than 0. It is written as any list of terms,
 -- pairs of coefficient and monomial: the map has at each monomial the sum of the coefficients written for it,
 -- modulo p. Two lists are the same polynomial where they have the same coefficients. So a sum is one list
--- behind the other, and a product is the list of all products of two terms.
+-- after the other, and a product is the list of all products of two terms.
 use Rattle.std.specs.Prelude.{◌≡◌, ◌≢◌, ℕ, ◌+◌, ◌-◌, ◌*◌, ◌%◌, ◌<◌, List, [], ◌∷◌, ◌++◌, length, if◌then◌else◌}
 use Rattle.ffc_ring.specs.Monomial.{Monomial, IsMonomial, degree, mono_mul, mono_value, same_monomial}
 

@@ -1,6 +1,12 @@
 //! The laws of monomials.
 ghost use Rattle.ffc_ring.specs.Counting.{CountOfMonomials, CountIsReached};
-ghost use Rattle.ffc_ring.specs.MonomialLaws.{OneMonomial, ProductIsMonomial, ProductAddsExponents, LcmIsMonomial, LcmTakesGreater, ProductAddsDegrees, ProductCommutes, ProductAssociates, ProductWithOne, ProductCancels, DividesProduct, DivisorIsNoHigher, QuotientIsMonomial, QuotientTimesDivisor, QuotientSubtractsExponents, QuotientSubtractsDegrees, DividesItself, DividesThrough, MutualDivisorsAreEqual, FirstDividesLcm, SecondDividesLcm, LcmDividesCommonMultiples, CoprimeLcmIsProduct, ProductOfValues};
+ghost use Rattle.ffc_ring.specs.MonomialLaws.{OneMonomial, ProductIsMonomial, ProductAddsExponents, LcmIsMonomial};
+ghost use Rattle.ffc_ring.specs.MonomialLaws.{LcmTakesGreater, ProductAddsDegrees, ProductCommutes, ProductAssociates};
+ghost use Rattle.ffc_ring.specs.MonomialLaws.{ProductWithOne, ProductCancels, DividesProduct, DivisorIsNoHigher};
+ghost use Rattle.ffc_ring.specs.MonomialLaws.{QuotientIsMonomial, QuotientTimesDivisor, QuotientSubtractsExponents};
+ghost use Rattle.ffc_ring.specs.MonomialLaws.{QuotientSubtractsDegrees, DividesItself, DividesThrough};
+ghost use Rattle.ffc_ring.specs.MonomialLaws.{MutualDivisorsAreEqual, FirstDividesLcm, SecondDividesLcm};
+ghost use Rattle.ffc_ring.specs.MonomialLaws.{LcmDividesCommonMultiples, CoprimeLcmIsProduct, ProductOfValues};
 
 /// Monomials with equal exponents are equal.
 pub fn equal_exponents()

@@ -1,5 +1,10 @@
 //! The laws of polynomials.
-ghost use Rattle.ffc_ring.specs.PolynomialLaws.{SumAddsCoefficients, DifferenceSubtractsCoefficients, ScaledMultipliesCoefficients, MultipleShiftsCoefficients, MultipleHasShiftedMonomials, SumAtPoint, DifferenceAtPoint, ProductAtPoint, OneValue, SameSums, SameProducts, SumCommutes, ProductCommutes, ProductAssociates, ProductDistributes, ProductDistributesFromLeft, ProductWithOne};
+ghost use Rattle.ffc_ring.specs.PolynomialLaws.{SumAddsCoefficients, DifferenceSubtractsCoefficients};
+ghost use Rattle.ffc_ring.specs.PolynomialLaws.{ScaledMultipliesCoefficients, MultipleShiftsCoefficients};
+ghost use Rattle.ffc_ring.specs.PolynomialLaws.{MultipleHasShiftedMonomials, SumAtPoint, DifferenceAtPoint};
+ghost use Rattle.ffc_ring.specs.PolynomialLaws.{ProductAtPoint, OneValue, SameSums, SameProducts, SumCommutes};
+ghost use Rattle.ffc_ring.specs.PolynomialLaws.{ProductCommutes, ProductAssociates, ProductDistributes};
+ghost use Rattle.ffc_ring.specs.PolynomialLaws.{ProductDistributesFromLeft, ProductWithOne};
 
 /// The coefficients of sums, differences and multiples.
 pub fn coefficients()

@@ -61,7 +61,8 @@ fn cofactors<F: Field>(
     requires common { IsCommonDivisor F.ORDER f.now h.now common.now.b common.now.value }
     requires some { common.now.value ≢ [] }
     requires roots { HasRoots F.ORDER common.now.value (map F.value roots.now) }
-    ensures identity { IfOk result (λ r. IsCombination F.ORDER f.now h.now r.0 r.1 (product_of_roots F.ORDER (map F.value roots.now))) }
+    ensures identity { IfOk result
+        (λ r. IsCombination F.ORDER f.now h.now r.0 r.1 (product_of_roots F.ORDER (map F.value roots.now))) }
     ensures short { IfOk result (λ r. (length r.0 ≤ length f.now) × (length r.1 ≤ length f.now)) }
 {
     let inverse = leading_inverse(&common.value);
@@ -85,12 +86,17 @@ pub fn roots<F: Field>(alloc: Global, f: &Uni<F>, meter: &mut Meter) -> Result<R
     ensures chain { IfOk result (λ r. IsChain F.ORDER f.now r.chain.steps) }
     ensures lower { IfOk result (λ r. AreLower f.now r.chain.steps) }
     ensures short { IfOk result (λ r. (length r.a ≤ length f.now) × (length r.b ≤ length f.now)) }
-    ensures identity { IfOk result (λ r. IsCombination F.ORDER f.now (without_x F.ORDER (last_remainder indeterminate r.chain.steps)) r.a r.b (product_of_roots F.ORDER r.zeros)) }
+    ensures identity { IfOk result
+        (λ r. IsCombination F.ORDER f.now (without_x F.ORDER (last_remainder indeterminate r.chain.steps)) r.a r.b
+        (product_of_roots F.ORDER r.zeros)) }
 
     // Where f has one root at most, these units are enough; and else d * S times as many, where each two different roots
     // are separated by some number below S.
-    ensures few { IsErrOf result stops.Spent → HasOneRootAtMost F.ORDER f.now → HasFewerUnits meter.old (unit_bound (length f.now - 1)) }
-    ensures many { IsErrOf result stops.Spent → (bound : ℕ) → AreSeparated F.ORDER f.now bound → HasFewerUnits meter.old (unit_bound (length f.now - 1)) ⊎ HasFewerUnits meter.old ((length f.now - 1) * bound * unit_bound (length f.now - 1)) }
+    ensures few { IsErrOf result stops.Spent → HasOneRootAtMost F.ORDER f.now
+        → HasFewerUnits meter.old (unit_bound (length f.now - 1)) }
+    ensures many { IsErrOf result stops.Spent → (bound : ℕ) → AreSeparated F.ORDER f.now bound
+        → HasFewerUnits meter.old (unit_bound (length f.now - 1))
+        ⊎ HasFewerUnits meter.old ((length f.now - 1) * bound * unit_bound (length f.now - 1)) }
     ensures full { IsErrOf result stops.Spent → total meter.new ≡ meter.new.budget }
     ensures chained { IsChained meter.old meter.new }
 {

@@ -11,7 +11,8 @@ pub fn insert_root<F: Field>(roots: &mut Vec<u64>, root: F) -> Result<(), AllocE
     requires rising { AreRising F.ORDER 0 roots.old.items }
     requires absent { Contains roots.old.items (F.value root) → ⊥ }
     ensures rising { OnOk result (AreRising F.ORDER 0 roots.new.items) }
-    ensures product { OnOk result (SameUnivariate F.ORDER (product_of_roots F.ORDER roots.new.items) (product_of_roots F.ORDER (F.value root ∷ roots.old.items))) }
+    ensures product { OnOk result (SameUnivariate F.ORDER (product_of_roots F.ORDER roots.new.items)
+        (product_of_roots F.ORDER (F.value root ∷ roots.old.items))) }
 {
     let residue = root.residue();
     match roots.binary_search(&residue) {

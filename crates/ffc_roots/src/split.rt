@@ -1,11 +1,13 @@
 //! A product of different factors X - root, split into them (Berlekamp 1970; Rabin, "Probabilistic algorithms in finite
 //! fields", 1980).
-ghost use Rattle.std.specs.Prelude.{◌≡◌, ◌≢◌, ℕ, suc, ◌+◌, ◌-◌, ◌*◌, ◌<◌, ◌≤◌, [], ◌∷◌, length, min, IfOk, IfSome, IfNone, OnOk, IsErrOf};
+ghost use Rattle.std.specs.Prelude.{◌≡◌, ◌≢◌, ℕ, suc, ◌+◌, ◌-◌, ◌*◌, ◌<◌, ◌≤◌, [], ◌∷◌, length, min, IfOk, IfSome};
+ghost use Rattle.std.specs.Prelude.{IfNone, OnOk, IsErrOf};
 ghost use Rattle.ffc_base.specs.Metering.{total};
 ghost use Rattle.ffc_uni.specs.Units.{IsChained, IsAtMost};
 ghost use Rattle.ffc_uni.specs.Univariate.{IsNormal, SameUnivariate, product_of_roots, times};
 ghost use Rattle.ffc_roots.specs.Divisors.{IsDivisor, field_polynomial};
-ghost use Rattle.ffc_roots.specs.Parts.{IsParted, HasRoots, IsTakenApart, AreRising, weight, weight_of, splits_in, splits_of};
+ghost use Rattle.ffc_roots.specs.Parts.{IsParted, HasRoots, IsTakenApart, AreRising, weight, weight_of, splits_in};
+ghost use Rattle.ffc_roots.specs.Parts.{splits_of};
 ghost use Rattle.ffc_roots.specs.Separation.{AreSeparated, SeparatesNone};
 ghost use Rattle.ffc_roots.specs.declared.stop.RootStop.TheVariants as stops;
 
@@ -119,12 +121,16 @@ fn take_apart<F: Field>(
     meter: &mut Meter,
 ) -> Result<(), RootStop>
     requires rising { AreRising F.ORDER 0 roots.old.items }
-    requires divides { IsDivisor F.ORDER (times f.now (product_of_roots F.ORDER roots.old.items)) (field_polynomial F.ORDER) }
-    ensures product { OnOk result (IsTakenApart F.ORDER f.now roots.old.items pending.old.items roots.new.items pending.new.items) }
+    requires divides { IsDivisor F.ORDER (times f.now (product_of_roots F.ORDER roots.old.items))
+        (field_polynomial F.ORDER) }
+    ensures product { OnOk result (IsTakenApart F.ORDER f.now roots.old.items pending.old.items roots.new.items
+        pending.new.items) }
     ensures rising { OnOk result (AreRising F.ORDER 0 roots.new.items) }
     ensures fewer { OnOk result (weight_of pending.new.items < weight_of pending.old.items + weight (length f.now)) }
-    ensures splits { OnOk result (min 1 (splits_of (length f.now)) + splits_in pending.new.items ≤ splits_in pending.old.items + splits_of (length f.now)) }
-    ensures units { (bound : ℕ) → AreSeparated F.ORDER f.now bound → IsAtMost (128 * (bound * min 1 (splits_of (length f.now)))) meter.old meter.new }
+    ensures splits { OnOk result (min 1 (splits_of (length f.now)) + splits_in pending.new.items
+        ≤ splits_in pending.old.items + splits_of (length f.now)) }
+    ensures units { (bound : ℕ) → AreSeparated F.ORDER f.now bound
+        → IsAtMost (128 * (bound * min 1 (splits_of (length f.now)))) meter.old meter.new }
     ensures chained { IsChained meter.old meter.new }
     ensures full { IsErrOf result stops.Spent → total meter.new ≡ meter.new.budget }
 {
@@ -152,7 +158,8 @@ pub fn split<F: Field>(
     requires { IsDivisor F.ORDER product.now (field_polynomial F.ORDER) }
     ensures roots { IfOk result (λ roots. HasRoots F.ORDER product.now roots.items) }
     ensures rising { IfOk result (λ roots. AreRising F.ORDER 0 roots.items) }
-    ensures units { (bound : ℕ) → AreSeparated F.ORDER product.now bound → IsAtMost (128 * (bound * splits_of (length product.now))) meter.old meter.new }
+    ensures units { (bound : ℕ) → AreSeparated F.ORDER product.now bound
+        → IsAtMost (128 * (bound * splits_of (length product.now))) meter.old meter.new }
     ensures chained { IsChained meter.old meter.new }
     ensures full { IsErrOf result stops.Spent → total meter.new ≡ meter.new.budget }
 {

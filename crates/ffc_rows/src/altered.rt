@@ -54,7 +54,7 @@ const CUTS: [(usize, &str); 8] = [
     (7, "refused 1 8 format 4\n"),
 ];
 
-/// The number of a line, what stands there, and what is said of it.
+/// The number of a line, its text, and what is said of it.
 const CHANGES: [(usize, &str, &str); 4] = [
     (4, "a 01", "refused 1 4 format 3\n"),
     // The sum is no constant.

@@ -42,7 +42,7 @@ kept : {A : Type 0} (b : Bool) (x : A) (r : Option A) → cond b r (Some x) ≡ 
 kept true x r e = (refl, e)
 kept false x r e = absurd (none-some x (sym e))
 
--- where all is true that is in force, so it is at any numbers
+-- where all that is active is true, so it is at any numbers
 true_at_any : (c : NodeCheck) (numbers : List ℕ) (A : List Value) → AreTrue c.nodes c.in_force A → AreTrueAt c numbers A
 true_at_any c numbers A all k d inside id at =
     subst (λ i. value_at c.nodes A i ≡ value.Bool true) (get_or_from_slice_get c.in_force (get_or numbers k d) id id at)
@@ -102,7 +102,7 @@ core_sound l c UnsatCases line A valid unsat e all = cases_none l c line valid e
 core_sound l c (UnsatSteps lines) line A valid unsat e all = core_of_steps l c lines (line + 1) A valid.table e all
 core_sound l c (Unknown cause) line A valid unsat e all = unsat
 
--- under an assignment that makes all true that is in force, a clause is true where those before it are
+-- under an assignment that makes all that is active true, a clause is true where those before it are
 pub clause_sound : (l : Limits) (c : NodeCheck) (clauses : List Clause) (line : ℕ) (x : CertLine) (rest : List CertLine) (given : Given) (A : List Value) → IsTable c.nodes → AreTrue c.nodes c.in_force A
     → All (IsTrueClause c.nodes A) clauses → clause_given l c clauses line x rest ≡ Ok given → IsTrueClause c.nodes A given.clause
 clause_sound l c clauses line x rest given A table all earlier e =

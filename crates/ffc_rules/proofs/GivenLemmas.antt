@@ -1,5 +1,5 @@
--- The clause of a line that breaks no rule is true, where those clauses are that its hints name, and what it takes from the list
--- in force is true.
+-- The clause of a line that breaks no rule is true, where those clauses are that its hints name, and what it takes from the active
+-- list is true.
 use Rattle.std.proofs.Common.{inl, inr, ◌≡◌, ℕ, ◌<◌, ◌≤◌, nat_lt, Bool, true, false, cond, ◌&&◌, List, [], ◌∷◌, length, take, get_or, length-take, arith, All, Option, Some, None, Result, Ok, Err, refl, sym, ap, ◌∙◌, slice_get}
 use Rattle.std.specs.List.{AllByRecursion, list_all}
 use Rattle.std.proofs.lemmas.Bool.{false≢true, and_parts, cases_lt, or_left, eqb-true}
@@ -60,7 +60,7 @@ equality_at ns p lit table e =
       | inr past ↦ absurd (false≢true (ap (is_equality_over ns p) (sym (get_or_past ns lit.1 True past)) ∙ e))
     ]
 
--- what a number of the list in force names is true
+-- what a number of the active list names is true
 abbrev pub IsNumberTrue : (ℕ → Bool) → List ℕ → ℕ → Type 0
 IsNumberTrue t in_force k = (id : ℕ) → slice_get in_force k ≡ Some id → t id ≡ true
 

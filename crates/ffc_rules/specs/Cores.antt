@@ -13,7 +13,7 @@ use Rattle.ffc_rules.specs.Cones.{is_listed}
 abbrev pub clause_lines : List CertLine → List CertLine
 clause_lines lines = filter is_clause lines
 
--- the earlier clauses that a clause leads to
+-- the earlier clauses that a clause reaches
 abbrev pub hints_of : CertLine → List ℕ
 hints_of (Hinted lits hints) = hints
 hints_of _ = []
@@ -25,7 +25,7 @@ reached_clauses k [] = (k - 1) ∷ []
 reached_clauses k (x ∷ rest) =
     let above = reached_clauses (k + 1) rest in if is_listed above k then hints_of x ++ above else above
 
--- the number that a clause takes from the list in force
+-- the number that a clause takes from the active list
 abbrev pub taken_by : CertLine → List ℕ
 taken_by (Assume k) = k ∷ []
 taken_by _ = []
@@ -38,7 +38,7 @@ numbers_taken found k (x ∷ rest) = (if is_listed found k then taken_by x else 
 abbrev pub numbers_reached : List CertLine → List ℕ
 numbers_reached lines = numbers_taken (reached_clauses 0 (clause_lines lines)) 0 (clause_lines lines)
 
--- the numbers of a list in force that an entry uses, in increasing order, where the list has so many
+-- the numbers of an active list that an entry uses, in increasing order, where the list has so many
 unfoldable pub core : Entry → ℕ → List ℕ
 core (Sat pairs) count = []
 core UnsatCases count = range_with_len 0 count

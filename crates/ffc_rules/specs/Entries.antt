@@ -26,7 +26,7 @@ use Rattle.ffc_rules.specs.Cones.{span, work}
 use Rattle.ffc_rules.specs.Assignments.{listed_assignment, are_true, has_model_below}
 
 -- what an entry is judged by: all nodes so far, the constants in scope in order of declaration, the assertions and
--- assumptions in force, and the order that the script named first
+-- active assumptions, and the order that the script named first
 pub record NodeCheck : Type 0 where
   pub nodes : List Node
   pub declared : List ℕ
@@ -60,7 +60,7 @@ first_misfit nodes (id ∷ ids) [] line = None
 first_misfit nodes (id ∷ ids) (p ∷ pairs) line =
     if p.0 == id && nat_lt p.1 (value_count (node_at nodes id)) then first_misfit nodes ids pairs (line + 1) else Some line
 
--- each constant has one of its values, and with these all that is in force is true
+-- each constant has one of its values, and with these all that is active is true
 unfoldable pub sat_fault : NodeCheck → List (ℕ × ℕ) → ℕ → Option Broken
 sat_fault c pairs line =
     if length pairs == length c.declared then (
@@ -71,7 +71,7 @@ sat_fault c pairs line =
 
 -- Cases
 
--- no assignment of the check's constants makes all that is in force true
+-- no assignment of the check's constants makes all that is active true
 unfoldable pub cases_fault : Limits → NodeCheck → ℕ → Option Broken
 cases_fault l c line =
     if nat_lt l.work (work c.nodes c.in_force) then Some (breaks 11 line) else
@@ -122,7 +122,7 @@ lemma_given l c p lits line rest =
     then tree_given lits line (tree_read l.trees p (first_lines c.nodes p lits) rest)
     else Err (breaks 11 line)) else Err (breaks 12 line)
 
--- the clause of a line, after other clauses; no line of a tree stands in a clause's place
+-- the clause of a line, after other clauses; no line of a tree takes a clause's place
 unfoldable pub clause_given : Limits → NodeCheck → List Clause → ℕ → CertLine → List CertLine → Result Given Broken
 clause_given l c clauses line (Assume k) rest =
     elim (slice_get c.in_force k) [

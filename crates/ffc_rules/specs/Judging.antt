@@ -1,6 +1,6 @@
 -- The judgement of a certificate for a script.
 --
--- The first entry at fault is named. In an entry a fault of form comes before a broken rule, wherever it stands. Entry 0 is
+-- The first entry at fault is named. In an entry a fault of form comes before a broken rule, wherever it is. Entry 0 is
 -- line 1, and what follows the last check's entry counts as one more.
 use Rattle.std.specs.Prelude.{◌≡◌, ℕ, ◌+◌, List, [], ◌∷◌, length, map, Option, Some, None}
 use Rattle.ffc_cert.specs.declared.entries.Entry.{Entry}

@@ -39,7 +39,7 @@ abbrev pub SchemesAreListed : Type 0
 SchemesAreListed = (nodes : List Node) (v scheme index : ℕ)
     → Contains (all_schemes nodes v) (scheme, index) ↔ IsSome (scheme_clause nodes v scheme index)
 
--- Under an assignment that makes all true that is in force, the clause of a line that breaks no rule is true where the clauses
+-- Under an assignment that makes all that is active true, the clause of a line that breaks no rule is true where the clauses
 -- before it are.
 abbrev pub ClausesAreSound : Type 0
 ClausesAreSound = (l : Limits) (c : NodeCheck) (clauses : List Clause) (line : ℕ) (x : CertLine) (rest : List CertLine) (given : Given) (assignment : List Value)
@@ -73,7 +73,7 @@ pub record AreValues (nodes : List Node) (declared : List ℕ) (pairs : List (�
 abbrev pub Agrees : List Node → List (ℕ × ℕ) → List Value → Type 0
 Agrees nodes pairs assignment = All (λ p. value_of_constant nodes assignment p.0 ≡ value_of_number (node_at nodes p.0) p.1) pairs
 
--- what an entry says of a check: listed values make all true that is in force, or no assignment does
+-- what an entry says of a check: listed values make all that is active true, or no assignment does
 abbrev pub IsTrueOf : NodeCheck → Entry → Type 0
 IsTrueOf c (Sat pairs) = AreValues c.nodes c.declared pairs × ((assignment : List Value) → Agrees c.nodes pairs assignment → AreTrue c.nodes c.in_force assignment)
 IsTrueOf c UnsatCases = HasNoModel c.nodes c.in_force
@@ -87,12 +87,12 @@ IsValid c = IsValidCheck c.nodes c.declared c.in_force c.first_order
 abbrev pub EntriesAreTrue : Type 0
 EntriesAreTrue = (l : Limits) (c : NodeCheck) (entry : Entry) (line : ℕ) → IsValid c → entry_fault_within l c entry line ≡ None → IsTrueOf c entry
 
--- Listed values break no rule where some assignment that agrees with them makes all true that is in force.
+-- Listed values break no rule where some assignment that agrees with them makes all that is active true.
 abbrev pub ValuesAreKept : Type 0
 ValuesAreKept = (l : Limits) (c : NodeCheck) (pairs : List (ℕ × ℕ)) (line : ℕ) (assignment : List Value) → IsValid c
     → AreValues c.nodes c.declared pairs → Agrees c.nodes pairs assignment → AreTrue c.nodes c.in_force assignment → entry_fault_within l c (Sat pairs) line ≡ None
 
--- An entry by cases breaks no rule where the work is within the limit and no assignment makes all true that is in force.
+-- An entry by cases breaks no rule where the work is within the limit and no assignment makes all that is active true.
 abbrev pub CasesAreKept : Type 0
 CasesAreKept = (l : Limits) (c : NodeCheck) (line : ℕ) → IsValid c → work c.nodes c.in_force ≤ l.work → HasNoModel c.nodes c.in_force
     → entry_fault_within l c UnsatCases line ≡ None
@@ -116,7 +116,7 @@ IsUnsat UnsatCases = Unit {0}
 IsUnsat (UnsatSteps lines) = Unit {0}
 IsUnsat (Unknown cause) = ⊥
 
--- the nodes in force at these numbers are true
+-- the active nodes at these numbers are true
 abbrev pub AreTrueAt : NodeCheck → List ℕ → List Value → Type 0
 AreTrueAt c numbers assignment = All (λ k. (id : ℕ) → slice_get c.in_force k ≡ Some id → value_at c.nodes assignment id ≡ value.Bool true) numbers
 
@@ -127,7 +127,7 @@ CoresAreSound = (l : Limits) (c : NodeCheck) (entry : Entry) (line : ℕ) (assig
 
 -- Scripts
 
--- what an entry says of a check of a script: every assignment with the listed values makes all terms in force true, or no
+-- what an entry says of a check of a script: every assignment with the listed values makes all active terms true, or no
 -- assignment makes the terms of the core true, so none makes all true
 abbrev pub IsTrueOfCheck : TableCheck → Entry → Type 0
 IsTrueOfCheck c (Sat pairs) =

@@ -14,7 +14,7 @@ abbrev pub one : Clause → List Clause
 one clause = clause ∷ []
 
 -- The schemes of the node numbered v, in order, each with its clauses. The equalities of an `ite` of field sort with its
--- branches stand after it in the table.
+-- branches come after it in the table.
 abbrev pub schemes : ℕ → Node → List (List Clause)
 schemes v True = one (plus v ∷ []) ∷ []
 schemes v False = one (minus v ∷ []) ∷ []

@@ -25,7 +25,7 @@ pub fn schemes_are_listed()
     ensures { SchemesAreListed }
 {}
 
-/// Under an assignment that makes all true that is in force, each clause of a refutation is true.
+/// Under an assignment that makes all that is active true, each clause of a refutation is true.
 pub fn clauses_are_sound()
     ensures { ClausesAreSound }
 {}
@@ -70,7 +70,7 @@ pub fn cores_are_sound()
     ensures { CoresAreSound }
 {}
 
-/// An entry that breaks no rule is true of its check of a script: of the terms that are in force there.
+/// An entry that breaks no rule is true of its check of a script: of the terms that are active there.
 pub fn entries_are_true_of_checks()
     ensures { EntriesAreTrueOfChecks }
 {}

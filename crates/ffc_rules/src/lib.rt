@@ -1,5 +1,5 @@
 //! When an entry of a certificate is right for a check, as definitions alone, and the laws of that. The functions do nothing
-//! when they run: each stands for the law in its contract.
+//! when they run: each states the law in its contract.
 #![tactic(auto)]
 
 pub mod laws;

@@ -1,6 +1,7 @@
 //! Scripts and certificates that the definitions are tried on. Each function has an empty body: what its contract says was
 //! computed.
-ghost use Rattle.ffc_rules.specs.Rows.{AreChecks, AreProducts, AreScripts, AreChains, AreClauses, AreSplits, AreWhole, AreFirst, AreLimits, AreSchemes, AreCores, AreCauses};
+ghost use Rattle.ffc_rules.specs.Rows.{AreChecks, AreProducts, AreScripts, AreChains, AreClauses, AreSplits, AreWhole};
+ghost use Rattle.ffc_rules.specs.Rows.{AreFirst, AreLimits, AreSchemes, AreCores, AreCauses};
 
 /// What scripts check.
 pub fn checks()

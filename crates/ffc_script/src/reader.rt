@@ -1,5 +1,6 @@
 //! The reader of a script.
-ghost use Rattle.std.specs.Prelude.{◌≡◌, ◌≤◌, length, false, true, [], Some, None, IfOk, IfErr, IfSome, IfNone, OnOk, OnErr};
+ghost use Rattle.std.specs.Prelude.{◌≡◌, ◌≤◌, length, false, true, [], Some, None, IfOk, IfErr, IfSome, IfNone, OnOk};
+ghost use Rattle.std.specs.Prelude.{OnErr};
 ghost use Rattle.ffc_elab.specs.Histories.{check_now, first_known, known_of};
 ghost use Rattle.ffc_lex.specs.Lexing.{extended};
 ghost use Rattle.ffc_smt.specs.TableChecks.{declared_nodes, nodes_in_force};

@@ -37,7 +37,7 @@ below_some n len h = grind (arith, nat_tests)
 found_position : (p : Node → Bool) (ns : List Node) → list_any p ns ≡ true → position p ns ≡ Some (position_or_len p ns)
 found_position p ns h = below_some (position_or_len p ns) (length ns) (any_found p ns h)
 
--- a node that stands in a table is found there
+-- a node that is in a table is found there
 pub interned_there : (ns : List Node) (n : Node) (id : ℕ) → IsWellFormed ns → IsNodeAt ns id n → interned ns n ≡ record { nodes = ns; id = id }
 unfolding interned
 interned_there ns n id formed at =
@@ -46,7 +46,7 @@ interned_there ns n id formed at =
     ap (placed ns n) found
     ∙ ap (λ k. record { nodes = ns; id = k }) (formed.single (position_or_len p ns) id n (IsNodeAt-from_position ns n (position_or_len p ns) found) at)
 
--- and leaves the table as it was, whatever else stands there
+-- and leaves the table as it was, whatever else is there
 pub interned_present : (ns : List Node) (n : Node) (id : ℕ) → IsNodeAt ns id n → (interned ns n).nodes ≡ ns
 unfolding interned
 interned_present ns n id at =
@@ -126,7 +126,7 @@ nodes_absent : (ns : List Node) (n : Node) → length ns ≤ position_or_len ((b
 unfolding interned
 nodes_absent ns n h = ap (λ o. (placed ns n o).nodes) (none_below (position_or_len ((by_parts.ghosts).eq n) ns) (length ns) h)
 
--- whatever else stands in the table
+-- whatever else is in the table
 interned_again : (ns new : List Node) (n : Node) → Extends (interned ns n).nodes new → interned new n ≡ again new (interned ns n)
 interned_again ns new n (more, e) =
     let k = position_or_len ((by_parts.ghosts).eq n) ns in
@@ -414,7 +414,7 @@ agree_inside A [] (y ∷ ys) ns h = absurd h
 agree_inside A (x ∷ xs) [] ns h = absurd h
 agree_inside A (x ∷ xs) (y ∷ ys) ns h = (h.1.within, agree_inside A xs ys ns h.2)
 
--- where the variables' nodes mean what the variables stand for
+-- where the variables' nodes mean what the variables mean
 pub made_again : (A : List Value) (t : Term) (ids : Env ℕ) (env : Env Element) (ns new : List Node) → Agree ns A ids env → Extends (made ids ns t).nodes new → IsWellFormed new
     → made ids new t ≡ again new (made ids ns t)
 made_again A t ids env ns new agree further formed = made_anew t ids ns new (agree_inside A ids env ns agree) further

@@ -56,7 +56,7 @@ increasing_push xs y rises below k inside =
     omega arith)
     (cases_lt (k + 1) (length xs))
 
--- What is declared by names, of which the newest stands first
+-- What is declared by names, of which the newest comes first
 
 abbrev pub declared_by : Env Meant → List Declared
 declared_by names = filter_map as_declared (reverse names)
@@ -74,7 +74,7 @@ declared_has (x ∷ xs) name k s has =
     (λ later. Contains-append_left (declared_by xs) (filter_map as_declared (x ∷ [])) d (declared_has xs name k s later))
     (in_front x xs (name, AsConstant k s) has))
 
--- of a name, where it stands for a constant
+-- of a name, where it means a constant
 abbrev pub IfConstant : (Declared → Type 0) → Name × Meant → Type 0
 IfConstant P (name, AsConstant k s) = P (record { name = name; number = k; sort = s })
 IfConstant P (name, AsTerm s t) = Unit {0}

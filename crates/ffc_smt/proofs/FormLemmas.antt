@@ -20,7 +20,7 @@ Nested Ended n = n ≡ 0
 Nested (Items items closing rest) n = (m : ℕ) × (n ≡ m + 1) × Nested rest m
 Nested Torn n = ⊥
 
--- A token that stands inside n pairs stands inside n pairs with what is after it, but for a parenthesis.
+-- A token that is inside n pairs is inside n pairs with what is after it, but for a parenthesis.
 nested_item : (t : Tree) (i : Inside) (n : ℕ) → 0 < n → Nested i n → Nested (with_item t i) n
 nested_item t Ended n some h = absurd (omega arith)
 nested_item t (Items items closing rest) n some h = h

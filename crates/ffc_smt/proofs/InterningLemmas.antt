@@ -21,7 +21,7 @@ absent_placed : (ns : List Node) (n : Node) (o : Option ℕ) → position ((by_p
 absent_placed ns n (Some k) e absent = absurd (absent (Contains-from_IsNodeAt ns k n (IsNodeAt-from_position ns n k e)))
 absent_placed ns n None e absent = refl
 
--- a node that does not stand in a table is put behind the others
+-- a node that is not in a table is put after the others
 pub interned_absent : (ns : List Node) (n : Node) → (Contains ns n → ⊥) → interned ns n ≡ record { nodes = ns ++ n ∷ []; id = length ns }
 unfolding interned
 interned_absent ns n absent = absent_placed ns n (position ((by_parts.ghosts).eq n) ns) refl absent
@@ -33,7 +33,7 @@ interning_is_one old new n id formed h =
     (λ put. interned_absent old n put.0 ∙ ap (λ ns. with_table (length old) ns) (sym put.1) ∙ ap (λ k. with_table k new) (sym put.2))
     h.added
 
--- a node that stands in a table from a number on does not stand before it
+-- a node that is in a table from a number on is not before it
 absent_before : (front rest new : List Node) (n : Node) (k : ℕ) → IsWellFormed new → new ≡ front ++ rest → IsNodeAt new k n → length front < k + 1 → Contains front n → ⊥
 absent_before front rest new n k formed e at late has =
     let there = IsNodeAt-from_Contains front n has in
@@ -67,7 +67,7 @@ two_behind old x y = append_assoc old (x ∷ []) (y ∷ [])
 pub three_behind : (old : List Node) (x y z : Node) → ((old ++ x ∷ []) ++ y ∷ []) ++ z ∷ [] ≡ old ++ x ∷ y ∷ z ∷ []
 three_behind old x y z = append_assoc (old ++ x ∷ []) (y ∷ []) (z ∷ []) ∙ append_assoc old (x ∷ []) (y ∷ z ∷ [])
 
--- else all are put behind the others
+-- else all are put after the others
 choice_put : (old new : List Node) (p c a b : ℕ) → IsTable new → IsNodeAt new (length old) (IteField c a b) → (Contains old (IteField c a b) → ⊥) → new ≡ old ++ ite_nodes (length old) c a b
     → choice (sort.Field p) old c a b ≡ record { nodes = new; id = length old }
 choice_put old new p c a b table at absent is =

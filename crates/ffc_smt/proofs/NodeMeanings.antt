@@ -132,7 +132,7 @@ module _ (ns : List Node) (A : List Value) where
     pub xor_means : (id a b : ℕ) (x y : Element) → IsNodeAt ns id (node.Xor a b) → Means ns A a x → Means ns A b y → Means ns A id (TruthValue (not (is_same_truth (truth x) (truth y))))
     xor_means id a b x y at g h = truth_means id _ _ at refl (ap₂ (λ t u. value.Bool (not (is_same_truth t u))) (truth_at a x g) (truth_at b y h))
 
-    -- a child that stands among the nodes before has there the sort of what it means
+    -- a child that is among the nodes before has there the sort of what it means
     child_sort : (id a : ℕ) (x : Element) (s : Sort) → Means ns A a x → a < length (take id ns) → sort_at (take id ns) a ≡ s → sort_of x ≡ s
     child_sort id a x s h short is =
         let before : a < id = omega (arith, length-take id ns) in

@@ -1,4 +1,4 @@
--- Every fault of a tree is at a token of it, and the tokens stand in order.
+-- Every fault of a tree is at a token of it, and the tokens are in order.
 use Rattle.std.proofs.Common.{◌≡◌, ℕ, suc, List, [], ◌∷◌, ◌++◌, map, get_or, Some, All, Contains, refl, sym, subst, arith}
 use Rattle.std.specs.List.{AllPairs}
 use Rattle.std.proofs.lemmas.List.Kept.{AllPairs-cons}

@@ -228,7 +228,7 @@ assertion_parts a lg g n (l ∷ ls) base k h = record {
 abbrev add_name : Name → Meant → Level → Level
 add_name name m l = record l { names = (name, m) ∷ l.names }
 
--- with further names, also this one, the constants of what it stands for are among them
+-- with further names, also this one, the constants of what it means are among them
 abbrev IsBroughtIn : Env Meant → Name → Meant → Type 0
 IsBroughtIn names name m = (more : Env Meant) → IsAmong names more → Contains more (name, m) → MeantConstantsAre (IsDeclaredIn more) m
 

@@ -149,7 +149,7 @@ module _ (cs : List Sort) (ns : List Node) where
   cleared_sound true base h = record { names = h.names; sorts = h.sorts; asserted = All-nil (IsSoundAssertion cs ns) }
   cleared_sound false base h = empty_is_sound cs ns
 
-  -- what a command brings is sound
+  -- what a command adds is sound
   abbrev BringsSound : State → Command → Type 0
   BringsSound s (Declare name t) = slice_get cs (length s.constants) ≡ Some t
   BringsSound s (DefineSort name t) = IsSoundSort t
@@ -204,7 +204,7 @@ constant_no_ite : (k : ℕ) (s : Sort) → ¬ (IsFieldIte (constant_node k s))
 constant_no_ite k sort.Bool = λ i. i
 constant_no_ite k (sort.Field p) = λ i. i
 
--- a constant that stands in a table has a number below their count
+-- a constant that is in a table has a number below their count
 pub constant_new : (ns : List Node) (cs : List Sort) (s : Sort) → IsTableWith cs (length cs) ns → ¬ (Contains ns (constant_node (length cs) s))
 constant_new ns cs s table has =
     let n = constant_node (length cs) s in
@@ -288,7 +288,7 @@ module _ (s : State) (h : IsSoundState s) where
   pub some_sort : (asked : List Asked) → All (λ a. IsSoundHere [] a.term sort.Bool) asked → All (λ a. (u : Sort) × IsSoundHere [] a.term u) asked
   some_sort asked g = All-weaker (λ a. IsSoundHere [] a.term sort.Bool) (λ a. (u : Sort) × IsSoundHere [] a.term u) (λ a k. (sort.Bool, k)) asked g
 
-  -- from what a command brings
+  -- from what a command adds
   state_from : (tree : Tree) (c : Command) (more : List Sort) → (changed c s).constants ≡ s.constants ++ more → Extends s.nodes (nodes_after s c)
       → IsTableWith (s.constants ++ more) (length (s.constants ++ more)) (nodes_after s c) → BringsSound (s.constants ++ more) (nodes_after s c) s c → IsSoundState (after s tree c)
   unfolding after

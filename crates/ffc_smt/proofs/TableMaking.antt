@@ -96,7 +96,7 @@ uncounted ns n e = sum_by_push (λ x. cond (is_constant x) 1 0) ns n ∙ ap (λ 
 pub contains_behind : (ns more : List Node) (n : Node) → Contains ns n → Contains (ns ++ more) n
 contains_behind ns more n has = let there = IsNodeAt-from_Contains ns n has in Contains-from_IsNodeAt (ns ++ more) there.0 n (IsNodeAt-append ns more there.0 n there.1)
 
--- a node stands in a table, or does not
+-- a node is in a table, or is not
 pub there_or_not : (ns : List Node) (n : Node) → ((id : ℕ) × IsNodeAt ns id n) ⊎ ¬ (Contains ns n)
 there_or_not ns n = by_test (list_any ((by_parts.ghosts).eq n) ns) refl
   where

@@ -4,7 +4,7 @@ use Rattle.ffc_lex.specs.declared.tokens.TokenKind.{TokenKind}
 use Rattle.ffc_lex.specs.declared.tokens.TokenKind.TheVariants.{LeftParen, RightParen, Numeral, Decimal, Symbol, Quoted, Keyword, Str, FieldLiteral}
 use Rattle.ffc_smt.specs.Trees.{Word, Tree, Leaf, Group, tokens_of, tokens_of_items, Inside, Ended, Items, Torn, with_item, opened_by, closed_by, before_inside, inside_of, whole, tree_of}
 
--- the tokens of what stands inside parentheses
+-- the tokens of what is inside parentheses
 abbrev spelled : Inside → List Word
 spelled Ended = []
 spelled (Items items closing rest) = tokens_of_items items ++ closing ∷ spelled rest

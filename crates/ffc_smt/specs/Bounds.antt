@@ -12,7 +12,7 @@ pub record IsMade (nodes : List Node) (t : Term) : Type 0 where
   pub made_then : nodes ≡ (made [] before t).nodes ++ more
 
 abbrev mutual
-  -- what the term's defined names stand for was made
+  -- what the term's defined names mean was interned
   pub AreDefined : List Node → Term → Type 0
   AreDefined nodes (Truth b) = Unit {0}
   AreDefined nodes (Number negative size p) = Unit {0}

@@ -161,7 +161,7 @@ abbrev pub parameters_read : State → Tree → Read (List Parameter)
 parameters_read s (Leaf w) = faulty 5 w
 parameters_read s (Group opening items closing) = parameters_of (map (parameter_read s) (items_of items))
 
--- The body has the parameters' names, and the sort that stands before it.
+-- The body has the parameters' names, and the sort that comes before it.
 abbrev pub body_read : Limits → State → Tree → Tree → Tree → Read Term
 body_read l s ps r t = behind (both (parameters_read s ps) (sort_read (scope_of s).sorts r)) (λ head. term_of_sort l s head.0 head.1 t)
 

@@ -20,7 +20,7 @@ abbrev mutual
   AllConstantsAre P NoTerm = Unit {0}
   AllConstantsAre P (AndTerm t ts) = ConstantsAre P t × AllConstantsAre P ts
 
--- the same of what a name stands for
+-- the same of what a name means
 abbrev pub MeantConstantsAre : (ℕ → Sort → Type 0) → Meant → Type 0
 MeantConstantsAre P (AsConstant k s) = P k s
 MeantConstantsAre P (AsTerm s t) = ConstantsAre P t

@@ -5,7 +5,7 @@
 --  6  a logic other than QF_FF
 --  7  a command that needs a logic before there is one; the logic set twice; a global option set after it
 --  8  a name, or the name of a sort, that is not in scope
---  9  a name that is taken, or stands twice in one list
+--  9  a name that is taken, or occurs twice in one list
 -- 10  a term of the wrong sort
 -- 11  an order that no field of the solver has
 -- 13  a constant of a field that is spelled wrongly, or is 2^128 or more in size
@@ -37,7 +37,7 @@ abbrev pub first_fault : Fault → List Fault → Fault
 first_fault f [] = f
 first_fault f (g ∷ gs) = first_fault (if is_before g f then g else f) gs
 
--- What a part of a form reads as: what it says, or its faults, of which there is at least one. A fault may stand in the list
+-- What a part of a form reads as: what it says, or its faults, of which there is at least one. A fault may be in the list
 -- twice, and these are left out:
 --
 --  * Code 10 or 14 of a term that holds a fault: it has no sort and no height, so it raises no second one.
@@ -73,7 +73,7 @@ both (Sound a) (Sound b) = Sound (a, b)
 both (Sound a) (Faulty f fs) = Faulty f fs
 both (Faulty f fs) r = Faulty f (fs ++ faults r)
 
--- A part that is judged only where another one, which stands before it or inside it, has no fault.
+-- A part that is judged only where another one, which is before it or inside it, has no fault.
 abbrev pub behind : {A B : Type 0} → Read A → (A → Read B) → Read B
 behind (Sound a) next = next a
 behind (Faulty f fs) next = Faulty f fs

@@ -15,7 +15,7 @@ pub record Means (nodes : List Node) (assignment : List Value) (id : ℕ) (e : E
   pub sort : sort_at nodes id ≡ sort_of e
   pub value : value_at nodes assignment id ≡ value_of e
 
--- the variables' nodes mean what the variables stand for
+-- the variables' nodes mean what the variables mean
 abbrev pub Agree : List Node → List Value → Env ℕ → Env Element → Type 0
 Agree nodes assignment [] [] = Unit {0}
 Agree nodes assignment [] (y ∷ ys) = ⊥

@@ -1,4 +1,4 @@
--- The nodes that terms make, in order of their making, each once: arguments first, from the left.
+-- The nodes that terms make, in the order in which they are interned, each once: arguments first, from the left.
 use Rattle.std.specs.Prelude.{ℕ, Bool, true, false, List, [], ◌∷◌, ◌++◌, length, zip, Option, Some, None, position}
 use Rattle.ffc_term.specs.declared.node.Node.{Node}
 use Rattle.ffc_term.specs.declared.node.Node.TheVariants as node

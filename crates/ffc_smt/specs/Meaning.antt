@@ -2,7 +2,7 @@
 -- of finite fields of cvc5; `ff.bitsum` is this project's own.
 --
 -- A value is a truth value or an element of a field, which is the field's order and a residue. The values of variables
--- stand in an environment. An assignment gives the declared constant of each number a value.
+-- are in an environment. An assignment gives the declared constant of each number a value.
 use Rattle.std.specs.Prelude.{ℕ, ◌%◌, ◌==◌, Bool, true, false, not, ◌&&◌, ◌||◌, List, [], ◌∷◌, ◌++◌, sum_by, zip, if◌then◌else◌, Option, Some, None, unwrap_or}
 use Rattle.std.specs.List.{list_all, list_any}
 use Rattle.std.specs.Str.{bytes_eq}
@@ -14,7 +14,7 @@ use Rattle.ffc_term.specs.declared.value.Value.TheVariants as value
 use Rattle.ffc_term.specs.Values.{truth_in, constant_residue, product_by, bit_sum_from, is_same_truth}
 use Rattle.ffc_smt.specs.Terms.{Name, Operator, Not, And, Or, Xor, Implies, Equal, Distinct, Ite, Add, Mul, Neg, Bitsum, Term, Truth, Number, Constant, Variable, Defined, Applied, Let, Called, Terms, NoTerm, AndTerm}
 
--- what names stand for, the innermost first
+-- what names mean, the innermost first
 abbrev pub Env : Type 0 → Type 0
 Env A = List (Name × A)
 
@@ -106,7 +106,7 @@ applied _ _ = TruthValue false
 
 unfoldable mutual
   -- The value of a term in an environment, under an assignment. A `let` binds at once what its terms are outside, and a
-  -- macro's body knows its parameters alone.
+  -- macro's body has its parameters alone.
   pub val : Env Element → List Value → Term → Element
   val env assignment (Truth b) = TruthValue b
   val env assignment (Number negative size p) = FieldValue p (residue_of_number negative size p)

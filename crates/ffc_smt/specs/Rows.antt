@@ -17,7 +17,7 @@ Ends text end = (reads text).end ≡ end
 abbrev pub EndsWithin : Limits → List ℕ → End → Type 0
 EndsWithin l text end = (reads_within l text).end ≡ end
 
--- the values of what is in force at each check, under an assignment
+-- the values of what is active at each check, under an assignment
 abbrev pub values_in_force : List ℕ → List Value → List (List Element)
 values_in_force text assignment = map (λ c. map (λ t. val [] assignment t) (in_force c)) (checks_of (reads text).steps)
 
@@ -42,7 +42,7 @@ nodes_behind nodes (x ∷ xs) = nodes_behind (after x.before x.tree x.command).n
 abbrev pub final_nodes : List ℕ → List Node
 final_nodes text = nodes_behind [] (reads text).steps
 
--- behind the logic and a name for the field of order 17, 5
+-- after the logic and a name for the field of order 17, 5
 abbrev pub over_17 : List ℕ → List ℕ
 over_17 text = codes "(set-logic QF_FF)(define-sort F () (_ FiniteField 17))" ++ text
 

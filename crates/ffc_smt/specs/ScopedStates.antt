@@ -12,7 +12,7 @@ use Rattle.ffc_smt.specs.Faults.{Sound}
 use Rattle.ffc_smt.specs.CommandReading.{Limits, command_read}
 use Rattle.ffc_smt.specs.Scripts.{after, reads_within}
 
--- one of these names stands for the constant of this number and sort
+-- one of these names means the constant of this number and sort
 abbrev pub IsDeclaredIn : Env Meant → ℕ → Sort → Type 0
 IsDeclaredIn names k s = (name : Name) × Contains names (name, AsConstant k s)
 
@@ -20,7 +20,7 @@ IsDeclaredIn names k s = (name : Name) × Contains names (name, AsConstant k s)
 abbrev pub SpeaksOf : Env Meant → Term → Type 0
 SpeaksOf names t = ConstantsAre (IsDeclaredIn names) t
 
--- The names' constants have smaller and smaller numbers, all of them below this one. (The newest name stands first.)
+-- The names' constants have smaller and smaller numbers, all of them below this one. (The newest name comes first.)
 abbrev pub AreNumberedBelow : ℕ → Env Meant → Type 0
 AreNumberedBelow n [] = Unit {0}
 AreNumberedBelow n ((name, AsConstant k s) ∷ rest) = (k < n) × AreNumberedBelow k rest

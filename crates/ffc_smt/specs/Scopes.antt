@@ -5,7 +5,7 @@ use Rattle.ffc_term.specs.declared.node.Node.{Node}
 use Rattle.ffc_smt.specs.Terms.{Name, Term, Parameter, Setting, PrintSuccess, ProduceModels, GlobalDeclarations, ProduceUnsatCores, ProduceUnsatAssumptions}
 use Rattle.ffc_smt.specs.Meaning.{Env}
 
--- what a name stands for
+-- what a name means
 pub data Meant : Type 0 where
   -- a declared constant: its number and sort
   AsConstant : ℕ → Sort → Meant

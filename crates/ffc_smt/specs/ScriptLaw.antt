@@ -24,7 +24,7 @@ use Rattle.ffc_smt.specs.Scripts.{Step, Check, check_of, in_force, IsAssignment,
 pub record HasNode (nodes : List Node) (t : Term) : Type 0 where
   pub there : (made [] nodes t).nodes ≡ nodes
   pub means : (assignment : List Value) → Means nodes assignment (made [] nodes t).id (val [] assignment t)
-  -- and what its defined names stand for was made before
+  -- and what its defined names mean was interned before
   pub defined : AreDefined nodes t
 
 -- the term's node is true under the assignment
@@ -53,7 +53,7 @@ pub record MakesNodes (nodes : List Node) (t : Sorted) : Type 0 where
   pub means : (assignment : List Value) → Means (made [] nodes t.term).nodes assignment (made [] nodes t.term).id (val [] assignment t.term)
   pub bound : length (made [] nodes t.term).nodes ≤ length nodes + weight t.term * weight t.term
 
--- so does any term that could be read before a step, where its nodes fit; what its defined names stand for was made before
+-- so does any term that could be read before a step, where its nodes fit; what its defined names mean was interned before
 abbrev pub ReadsTerms : Step → Type 0
 ReadsTerms x = (limit : ℕ) (tree : Tree) (t : Sorted) → term_read limit (scope_of x.before) [] tree ≡ Sound t
     → AreDefined x.before.nodes t.term × (length (made [] x.before.nodes t.term).nodes ≤ most_nodes → MakesNodes x.before.nodes t)

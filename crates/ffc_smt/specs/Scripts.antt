@@ -17,7 +17,7 @@ use Rattle.ffc_smt.specs.Scopes.{Meant, AsConstant, AsTerm, AsMacro, Assertion, 
 use Rattle.ffc_smt.specs.Faults.{Fault, Sound, Faulty, first_fault}
 use Rattle.ffc_smt.specs.CommandReading.{Limits, limits, command_read, nodes_after}
 
--- Orders. In a command with terms or sorts a numeral stands only in a sort, as its order.
+-- Orders. In a command with terms or sorts a numeral is only in a sort, as its order.
 
 abbrev pub order_in : TokenKind → List ℕ → List ℕ
 order_in Numeral bytes = number_of bytes ∷ []

@@ -25,7 +25,7 @@ HasSort locals t s = (env : Env Element) (assignment : List Value) → AreOfSort
 abbrev pub sorts_of_parameters : List Parameter → Env Sort
 sorts_of_parameters parameters = map (λ p. (p.name, p.sort)) parameters
 
--- what a name stands for has the sort that is kept with it
+-- what a name means has the sort that is kept with it
 abbrev pub IsSortedMeant : Meant → Type 0
 IsSortedMeant (AsConstant k s) = Unit {0}
 IsSortedMeant (AsTerm s t) = HasSort [] t s

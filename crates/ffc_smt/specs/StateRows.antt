@@ -81,7 +81,7 @@ pub record AreOrders : Type 0 where
   pub unused : first_orders_of (logic_check (codes "(define-fun f ((x (_ FiniteField 17))) (_ FiniteField 5) #f1m5)")) ≡ 17 ∷ []
   pub great : Ends (logic (codes "(get-value (#f1m65537 #f1m2013265921 #f1m2130706433 #f1m18446744069414584321))")) Done
 
--- Nodes, in the order of their making
+-- Nodes, in the order in which they are interned
 
 pub record AreMade : Type 0 where
   pub equal : final_nodes (logic (codes "(declare-const a Bool)(declare-const b Bool)(declare-const c Bool)(assert (= a b c))"))

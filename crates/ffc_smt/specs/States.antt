@@ -82,7 +82,7 @@ abbrev pub ScriptsKeepStates : Type 0
 ScriptsKeepStates = (l : Limits) (text : List ℕ) → l.nodes ≤ most_nodes
     → All (λ x. IsSoundState x.before × IsSoundState (after x.before x.tree x.command)) (reads_within l text).steps
 
--- What the defined names of a term stand for was made, so that the term's weight bounds what it makes.
+-- What the defined names of a term mean was interned, so that the term's weight bounds what it makes.
 abbrev pub ReadTermsAreDefined : Type 0
 ReadTermsAreDefined = (limit : ℕ) (s : State) (locals : Env Sort) (tree : Tree) (t : Sorted) → IsSoundState s → term_read limit (scope_of s) locals tree ≡ Sound t
     → AreDefined s.nodes t.term

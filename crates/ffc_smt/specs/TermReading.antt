@@ -181,13 +181,13 @@ operators =
     ∷ (codes "distinct", Distinct) ∷ (codes "ite", Ite) ∷ (codes "ff.add", Add) ∷ (codes "ff.mul", Mul) ∷ (codes "ff.neg", Neg)
     ∷ (codes "ff.bitsum", Bitsum) ∷ []
 
--- what stands at the head of an application
+-- what is at the head of an application
 pub data Head : Type 0 where
   LetHead : Head
   AsHead : Head
   Function : Operator → Head
   Macro : List Parameter → Sort → Term → Head
-  -- nothing that may stand there: the code
+  -- nothing that is allowed there: the code
   NoHead : ℕ → Head
 
 -- a constant, a definition without parameters, a variable can't
@@ -211,7 +211,7 @@ head_of scope locals w =
     (if is_word (codes "as") w then AsHead else
     (elim (name_of w) [ None ↦ NoHead 5 | Some name ↦ head_named scope locals name ]))
 
--- a theory function, a macro with parameters can't stand without arguments
+-- a theory function, a macro with parameters is not allowed without arguments
 abbrev pub term_meant : Word → Option Meant → Read Sorted
 term_meant w None = faulty 8 w
 term_meant w (Some (AsConstant k s)) = Sound (record { term = Constant k s; sort = s })
@@ -267,7 +267,7 @@ leaf_by_kind scope locals _ w = elim (name_of w) [ None ↦ faulty 5 w | Some na
 
 -- Variables and parameters
 
--- a name and where it stands
+-- a name and where it is
 pub record Named : Type 0 where
   pub at : Word
   pub name : Name
@@ -283,7 +283,7 @@ variable_read (Group opening items closing) = faulty 5 opening
 abbrev pub is_among : Name → List Named → Bool
 is_among name ns = list_any (λ n. bytes_eq n.name name) ns
 
--- code 9 at a name that stands in the list before
+-- code 9 at a name that is in the list before
 abbrev pub twice : List Named → List Named → List Fault
 twice before [] = []
 twice before (n ∷ ns) = (if is_among n.name before then word_fault 9 n.at ∷ [] else []) ++ twice (n ∷ before) ns
@@ -379,7 +379,7 @@ module _ (limit : ℕ) (scope : Scope) where
     arguments_read locals Empty = []
     arguments_read locals (First t ts) = record { at = front t; read = term_read locals t } ∷ arguments_read locals ts
 
-    -- Behind `(let`. The terms are read outside, and the body with all variables. It has no sort where one of them has none.
+    -- After `(let`. The terms are read outside, and the body with all variables. It has no sort where one of them has none.
     pub let_read : Env Sort → Word → Trees → Read Sorted
     let_read locals closing Empty = faulty 5 closing
     let_read locals closing (First (Leaf w) rest) = faulty 5 w

@@ -1,7 +1,7 @@
 -- Terms and commands, with their names resolved: SMT-LIB 2.6, sections 3.6 and 3.9, and the theory of finite fields of cvc5.
 --
--- A declared constant is its number, counted over the script. A use of a defined name holds the term that the name stands
--- for, whose own names were resolved where it was defined. So no recursion on a term follows a name.
+-- A declared constant is its number, counted over the script. A use of a defined name has the term of the
+-- name, whose own names were resolved where it was defined. So no recursion on a term follows a name.
 use Rattle.std.specs.Prelude.{ℕ, ◌+◌, max, Bool, List, Option}
 use Rattle.ffc_term.specs.declared.node.Sort.{Sort}
 use Rattle.ffc_smt.specs.Trees.{Tree}
@@ -23,7 +23,7 @@ mutual
     Constant : ℕ → Sort → Term
     -- a `let` variable or a parameter
     Variable : Name → Term
-    -- a name that was defined without parameters: the term that it stands for
+    -- a name that was defined without parameters: its term
     Defined : Term → Term
     -- a function of the theories and its arguments
     Applied : Operator → Terms → Term
@@ -53,7 +53,7 @@ unfoldable mutual
   highest (AndTerm t ts) = max (height t) (highest ts)
 
 unfoldable mutual
-  -- how much a term weighs: one for each of its parts, counted wherever it stands
+  -- how much a term weighs: one for each of its parts, counted wherever it is
   pub weight : Term → ℕ
   weight (Truth b) = 1
   weight (Number negative size p) = 1
@@ -81,7 +81,7 @@ pub record Parameter : Type 0 where
 pub data Setting : Type 0 where
   PrintSuccess ProduceModels GlobalDeclarations ProduceUnsatCores ProduceUnsatAssumptions : Setting
 
--- what `get-info` knows
+-- what `get-info` answers
 pub data Info : Type 0 where
   SolverName Version AssertionStackLevels ReasonUnknown : Info
 

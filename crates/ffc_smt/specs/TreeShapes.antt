@@ -12,7 +12,7 @@ is_parenthesis RightParen = true
 is_parenthesis _ = false
 
 abbrev mutual
-  -- no leaf is a parenthesis, and each group stands between a left and a right one
+  -- no leaf is a parenthesis, and each group is between a left and a right one
   pub IsProper : Tree → Type 0
   IsProper (Leaf w) = is_parenthesis w.kind ≡ false
   IsProper (Group opening items closing) = (opening.kind ≡ LeftParen) × AreProper items × (closing.kind ≡ RightParen)

@@ -47,12 +47,12 @@ unfoldable mutual
   tokens_of_items Empty = []
   tokens_of_items (First t ts) = tokens_of t ++ tokens_of_items ts
 
--- What tokens are where they stand inside parentheses: the items before the parenthesis that closes the innermost pair,
+-- What tokens are inside parentheses: the items before the parenthesis that closes the innermost pair,
 -- that parenthesis, and what the tokens after it are inside the next pair.
 pub data Inside : Type 0 where
   Ended : Inside
   Items : Trees → Word → Inside → Inside
-  -- an item stands after the last parenthesis, or one is not closed
+  -- an item comes after the last parenthesis, or one is not closed
   Torn : Inside
 
 abbrev pub with_item : Tree → Inside → Inside
@@ -60,7 +60,7 @@ with_item t Ended = Torn
 with_item t (Items items closing rest) = Items (First t items) closing rest
 with_item t Torn = Torn
 
--- a parenthesis opens what stands after it
+-- a parenthesis opens what comes after it
 abbrev pub opened_by : Word → Inside → Inside
 opened_by opening Ended = Torn
 opened_by opening (Items items closing rest) = with_item (Group opening items closing) rest
@@ -114,6 +114,6 @@ name_by_kind Symbol bytes = if is_reserved_word bytes then None else Some bytes
 name_by_kind Quoted bytes = Some (take (length bytes - 2) (drop 1 bytes))
 name_by_kind _ bytes = None
 
--- the name that a symbol is, unless it is reserved; that of a quoted symbol is what stands between the bars
+-- the name that a symbol is, unless it is reserved; that of a quoted symbol is what is between the bars
 abbrev pub name_of : Word → Option (List ℕ)
 name_of w = name_by_kind w.kind w.bytes

@@ -1,4 +1,4 @@
--- Terms that a script can say: they are well-sorted, their constants are declared, and what their defined names stand for
+-- Terms that a script can say: they are well-sorted, their constants are declared, and what their defined names mean
 -- was made. SMT-LIB 2.6, section 5.2 (well-sorted terms), the core theory, and the theory of finite fields of cvc5.
 use Rattle.std.specs.Prelude.{◌≡◌, List, [], ◌∷◌, ◌++◌, zip, Some, slice_get}
 use Rattle.ffc_field.specs.Orders.{IsOrder}
@@ -35,7 +35,7 @@ Takes Bitsum (a ∷ rest) s = IsField a × AreAll a rest × (s ≡ a)
 Takes _ _ _ = ⊥
 
 abbrev mutual
-  -- With constants of these sorts, behind these nodes, and with variables of these sorts the term is of this one.
+  -- With constants of these sorts, after these nodes, and with variables of these sorts the term is of this one.
   pub IsSoundTerm : List Sort → List Node → Env Sort → Term → Sort → Type 0
   IsSoundTerm constants nodes locals (Truth b) s = s ≡ sort.Bool
   IsSoundTerm constants nodes locals (Number negative size p) s = (s ≡ sort.Field p) × IsOrder p

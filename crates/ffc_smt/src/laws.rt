@@ -74,7 +74,7 @@ pub fn sound_terms_make_tables()
     ensures { SoundTermsMakeTables }
 {}
 
-/// What the defined names of a term that is read stand for was made.
+/// What the defined names of a term that is read mean was interned.
 pub fn read_terms_are_defined()
     ensures { ReadTermsAreDefined }
 {}

@@ -1,4 +1,4 @@
--- What is left where a generated script is answered, and the line behind its answers.
+-- What is left where a generated script is answered, and the line after its answers.
 use Rattle.std.proofs.Common.{◌≡◌, ℕ, inl, inr, Bool, cond, List, [], ◌++◌, length, take, drop, Option, Some, refl, sym, ap, ◌∙◌, subst, arith, append_assoc, append-nil}
 use Rattle.std.specs.List.{flat_map}
 use Rattle.std.specs.Option.{IfSome}

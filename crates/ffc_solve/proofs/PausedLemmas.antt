@@ -22,7 +22,7 @@ is_read_fault status.WriteFault = false
 is_read_fault status.CertFault = false
 is_read_fault status.Memory = false
 
--- only a read that failed is told as one
+-- only a read that failed is reported as one
 read_fault_is : (r : Result Bool Stop) → status_of r ≡ status.ReadFault → IsErrOf r stops.ReadFault
 read_fault_is (Ok false) is = absurd (false≢true (ap is_read_fault is))
 read_fault_is (Ok true) is = absurd (false≢true (ap is_read_fault is))

@@ -166,7 +166,7 @@ cut_in s rest b budget co c1 cn oo o1 on lo ln e same h k =
     } in
     subst (λ n. IsCut n b co cn oo on) same (subst (λ t. IsCut s.steps t co cn oo on) (sym e) cut)
 
--- the same, where the script is told
+-- the same, where the script's contents are stated
 pub cut_told : (s : Dialogue) (budget : ℕ) (co c1 cn oo o1 on lo ln : Option (List ℕ)) → s.steps ≡ budget → (h : IsGoing s co c1 oo o1 lo ln) → ((more : List ℕ) → IsCutAt s h.entries more c1 cn o1 on) → IfSome lo (λ b. IsCut budget b co cn oo on)
 cut_told s budget co c1 cn oo o1 on lo ln same h k = by_told lo h.read
   where

@@ -56,11 +56,11 @@ pub record IsCutEntry (budget : ℕ) (checks : List TableCheck) (entries : List 
   pub short : size < length (entry_text entry)
   pub is : part ≡ take size (entry_text entry)
 
--- what stands after the whole entries: nothing, or a front of one more
+-- what comes after the whole entries: nothing, or a front of one more
 abbrev pub IsRest : ℕ → List TableCheck → List Entry → List ℕ → Type 0
 IsRest budget checks entries part = (part ≡ []) ⊎ IsCutEntry budget checks entries part
 
--- a front of the first line, and no entries; or the entries, and what stands after them
+-- a front of the first line, and no entries; or the entries, and what comes after them
 abbrev pub IsCertificatePart : ℕ → List TableCheck → List Entry → List ℕ → Type 0
 IsCertificatePart budget checks entries text =
     ((entries ≡ []) × ((n : ℕ) × (text ≡ take n (header 2))))

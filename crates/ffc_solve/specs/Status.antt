@@ -25,7 +25,7 @@ code_of status.WriteFault = 4
 code_of status.CertFault = 5
 code_of status.Memory = 6
 
--- the bytes of the script: those that are left, where they are told, or those of the generated script
+-- the bytes of the script: those that are left, where they are stated, or those of the generated script
 abbrev pub script_given : Option ℕ → Option (List ℕ) → Option (List ℕ)
 script_given None left = left
 script_given (Some n) left = Some (made_text n)
@@ -40,12 +40,12 @@ IsLeft status.WriteFault budget make script cert_old cert_new out_old out_new = 
 IsLeft status.CertFault budget make script cert_old cert_new out_old out_new = IsStopped budget make script cert_old cert_new out_old out_new
 IsLeft status.Memory budget make script cert_old cert_new out_old out_new = IsStopped budget make script cert_old cert_new out_old out_new
 
--- where the certificate is told, it is accepted for the script
+-- where the certificate's contents are stated, it is accepted for the script
 abbrev pub IsAccepted : List ℕ → Option (List ℕ) → Type 0
 IsAccepted script None = Unit {0}
 IsAccepted script (Some certificate) = Accepts script certificate
 
--- how a run that ended so is told
+-- how a run that ended so is reported
 abbrev pub status_of : Result Bool Stop → SolveStatus
 status_of (Ok false) = status.Done
 status_of (Ok true) = status.Refused

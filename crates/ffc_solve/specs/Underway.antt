@@ -54,7 +54,7 @@ GoesOn old new entries cert_old cert_new out_old out_new advance.Ended =
 GoesOn old new entries cert_old cert_new out_old out_new (advance.Fault f) =
     IsSilent cert_old cert_new out_old out_new × StopsAt old.reader (Fault f) × (new.tally ≡ old.tally)
 
--- The run stopped, however the script goes on: after the entries stands at most a front of one more, and no more is answered than
+-- The run stopped, however the script goes on: after the entries there is at most a front of one more, and no more is answered than
 -- the entries say.
 pub record IsCutAt (old : Dialogue) (entries : List Entry) (more : List ℕ) (cert_old cert_new out_old out_new : Option (List ℕ)) : Type 0 where
   pub later : List Entry

@@ -1,5 +1,6 @@
 //! A dialogue: the commands of a script, answered one by one.
-ghost use Rattle.std.specs.Prelude.{◌≡◌, ℕ, ◌≤◌, ◌⊎◌, length, map, option_map, List, Option, Some, true, false, OnOk, OnErr, IfOk, IfErr, IsErrOf};
+ghost use Rattle.std.specs.Prelude.{◌≡◌, ℕ, ◌≤◌, ◌⊎◌, length, map, option_map, List, Option, Some, true, false, OnOk};
+ghost use Rattle.std.specs.Prelude.{OnErr, IfOk, IfErr, IsErrOf};
 ghost use Rattle.std.specs.Option.{option_copied};
 ghost use Rattle.ffc_base.specs.Outside.{Rose, Appends, AppendsPrefix};
 ghost use Rattle.ffc_cert.specs.declared.entries.Entry.{Entry as CertEntry};
@@ -11,7 +12,8 @@ ghost use Rattle.ffc_answer.specs.Answers.{Last, answer_of, last_after, verdict}
 ghost use Rattle.ffc_script.specs.Answers.{Gives, IsAtCheck};
 ghost use Rattle.ffc_script.specs.Progress.{Progress, known_at};
 ghost use Rattle.ffc_solve.specs.Solving.{IsRight};
-ghost use Rattle.ffc_solve.specs.Remembering.{Holds, HasRoom, IsAsked, IsBudget, IsChecked, IsNext, asked_in, core_in, counted, effect_by, entry_in, fresh_in, remembered_after};
+ghost use Rattle.ffc_solve.specs.Remembering.{Holds, HasRoom, IsAsked, IsBudget, IsChecked, IsNext, asked_in, core_in};
+ghost use Rattle.ffc_solve.specs.Remembering.{counted, effect_by, entry_in, fresh_in, remembered_after};
 ghost use Rattle.ffc_solve.specs.Underway.{GoesOn, IsCutAt, IsHalfTold};
 
 use crate::remembered::{Remembered, Tally};
@@ -77,8 +79,10 @@ fn tell<O: Sink, C: Sink>(
     cert: &mut C,
 ) -> Result<(), Stop>
     requires { FitsVersion 2 entry.now }
-    ensures ok { OnOk result (Appends (entry_text entry.now) (C.holds cert.old) (C.holds cert.new) × Appends (verdict entry.now) (O.holds out.old) (O.holds out.new)) }
-    ensures err { OnErr result (IsHalfTold entry.now (C.holds cert.old) (C.holds cert.new) (O.holds out.old) (O.holds out.new)) }
+    ensures ok { OnOk result (Appends (entry_text entry.now) (C.holds cert.old) (C.holds cert.new)
+        × Appends (verdict entry.now) (O.holds out.old) (O.holds out.new)) }
+    ensures err { OnErr result (IsHalfTold entry.now (C.holds cert.old) (C.holds cert.new) (O.holds out.old)
+        (O.holds out.new)) }
     ensures same_name { C.name cert.new ≡ C.name cert.old }
     ensures later_out { O.faults out.old ≤ O.faults out.new }
     ensures later_cert { C.faults cert.old ≤ C.faults cert.new }
@@ -139,9 +143,12 @@ impl Dialogue {
         requires check { IsAtCheck self.old.reader }
         requires budget { IsBudget self.old.steps }
         requires room { HasRoom self.old.tally }
-        ensures ok { OnOk result ((entry : CertEntry) × IsRight self.old.steps (check_now (known_at self.old.reader)) entry × IsChecked self.old self.new asked entry
-            × Appends (entry_text entry) (C.holds cert.old) (C.holds cert.new) × Appends (verdict entry) (O.holds out.old) (O.holds out.new)) }
-        ensures err { OnErr result ((entry : CertEntry) × IsRight self.old.steps (check_now (known_at self.old.reader)) entry
+        ensures ok { OnOk result ((entry : CertEntry) × IsRight self.old.steps (check_now (known_at self.old.reader))
+            entry × IsChecked self.old self.new asked entry
+            × Appends (entry_text entry) (C.holds cert.old) (C.holds cert.new)
+            × Appends (verdict entry) (O.holds out.old) (O.holds out.new)) }
+        ensures err { OnErr result ((entry : CertEntry) × IsRight self.old.steps (check_now (known_at self.old.reader))
+            entry
             × IsHalfTold entry (C.holds cert.old) (C.holds cert.new) (O.holds out.old) (O.holds out.new)) }
         ensures same_name { C.name cert.new ≡ C.name cert.old }
         ensures later_out { O.faults out.old ≤ O.faults out.new }
@@ -170,7 +177,8 @@ impl Dialogue {
         ensures last { option_copied result.last ≡ entry_in self.now.last }
         ensures fresh { result.fresh ≡ fresh_in self.now.last }
         ensures core { result.core.now ≡ core_in self.now.last }
-        ensures asked { option_map (λ asked. map (λ a. a.text) asked) (option_copied result.asked) ≡ asked_in self.now.last }
+        ensures asked { option_map (λ asked. map (λ a. a.text) asked) (option_copied result.asked)
+            ≡ asked_in self.now.last }
     {
         let context = self.reader.context();
         match &self.last {
@@ -194,7 +202,8 @@ impl Dialogue {
     /// The answer to the command that was read last.
     fn answer_to(&self, command: &Command) -> Result<Vec<u8>, AllocError>
         requires asked { (l : Option Last) × (x : Step) × IsAsked self.now command.now l x }
-        ensures { IfOk result (λ text. (l : Option Last) (x : Step) → IsAsked self.now command.now l x → text.items ≡ answer_of l x) }
+        ensures { IfOk result (λ text. (l : Option Last) (x : Step) → IsAsked self.now command.now l x → text.items
+            ≡ answer_of l x) }
     {
         let mut text = Vec::new(self.alloc);
         write_answer(self.alloc, command, &self.view(), &mut text)?;
@@ -203,13 +212,19 @@ impl Dialogue {
 
     /// Answers the command that was read last, which is no check and no end. An answer that is empty is not written.
     fn reply<O: Sink>(&mut self, command: &Command, out: &mut O) -> Result<Advance, Stop>
-        requires next { (p : Progress) × (entries : List CertEntry) × (l : Option Last) × IsNext p self.old entries l command.now }
-        ensures ok { OnOk result ((p : Progress) (entries : List CertEntry) (l : Option Last) (n : IsNext p self.old entries l command.now)
-            → Appends (answer_of (last_after l n.gives.step.command) n.gives.step) (O.holds out.old) (O.holds out.new)) }
-        ensures err { OnErr result ((p : Progress) (entries : List CertEntry) (l : Option Last) (n : IsNext p self.old entries l command.now)
-            → AppendsPrefix (answer_of (last_after l n.gives.step.command) n.gives.step) (O.holds out.old) (O.holds out.new)) }
+        requires next { (p : Progress) × (entries : List CertEntry) × (l : Option Last)
+            × IsNext p self.old entries l command.now }
+        ensures ok { OnOk result ((p : Progress) (entries : List CertEntry) (l : Option Last)
+            (n : IsNext p self.old entries l command.now)
+            → Appends (answer_of (last_after l n.gives.step.command) n.gives.step) (O.holds out.old)
+            (O.holds out.new)) }
+        ensures err { OnErr result ((p : Progress) (entries : List CertEntry) (l : Option Last)
+            (n : IsNext p self.old entries l command.now)
+            → AppendsPrefix (answer_of (last_after l n.gives.step.command) n.gives.step) (O.holds out.old)
+            (O.holds out.new)) }
         ensures answered { IfOk result (λ a. a ≡ Advance.Answered) }
-        ensures dialogue { self.new ≡ record self.old { last = remembered_after (effect_by command.now) self.old.last } }
+        ensures dialogue { self.new
+            ≡ record self.old { last = remembered_after (effect_by command.now) self.old.last } }
         ensures later_out { O.faults out.old ≤ O.faults out.new }
         ensures cause_out { IsErrOf result Stop.WriteFault → Rose (O.faults out.old) (O.faults out.new) }
         ensures only { IfErr result (λ stop. (stop ≡ Stop.WriteFault) ⊎ (stop ≡ Stop.Memory)) }
@@ -233,11 +248,16 @@ impl Dialogue {
     ) -> Result<Advance, Stop>
         requires budget { IsBudget self.old.steps }
         requires short { length self.old.reader.text ≤ 67108865 }
-        requires given { (p : Progress) × (entries : List CertEntry) × (l : Option Last) × Holds p self.old entries l × Gives p self.old.reader command }
-        ensures ok { IfOk result (λ a. (p : Progress) (entries : List CertEntry) (l : Option Last) → Holds p self.old entries l → Gives p self.old.reader command
-            → GoesOn (record self.old { reader = p }) self.new entries (C.holds cert.old) (C.holds cert.new) (O.holds out.old) (O.holds out.new) a) }
-        ensures err { OnErr result ((p : Progress) (entries : List CertEntry) (l : Option Last) (more : List ℕ) → Holds p self.old entries l → Gives p self.old.reader command
-            → IsCutAt (record self.old { reader = p }) entries more (C.holds cert.old) (C.holds cert.new) (O.holds out.old) (O.holds out.new)) }
+        requires given { (p : Progress) × (entries : List CertEntry) × (l : Option Last) × Holds p self.old entries l
+            × Gives p self.old.reader command }
+        ensures ok { IfOk result (λ a. (p : Progress) (entries : List CertEntry) (l : Option Last)
+            → Holds p self.old entries l → Gives p self.old.reader command
+            → GoesOn (record self.old { reader = p }) self.new entries (C.holds cert.old) (C.holds cert.new)
+            (O.holds out.old) (O.holds out.new) a) }
+        ensures err { OnErr result ((p : Progress) (entries : List CertEntry) (l : Option Last) (more : List ℕ)
+            → Holds p self.old entries l → Gives p self.old.reader command
+            → IsCutAt (record self.old { reader = p }) entries more (C.holds cert.old) (C.holds cert.new)
+            (O.holds out.old) (O.holds out.new)) }
         ensures same_name { C.name cert.new ≡ C.name cert.old }
         ensures later_out { O.faults out.old ≤ O.faults out.new }
         ensures later_cert { C.faults cert.old ≤ C.faults cert.new }
@@ -267,9 +287,12 @@ impl Dialogue {
         requires budget { IsBudget self.old.steps }
         requires short { length self.old.reader.text ≤ 67108865 }
         requires held { (entries : List CertEntry) × (l : Option Last) × Holds self.old.reader self.old entries l }
-        ensures ok { IfOk result (λ a. (entries : List CertEntry) (l : Option Last) → Holds self.old.reader self.old entries l
-            → GoesOn self.old self.new entries (C.holds cert.old) (C.holds cert.new) (O.holds out.old) (O.holds out.new) a) }
-        ensures err { OnErr result ((entries : List CertEntry) (l : Option Last) (more : List ℕ) → Holds self.old.reader self.old entries l
+        ensures ok { IfOk result (λ a. (entries : List CertEntry) (l : Option Last)
+            → Holds self.old.reader self.old entries l
+            → GoesOn self.old self.new entries (C.holds cert.old) (C.holds cert.new) (O.holds out.old) (O.holds out.new)
+            a) }
+        ensures err { OnErr result ((entries : List CertEntry) (l : Option Last) (more : List ℕ)
+            → Holds self.old.reader self.old entries l
             → IsCutAt self.old entries more (C.holds cert.old) (C.holds cert.new) (O.holds out.old) (O.holds out.new)) }
         ensures same_name { C.name cert.new ≡ C.name cert.old }
         ensures later_out { O.faults out.old ≤ O.faults out.new }

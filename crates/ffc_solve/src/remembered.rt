@@ -8,7 +8,7 @@ pub struct Remembered {
     pub entry: Entry,
     /// Whether no command since has ended its model.
     pub fresh: bool,
-    /// The numbers of the list in force that the entry uses.
+    /// The numbers of the active list that the entry uses.
     pub core: Vec<u64>,
     /// The assumptions of a `check-sat-assuming`.
     pub asked: Option<Vec<Asked>>,

@@ -1,11 +1,13 @@
 //! Reading a script in pieces, and answering it as far as it has come.
-ghost use Rattle.std.specs.Prelude.{◌≡◌, ℕ, ◌+◌, ◌≤◌, ◌⊎◌, length, List, Option, Some, true, false, OnOk, OnErr, IfOk, IfErr, IfSome, IsErrOf};
+ghost use Rattle.std.specs.Prelude.{◌≡◌, ℕ, ◌+◌, ◌≤◌, ◌⊎◌, length, List, Option, Some, true, false, OnOk, OnErr, IfOk};
+ghost use Rattle.std.specs.Prelude.{IfErr, IfSome, IsErrOf};
 ghost use Rattle.ffc_base.specs.Outside.{Rose, Appends, AppendsPrefix};
 ghost use Rattle.ffc_answer.specs.Answers.{fault_answer};
 ghost use Rattle.ffc_script.specs.Answers.{HasRun};
 ghost use Rattle.ffc_solve.specs.Solving.{EndsSoon, IsTaken};
 ghost use Rattle.ffc_solve.specs.Remembering.{IsBudget};
-ghost use Rattle.ffc_solve.specs.Underway.{HasFed, IsAnswered, IsCut, IsEnd, IsFinished, IsFirst, IsPausedAt, IsUnfinished};
+ghost use Rattle.ffc_solve.specs.Underway.{HasFed, IsAnswered, IsCut, IsEnd, IsFinished, IsFirst, IsPausedAt};
+ghost use Rattle.ffc_solve.specs.Underway.{IsUnfinished};
 
 use crate::dialogue::{Advance, Dialogue};
 use crate::stop::{Stop, write_out};
@@ -26,10 +28,15 @@ fn read_on<S: Source>(dialogue: &mut Dialogue, script: &mut S) -> Result<bool, S
     requires active { dialogue.old.reader.over ≡ false }
     requires taken { dialogue.old.taken ≡ length dialogue.old.reader.text }
     requires short { length dialogue.old.reader.text ≤ 67108865 }
-    ensures more { IfOk result (λ more. more ≡ true → HasFed dialogue.old dialogue.new (S.left script.old) (S.left script.new)) }
-    ensures end { IfOk result (λ more. more ≡ false → (dialogue.new ≡ dialogue.old) × IsEnd dialogue.old (S.left script.old) (S.left script.new)) }
-    ensures failed { IsErrOf result Stop.ReadFault → (dialogue.new ≡ dialogue.old) × (S.left script.new ≡ S.left script.old) }
-    ensures memory { IsErrOf result Stop.Memory → IfSome (S.left script.old) (λ bytes. (piece : List ℕ) × IsTaken piece bytes (S.left script.new) × (length dialogue.old.reader.text + length piece ≤ 67108865) × (length piece ≤ 4096)) }
+    ensures more { IfOk result (λ more. more ≡ true → HasFed dialogue.old dialogue.new (S.left script.old)
+        (S.left script.new)) }
+    ensures end { IfOk result (λ more. more ≡ false → (dialogue.new ≡ dialogue.old)
+        × IsEnd dialogue.old (S.left script.old) (S.left script.new)) }
+    ensures failed { IsErrOf result Stop.ReadFault → (dialogue.new ≡ dialogue.old)
+        × (S.left script.new ≡ S.left script.old) }
+    ensures memory { IsErrOf result Stop.Memory → IfSome (S.left script.old) (λ bytes. (piece : List ℕ)
+        × IsTaken piece bytes (S.left script.new) × (length dialogue.old.reader.text + length piece ≤ 67108865)
+        × (length piece ≤ 4096)) }
     ensures later { S.faults script.old ≤ S.faults script.new }
     ensures cause { IsErrOf result Stop.ReadFault → Rose (S.faults script.old) (S.faults script.new) }
     ensures only { IfErr result (λ stop. (stop ≡ Stop.ReadFault) ⊎ (stop ≡ Stop.Memory)) }
@@ -52,8 +59,10 @@ fn read_on<S: Source>(dialogue: &mut Dialogue, script: &mut S) -> Result<bool, S
 
 /// Answers a fault.
 fn tell_fault<O: Sink>(alloc: Global, fault: ScriptFault, out: &mut O) -> Result<(), Stop>
-    ensures ok { OnOk result (Appends (fault_answer fault.line fault.column fault.code) (O.holds out.old) (O.holds out.new)) }
-    ensures err { OnErr result (AppendsPrefix (fault_answer fault.line fault.column fault.code) (O.holds out.old) (O.holds out.new)) }
+    ensures ok { OnOk result (Appends (fault_answer fault.line fault.column fault.code) (O.holds out.old)
+        (O.holds out.new)) }
+    ensures err { OnErr result (AppendsPrefix (fault_answer fault.line fault.column fault.code) (O.holds out.old)
+        (O.holds out.new)) }
     ensures later { O.faults out.old ≤ O.faults out.new }
     ensures cause { IsErrOf result Stop.WriteFault → Rose (O.faults out.old) (O.faults out.new) }
     ensures only { IfErr result (λ stop. (stop ≡ Stop.WriteFault) ⊎ (stop ≡ Stop.Memory)) }
@@ -91,11 +100,18 @@ pub fn run<S: Source, O: Sink, C: Sink>(
 ) -> Result<bool, Stop>
     requires first { IsFirst dialogue.old }
     requires budget { IsBudget dialogue.old.steps }
-    ensures ok { IfOk result (λ refused. IfSome (S.left script.old) (λ bytes. IsAnswered dialogue.old.steps bytes refused dialogue.new (C.holds cert.old) (C.holds cert.new) (O.holds out.old) (O.holds out.new))) }
-    ensures err { OnErr result (IfSome (S.left script.old) (λ bytes. IsCut dialogue.old.steps bytes (C.holds cert.old) (C.holds cert.new) (O.holds out.old) (O.holds out.new))) }
-    ensures paused { IsErrOf result Stop.ReadFault → IfSome (S.left script.old) (λ bytes. (text : List ℕ) × IsTaken text bytes (S.left script.new)
-        × IsPausedAt dialogue.old.steps text (C.holds cert.old) (C.holds cert.new) (O.holds out.old) (O.holds out.new)) }
-    ensures taken { IfSome (S.left script.old) (λ bytes. (text : List ℕ) × IsTaken text bytes (S.left script.new) × EndsSoon text) }
+    ensures ok { IfOk result
+        (λ refused. IfSome (S.left script.old) (λ bytes. IsAnswered dialogue.old.steps bytes refused dialogue.new
+        (C.holds cert.old) (C.holds cert.new) (O.holds out.old) (O.holds out.new))) }
+    ensures err { OnErr result
+        (IfSome (S.left script.old) (λ bytes. IsCut dialogue.old.steps bytes (C.holds cert.old) (C.holds cert.new)
+        (O.holds out.old) (O.holds out.new))) }
+    ensures paused { IsErrOf result Stop.ReadFault → IfSome (S.left script.old) (λ bytes. (text : List ℕ)
+        × IsTaken text bytes (S.left script.new)
+        × IsPausedAt dialogue.old.steps text (C.holds cert.old) (C.holds cert.new) (O.holds out.old)
+        (O.holds out.new)) }
+    ensures taken { IfSome (S.left script.old) (λ bytes. (text : List ℕ) × IsTaken text bytes (S.left script.new)
+        × EndsSoon text) }
     ensures same_name { C.name cert.new ≡ C.name cert.old }
     ensures later_out { O.faults out.old ≤ O.faults out.new }
     ensures cause_script { IsErrOf result Stop.ReadFault → Rose (S.faults script.old) (S.faults script.new) }

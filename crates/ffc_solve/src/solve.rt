@@ -1,5 +1,6 @@
 //! The solver's top call.
-ghost use Rattle.std.specs.Prelude.{◌≡◌, ℕ, ◌<◌, ◌≤◌, ◌⊎◌, List, Some, None, map, OnOk, OnErr, IfOk, IfSome, IsErrOf, string_bytes};
+ghost use Rattle.std.specs.Prelude.{◌≡◌, ℕ, ◌<◌, ◌≤◌, ◌⊎◌, List, Some, None, map, OnOk, OnErr, IfOk, IfSome, IsErrOf};
+ghost use Rattle.std.specs.Prelude.{string_bytes};
 ghost use Rattle.ffc_cert.specs.declared.entries.Entry.{Entry as CertEntry};
 ghost use Rattle.ffc_answer.specs.Answers.{made_answer};
 ghost use Rattle.ffc_base.specs.Outside.{Rose, Becomes};
@@ -27,7 +28,7 @@ use std::alloc::{AllocError, Global};
 pub enum SolveStatus {
     /// The whole script is answered.
     Done,
-    /// The script has a fault; what comes before it is answered, and the fault is told.
+    /// The script has a fault; what comes before it is answered, and the fault is written.
     Refused,
     /// The arguments are refused.
     Usage,
@@ -86,14 +87,22 @@ fn answer_script<S: Source, O: Sink, C: NamedSink>(
     cert: &mut C,
 ) -> Result<bool, Stop>
     requires budget { IsBudget plan.now.steps }
-    ensures ok { OnOk result (IfSome (S.left script.old) (λ bytes. IsWhole plan.now.steps None bytes (C.holds cert.old) (C.holds cert.new) (O.holds out.old) (O.holds out.new))) }
-    ensures refused { IfOk result (λ refused. IfSome (S.left script.old) (λ bytes. refused ≡ is_fault (reads bytes).end)) }
-    ensures err { OnErr result (IfSome (S.left script.old) (λ bytes. IsStopped plan.now.steps None bytes (C.holds cert.old) (C.holds cert.new) (O.holds out.old) (O.holds out.new))) }
-    ensures paused { IsErrOf result Stop.ReadFault → IfSome (S.left script.old) (λ bytes. (text : List ℕ) × IsTaken text bytes (S.left script.new)
+    ensures ok { OnOk result
+        (IfSome (S.left script.old) (λ bytes. IsWhole plan.now.steps None bytes (C.holds cert.old) (C.holds cert.new)
+        (O.holds out.old) (O.holds out.new))) }
+    ensures refused { IfOk result
+        (λ refused. IfSome (S.left script.old) (λ bytes. refused ≡ is_fault (reads bytes).end)) }
+    ensures err { OnErr result
+        (IfSome (S.left script.old) (λ bytes. IsStopped plan.now.steps None bytes (C.holds cert.old) (C.holds cert.new)
+        (O.holds out.old) (O.holds out.new))) }
+    ensures paused { IsErrOf result Stop.ReadFault → IfSome (S.left script.old) (λ bytes. (text : List ℕ)
+        × IsTaken text bytes (S.left script.new)
         × IsPaused plan.now.steps text (C.holds cert.old) (C.holds cert.new) (O.holds out.old) (O.holds out.new)) }
-    ensures taken { IfSome (S.left script.old) (λ bytes. (text : List ℕ) × IsTaken text bytes (S.left script.new) × EndsSoon text) }
+    ensures taken { IfSome (S.left script.old) (λ bytes. (text : List ℕ) × IsTaken text bytes (S.left script.new)
+        × EndsSoon text) }
     ensures named { OnOk result (Becomes plan.now.cert_name (C.name cert.old) (C.name cert.new)) }
-    ensures begun { OnErr result (IsUntouchedOrNamed plan.now.cert_name (C.holds cert.old) (C.holds cert.new) (O.holds out.old) (O.holds out.new) (C.name cert.old) (C.name cert.new)) }
+    ensures begun { OnErr result (IsUntouchedOrNamed plan.now.cert_name (C.holds cert.old) (C.holds cert.new)
+        (O.holds out.old) (O.holds out.new) (C.name cert.old) (C.name cert.new)) }
     ensures cause_script { IsErrOf result Stop.ReadFault → Rose (S.faults script.old) (S.faults script.new) }
     ensures cause_out { IsErrOf result Stop.WriteFault → Rose (O.faults out.old) (O.faults out.new) }
     ensures cause_cert { IsErrOf result Stop.CertFault → Rose (C.faults cert.old) (C.faults cert.new) }
@@ -105,7 +114,8 @@ fn answer_script<S: Source, O: Sink, C: NamedSink>(
 
 /// The line that says how large a generated script is, and how its checks were answered.
 fn made_line(alloc: Global, size: u64, tally: Tally) -> Result<String, AllocError>
-    ensures { IfOk result (λ text. (entries : List CertEntry) → Counts tally entries → string_bytes text ≡ made_answer (Some size) entries) }
+    ensures { IfOk result (λ text. (entries : List CertEntry) → Counts tally entries → string_bytes text
+        ≡ made_answer (Some size) entries) }
 {
     let mut text = String::new(alloc);
     write!(
@@ -127,11 +137,14 @@ fn answer_generated<O: Sink, C: NamedSink>(
     requires budget { IsBudget plan.now.steps }
     requires some { 0 < size }
     requires few { size ≤ 10000 }
-    ensures ok { OnOk result (IsWhole plan.now.steps (Some size) (made_text size) (C.holds cert.old) (C.holds cert.new) (O.holds out.old) (O.holds out.new)) }
+    ensures ok { OnOk result (IsWhole plan.now.steps (Some size) (made_text size) (C.holds cert.old) (C.holds cert.new)
+        (O.holds out.old) (O.holds out.new)) }
     ensures refused { IfOk result (λ refused. refused ≡ is_fault (reads (made_text size)).end) }
-    ensures err { OnErr result (IsStopped plan.now.steps (Some size) (made_text size) (C.holds cert.old) (C.holds cert.new) (O.holds out.old) (O.holds out.new)) }
+    ensures err { OnErr result (IsStopped plan.now.steps (Some size) (made_text size) (C.holds cert.old)
+        (C.holds cert.new) (O.holds out.old) (O.holds out.new)) }
     ensures named { OnOk result (Becomes plan.now.cert_name (C.name cert.old) (C.name cert.new)) }
-    ensures begun { OnErr result (IsUntouchedOrNamed plan.now.cert_name (C.holds cert.old) (C.holds cert.new) (O.holds out.old) (O.holds out.new) (C.name cert.old) (C.name cert.new)) }
+    ensures begun { OnErr result (IsUntouchedOrNamed plan.now.cert_name (C.holds cert.old) (C.holds cert.new)
+        (O.holds out.old) (O.holds out.new) (C.name cert.old) (C.name cert.new)) }
     ensures only { ¬ (IsErrOf result Stop.ReadFault) }
     ensures cause_out { IsErrOf result Stop.WriteFault → Rose (O.faults out.old) (O.faults out.new) }
     ensures cause_cert { IsErrOf result Stop.CertFault → Rose (C.faults cert.old) (C.faults cert.new) }
@@ -177,23 +190,30 @@ pub fn solve_main<'a, S: Source, O: Sink, C: NamedSink>(
     cert: &mut C,
 ) -> SolveStatus
     ensures usage { result ≡ SolveStatus.Usage → AreRefused (map (λ w. w.now) words.now) }
-    ensures refused { AreRefused (map (λ w. w.now) words.now) → (result ≡ SolveStatus.Usage) ⊎ (result ≡ SolveStatus.Memory) }
-    ensures unused { result ≡ SolveStatus.Usage → (script.new ≡ script.old) × (out.new ≡ out.old) × (cert.new ≡ cert.old) }
+    ensures refused { AreRefused (map (λ w. w.now) words.now) → (result ≡ SolveStatus.Usage)
+        ⊎ (result ≡ SolveStatus.Memory) }
+    ensures unused { result ≡ SolveStatus.Usage → (script.new ≡ script.old) × (out.new ≡ out.old)
+        × (cert.new ≡ cert.old) }
 
     // Where a generated script is asked for, nothing is read.
     ensures unread { AskToMake (map (λ w. w.now) words.now) → script.new ≡ script.old }
 
     // What the certificate and the output have, by the status and by what the arguments ask for.
-    ensures left { Leaves (map (λ w. w.now) words.now) result (S.left script.old) (C.holds cert.old) (C.holds cert.new) (O.holds out.old) (O.holds out.new) (C.name cert.old) (C.name cert.new) }
+    ensures left { Leaves (map (λ w. w.now) words.now) result (S.left script.old) (C.holds cert.old) (C.holds cert.new)
+        (O.holds out.old) (O.holds out.new) (C.name cert.old) (C.name cert.new) }
 
     // Where the words are accepted and no count of faults rose, the run ends as its script does, or out of memory.
-    ensures ends { ¬ (AreRefused (map (λ w. w.now) words.now)) → ¬ (Rose (S.faults script.old) (S.faults script.new)) → ¬ (Rose (O.faults out.old) (O.faults out.new)) → ¬ (Rose (C.faults cert.old) (C.faults cert.new))
-        → (bytes : List ℕ) → IsScript (map (λ w. w.now) words.now) (S.left script.old) bytes → EndsAs result (reads bytes).end }
+    ensures ends { ¬ (AreRefused (map (λ w. w.now) words.now)) → ¬ (Rose (S.faults script.old) (S.faults script.new))
+        → ¬ (Rose (O.faults out.old) (O.faults out.new)) → ¬ (Rose (C.faults cert.old) (C.faults cert.new))
+        → (bytes : List ℕ) → IsScript (map (λ w. w.now) words.now) (S.left script.old) bytes
+        → EndsAs result (reads bytes).end }
 
     // How much of the script was taken, and what is answered where reading failed.
-    ensures paused { result ≡ SolveStatus.ReadFault → IfSome (S.left script.old) (λ bytes. (plan : SolvePlan) × HasPlan (map (λ w. w.now) words.now) plan × (text : List ℕ) × IsTaken text bytes (S.left script.new)
+    ensures paused { result ≡ SolveStatus.ReadFault → IfSome (S.left script.old) (λ bytes. (plan : SolvePlan)
+        × HasPlan (map (λ w. w.now) words.now) plan × (text : List ℕ) × IsTaken text bytes (S.left script.new)
         × IsPaused plan.steps text (C.holds cert.old) (C.holds cert.new) (O.holds out.old) (O.holds out.new)) }
-    ensures taken { IfSome (S.left script.old) (λ bytes. (text : List ℕ) × IsTaken text bytes (S.left script.new) × EndsSoon text) }
+    ensures taken { IfSome (S.left script.old) (λ bytes. (text : List ℕ) × IsTaken text bytes (S.left script.new)
+        × EndsSoon text) }
     ensures read_fault { result ≡ SolveStatus.ReadFault → Rose (S.faults script.old) (S.faults script.new) }
     ensures write_fault { result ≡ SolveStatus.WriteFault → Rose (O.faults out.old) (O.faults out.new) }
     ensures cert_fault { result ≡ SolveStatus.CertFault → Rose (C.faults cert.old) (C.faults cert.new) }

@@ -65,7 +65,8 @@ pub fn create_certificate<C: NamedSink>(cert: &mut C, name: &str) -> Result<(), 
     ensures ok { OnOk result (Becomes (header 2) (C.holds cert.old) (C.holds cert.new)) }
     ensures named { OnOk result (Becomes name.now (C.name cert.old) (C.name cert.new)) }
     ensures err { OnErr result (((C.holds cert.new ≡ C.holds cert.old) × (C.name cert.new ≡ C.name cert.old))
-        ⊎ (((n : ℕ) × Becomes (take n (header 2)) (C.holds cert.old) (C.holds cert.new)) × Becomes name.now (C.name cert.old) (C.name cert.new))) }
+        ⊎ (((n : ℕ) × Becomes (take n (header 2)) (C.holds cert.old) (C.holds cert.new))
+        × Becomes name.now (C.name cert.old) (C.name cert.new))) }
     ensures later { C.faults cert.old ≤ C.faults cert.new }
     ensures cause { IsErrOf result Stop.CertFault → Rose (C.faults cert.old) (C.faults cert.new) }
     ensures only { IfErr result (λ stop. (stop ≡ Stop.CertFault) ⊎ (stop ≡ Stop.Memory)) }

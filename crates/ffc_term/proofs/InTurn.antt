@@ -1,4 +1,4 @@
--- What is told of the nodes in turn: one more node, a front of the nodes, and the node at a place.
+-- What is stated of the nodes in turn: one more node, a front of the nodes, and the node at a place.
 use Rattle.std.proofs.Common.{◌≡◌, ℕ, ◌+◌, ◌<◌, ◌≤◌, min, List, [], ◌∷◌, ◌++◌, length, get_or, take, drop, refl, sym, ap, ◌∙◌, arith, length-append, take-append-drop, take-take, take_at, get_or-take, length-take, take_all}
 use Rattle.std.proofs.lemmas.List.{take_more, get_or_push, take_min}
 use Rattle.std.proofs.lemmas.Option.{slice_get_within, get_or_from_slice_get}
@@ -46,7 +46,7 @@ module _ {X : Type 0} (tell : List X → Node → X) where
       let short : length (take k ns) ≡ min k (length all) = length-take k ns ∙ ap (min k) (sym (length-in_turn ns)) in
       sym front ∙ ap (λ xs. take (length (take k ns)) (in_turn tell xs)) whole ∙ ap (λ j. take j all) short ∙ take_min k all
 
-  -- the node at a place, from what is told of those before it
+  -- the node at a place, from what is stated of those before it
   pub get_or-in_turn : (ns : List Node) (id : ℕ) (n : Node) (d : X) → IsNodeAt ns id n → get_or (in_turn tell ns) id d ≡ tell (take id (in_turn tell ns)) n
   get_or-in_turn ns id n d at =
       let all : List X = in_turn tell ns in
@@ -56,7 +56,7 @@ module _ {X : Type 0} (tell : List X → Node → X) where
       let before : length (in_turn tell (take id ns)) ≡ id = omega (arith, length-in_turn (take id ns), length-take id ns) in
       sym (get_or-take (id + 1) all id d (omega arith)) ∙ ap (λ xs. get_or xs id d) told ∙ get_or_push (in_turn tell (take id ns)) (tell (in_turn tell (take id ns)) n) d id before ∙ ap (λ xs. tell xs n) (in_turn-take id ns)
 
-  -- what is told depends on `tell` only at the places of the nodes
+  -- what is stated depends on `tell` only at the places of the nodes
   pub in_turn_from-agree : (other : List X → Node → X) (told : List X) (ns : List Node) → ((xs : List X) (n : Node) → length xs < length told + length ns → tell xs n ≡ other xs n) → in_turn_from tell told ns ≡ in_turn_from other told ns
   in_turn_from-agree other told [] agree = refl
   in_turn_from-agree other told (n ∷ ns) agree =

@@ -1,4 +1,4 @@
--- An `ite` of field sort and its equalities, put behind the other nodes.
+-- An `ite` of field sort and its equalities, put after the other nodes.
 use Rattle.std.proofs.Common.{◌≡◌, ℕ, ◌+◌, ◌<◌, ◌≤◌, ◌⊎◌, inl, inr, ⊎_elim, Result, Ok, Err, IfOk, OnErr, ◌==◌, if◌then◌else◌, Bool, eq-eqb, ne_eqb, List, [], ◌∷◌, ◌++◌, length, take, Contains, refl, sym, ap, ◌∙◌, subst, arith, length-append, append_assoc, take_at}
 use Rattle.std.proofs.lemmas.Bool.{cases_eq}
 use Rattle.std.proofs.lemmas.List.{length_push}
@@ -12,7 +12,7 @@ use Rattle.ffc_term.proofs.NodeLemmas.{IsNodeAt-from_Contains, Contains-from_IsN
 use Rattle.ffc_term.proofs.TableLemmas.{sort_at-append, sort_at-last, IsWellFormed-push}
 use Rattle.ffc_term.proofs.WalkLemmas.{child_below, All-two}
 
--- what was asked for and was not there stands behind the others
+-- what was asked for and was not there comes after the others
 pub new_from_IsInterned : (old new : List Node) (n : Node) (id : ℕ) → IsInterned old new n id → ¬ (Contains old n) → (new ≡ old ++ n ∷ []) × (id ≡ length old)
 new_from_IsInterned old new n id told none = ⊎_elim (λ was. absurd (none was.0)) (λ is. (is.1, is.2)) told.added
 
@@ -60,7 +60,7 @@ fits_second ns c a b fits =
     let right : IsFieldAt ns p b = fits.1.each 1 0 (omega arith) in
     one_field (new ++ Eq (length ns) a ∷ []) p (length ns) b (IsFieldAt-append new (Eq (length ns) a ∷ []) p (length ns) (ite_field_at ns c a b p left)) (IsFieldAt-append new (Eq (length ns) a ∷ []) p b (IsFieldAt-append ns (IteField c a b ∷ []) p b right))
 
--- the nodes that an `ite` brings, where its branches are one node, and where they are two
+-- the nodes that an `ite` adds, where its branches are one node, and where they are two
 pub ite_nodes-same : (t c a b : ℕ) → a ≡ b → ite_nodes t c a b ≡ IteField c a b ∷ Eq t a ∷ []
 ite_nodes-same t c a b same = ap (λ (x : Bool). IteField c a b ∷ Eq t a ∷ (if x then [] else Eq t b ∷ [])) (eq-eqb a b same)
 
@@ -125,7 +125,7 @@ take_front ns new ms is = ap (take (length ns)) is ∙ take_at ns ms (length ns)
 pub take_front-two : (ns new : List Node) (x y : Node) → new ≡ (ns ++ x ∷ []) ++ y ∷ [] → take (length ns) new ≡ ns
 take_front-two ns new x y is = take_front ns new (x ∷ y ∷ []) (is ∙ append_assoc ns (x ∷ []) (y ∷ []))
 
--- the equalities of the `ite` k with the branches a and b stand behind it
+-- the equalities of the `ite` k with the branches a and b come after it
 abbrev pub EqualitiesAt : List Node → ℕ → ℕ → ℕ → Type 0
 EqualitiesAt ns k a b = IsNodeAt ns (k + 1) (Eq k a) × IsNodeAt ns (second_equality k a b) (Eq k b)
 

@@ -1,4 +1,4 @@
--- Values have their sorts, stay when nodes come behind, and depend on the constants among a check's nodes alone; a check has
+-- Values have their sorts, stay when nodes come after, and depend on the constants among a check's nodes alone; a check has
 -- one list of nodes.
 use Rattle.std.proofs.Common.{◌≡◌, ℕ, zero, suc, ◌+◌, ◌*◌, ◌^◌, ◌%◌, ◌-◌, ◌<◌, ◌≤◌, ◌⊎◌, inl, inr, ⊎_elim, Bool, true, false, if◌then◌else◌, nat_lt, min, List, [], ◌∷◌, ◌++◌, length, take, get_or, Contains, refl, sym, ap, ap₂, ◌∙◌, subst, arith, length-take, get_or-take, mod-lt, sum_by, lt-ltb, le-ltb}
 use Rattle.std.specs.List.Sorted.{IsStrictlyIncreasing}
@@ -28,7 +28,7 @@ use Rattle.ffc_term.proofs.ValueLemmas.{value_at-is, value_of_node-agree, length
 order_at-append : (ns ms : List Node) (id : ℕ) → id < length ns → order_at (ns ++ ms) id ≡ order_at ns id
 order_at-append ns ms id inside = ap order_of_sort (sort_at-append ns ms id inside)
 
--- with further nodes the values of the first ones are told as before
+-- with further nodes the values of the first ones are stated as before
 values_front : (ns ms : List Node) (A : List Value) → take (length ns) (values (ns ++ ms) A) ≡ values ns A
 unfolding values
 values_front ns ms A =
@@ -101,7 +101,7 @@ either_below : (b : Bool) (x y p : ℕ) → x < p → y < p → (if b then x els
 either_below true x y p one two = one
 either_below false x y p one two = two
 
--- what is told of the children of a node, of their sorts and values
+-- what is stated of the children of a node, of their sorts and values
 module _ (ns : List Node) (A : List Value) (vs : List Value) (told : (c p : ℕ) → IsFieldAt ns p c → IsOfSort (sort.Field p) (value_in vs c)) (orders : (c p : ℕ) → IsFieldAt ns p c → 0 < p) where
   computed : (c p n : ℕ) → IsFieldAt ns p c → IsOfSort (sort_at ns c) (value.Field (n % order_of_sort (sort_at ns c)))
   computed c p n is = subst (λ s. IsOfSort s (value.Field (n % order_of_sort s))) (sym is.1) (mod-lt n (orders c p is))

@@ -86,7 +86,7 @@ IsNodeAt-from_position nodes n id found =
     let told = position-Some ((by_parts.ghosts).eq n) nodes id n found in
     slice_get-get_or nodes id n told.0 ∙ ap Some (sym (same_node n (get_or nodes id n) told.1))
 
--- a node that is not found stands nowhere
+-- a node that is not found is nowhere
 pub not_Contains-from_any : (nodes : List Node) (n : Node) → list_any ((by_parts.ghosts).eq n) nodes ≡ false → ¬ (Contains nodes n)
 not_Contains-from_any nodes n none has = absurd (false≢true (sym none ∙ list_any-from_Contains eq_laws.laws-law n nodes has))
 
@@ -117,7 +117,7 @@ pub IsNodeAt-last : (ns : List Node) (n : Node) → IsNodeAt (ns ++ n ∷ []) (l
 IsNodeAt-last ns n =
     slice_get-get_or (ns ++ n ∷ []) (length ns) n (omega (arith, length-append ns (n ∷ []))) ∙ ap Some (get_or_push ns n n (length ns) refl)
 
--- a node of a longer table stands in the shorter one, or is the last
+-- a node of a longer table is in the shorter one, or is the last
 pub IsNodeAt-push : (ns : List Node) (n : Node) (id : ℕ) (m : Node) → IsNodeAt (ns ++ n ∷ []) id m → IsNodeAt ns id m ⊎ ((id ≡ length ns) × (m ≡ n))
 IsNodeAt-push ns n id m at =
     let inside : id < length (ns ++ n ∷ []) = slice_get_within (ns ++ n ∷ []) id m at in

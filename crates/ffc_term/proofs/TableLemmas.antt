@@ -94,7 +94,7 @@ single_push ns n old new id other m p q =
       ]
     ]
 
--- a new node that fits may stand behind the others
+-- a new node that fits may come after the others
 pub IsWellFormed-push : (ns : List Node) (n : Node) → IsWellFormed ns → Fits ns n → IsNumbered ns n → ¬ (Contains ns n) → length ns < most_nodes → IsWellFormed (ns ++ n ∷ [])
 IsWellFormed-push ns n old fits numbered new room = record {
   fits = kept_by_push Fits ns n old.fits fits;
@@ -128,7 +128,7 @@ AreKept-take i ns kept old = record {
   lengths_are = sym (take-map (λ (x : Kept). x.length) i kept) ∙ lengths_less i ns (kept_lengths kept) old.lengths_are;
 }
 
--- a new node with what is kept of it, put behind the others
+-- a new node with what is kept of it, put after the others
 pub Store-push : (keys new : List Node) (kept later : List Kept) (n : Node) (k : Kept) → IsWellFormed keys → AreKept keys kept → Fits keys n → Contains keys n ⊎ IsNumbered keys n → ¬ (length keys ≡ most_nodes) → ¬ (Contains keys n) → new ≡ keys ++ n ∷ [] → IsKeptOf kept n k → later ≡ kept ++ k ∷ [] → IsWellFormed new × AreKept new later
 Store-push keys new kept later n k old told fits numbered room none longer kept_of behind =
     let bound : length keys ≤ most_nodes = old.within in

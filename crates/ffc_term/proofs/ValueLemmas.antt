@@ -211,7 +211,7 @@ late nodes i c rises inside has behind below =
       | inr other ↦ let less : get_or nodes i 0 < get_or nodes has.0 0 = AllPairs-from_increasing nodes rises i has.0 0 (omega arith) has.1 in omega arith
     ]
 
--- in an increasing list a smaller number stands before
+-- in an increasing list a smaller number comes before
 pub Contains-take : (nodes : List ℕ) (i c : ℕ) → IsStrictlyIncreasing nodes → i < length nodes → Contains nodes c → c < get_or nodes i 0 → Contains (take i nodes) c
 Contains-take nodes i c rises inside has below =
     elim (cases_lt has.0 i) as (λ _. Contains (take i nodes) c) [

@@ -90,11 +90,11 @@ Marks-equalities c a b id e old is one two =
     Marks-set (λ _. ⊥) (λ k. k ≡ id + 1) old old (id + 1) (Marks-none (λ _. ⊥) old (λ k h. h)) one (λ k h. absurd h) refl (λ k h. inr h) in
     Marks-set (λ k. k ≡ id + 1) (IsEqualityOf (IteField c a b) id) old (set old (id + 1) true) e once (omega (arith, length-set old (id + 1) true)) (λ k h. inl h) (inr is) (λ k h. ⊎_elim (λ h1. inl h1) (λ h2. inr (h2 ∙ sym is)) h)
 
--- what a node brings: its children, and then its equalities
+-- what a node adds: its children, and then its equalities
 pub IsBroughtBy-child : (n : Node) (id k : ℕ) → Contains (children n) k → IsBroughtBy n id k
 IsBroughtBy-child n id k has = inl has
 
--- a child stands before its node
+-- a child comes before its node
 All-one : (P : ℕ → Type 0) (a : ℕ) → P a → All P (a ∷ [])
 All-one P a p = All-cons P a [] p (All-nil P)
 
@@ -142,7 +142,7 @@ equality_within ns id k (IteField c a b) table at is =
     ⊎_elim (λ e. subst (λ j. j < length ns) (sym e) (slice_get_within ns (id + 1) (Eq id a) behind.0)) (λ e. subst (λ j. j < length ns) (sym e) (slice_get_within ns (second_equality id a b) (Eq id b) behind.1)) is
 equality_within ns id k _ table at is = absurd is
 
--- what a node brings is in the table
+-- what a node adds is in the table
 pub brought_within : (ns : List Node) (id k : ℕ) (n : Node) → IsTable ns → IsNodeAt ns id n → IsBroughtBy n id k → k < length ns
 brought_within ns id k n table at is =
     let inside : id < length ns = slice_get_within ns id n at in
@@ -154,7 +154,7 @@ equality_of ns ids id k (IteField c a b) table at of is =
     ⊎_elim (λ e. subst (IsNodeOf ns ids) (sym e) (first c a b of at behind.0)) (λ e. subst (IsNodeOf ns ids) (sym e) (second c a b of at behind.1)) is
 equality_of ns ids id k _ table at of is = absurd is
 
--- what a node of a check brings is of the check
+-- what a node of a check adds is of the check
 pub IsNodeOf-brought : (ns : List Node) (ids : List ℕ) (id k : ℕ) (n : Node) → IsTable ns → IsNodeAt ns id n → IsNodeOf ns ids id → IsBroughtBy n id k → IsNodeOf ns ids k
 IsNodeOf-brought ns ids id k n table at of is =
     ⊎_elim (λ has. child n of at has) (λ e. equality_of ns ids id k n table at of e) is
@@ -173,7 +173,7 @@ IsMarking-start ns ids old marks clear told =
       closed = λ id n k from is at brings. let inside : id < length ns = slice_get_within ns id n at in absurd (omega arith);
     }
 
--- numbers with no mark bring nothing
+-- numbers with no mark add nothing
 pub IsMarking-lower : (ns : List Node) (ids : List ℕ) (marks : List Bool) (from to : ℕ) → IsMarking ns ids marks to → IsNoneMarked marks from to → IsMarking ns ids marks from
 IsMarking-lower ns ids marks from to told none = record {
   long = told.long;
@@ -190,7 +190,7 @@ two_in : (x y k : ℕ) → Contains (x ∷ y ∷ []) k → (k ≡ x) ⊎ (k ≡ 
 two_in x y k has =
     ⊎_elim (λ before. ⊎_elim (λ none. absurd (nothing_in k none)) (λ e. inl (sym e)) (Contains-push_cases [] x k before)) (λ e. inr (sym e)) (Contains-push_cases (x ∷ []) y k has)
 
--- an equality brings its two sides
+-- an equality adds its two sides
 eq_brings : (x y id k : ℕ) → IsBroughtBy (Eq x y) id k → (k ≡ x) ⊎ (k ≡ y)
 eq_brings x y id k brings = ⊎_elim (λ has. two_in x y k has) (λ no. absurd no) brings
 
@@ -205,7 +205,7 @@ equality_closed ns marks later i id k (IteField c a b) m table at at' marked new
     is
 equality_closed ns marks later i id k _ m table at at' marked new is brings = absurd is
 
--- the numbers that an equality of a marked `ite` brings are marked after the visit of the `ite`
+-- the numbers that an equality of a marked `ite` adds are marked after the visit of the `ite`
 closed_above : (ns : List Node) (marks later : List Bool) (i id k : ℕ) (n m : Node) → IsTable ns → IsNodeAt ns i n → IsNodeAt ns id m → ¬ (id ≡ i) → i ≤ id → IsMarked marks i → Marks (IsBroughtBy n i) marks later → IsBroughtBy n i id → IsBroughtBy m id k → IsMarked later k
 closed_above ns marks later i id k n m table at at' other from marked new brought brings =
     ⊎_elim
@@ -213,7 +213,7 @@ closed_above ns marks later i id k n m table at at' other from marked new brough
     (λ is. equality_closed ns marks later i id k n m table at at' marked new is brings)
     brought
 
--- The marks after a visit of the number i. What it brings above i are equalities, which bring i and one of its children.
+-- The marks after a visit of the number i. What it adds above i are equalities, which add i and one of its children.
 pub IsMarking-visit : (ns : List Node) (ids : List ℕ) (marks later : List Bool) (i j : ℕ) (n : Node) → j ≡ i + 1 → IsTable ns → IsMarking ns ids marks j → IsMarked marks i → IsNodeAt ns i n → Marks (IsBroughtBy n i) marks later → IsMarking ns ids later i
 IsMarking-visit ns ids marks later i j n next table told marked at new = record {
   long = new.long ∙ told.long;

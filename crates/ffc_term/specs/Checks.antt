@@ -31,7 +31,7 @@ pub record IsClosed (nodes : List Node) (among : List ℕ) : Type 0 where
   pub within : All (λ id. id < length nodes) among
   pub closed : (id c : ℕ) (n : Node) → Contains among id → IsNodeAt nodes id n → Contains (children n) c → Contains among c
 
--- A check over a table: the declared constants in increasing order, the Boolean nodes that are in force, and the order
+-- A check over a table: the declared constants in increasing order, the Boolean nodes that are active, and the order
 -- that was named first.
 pub record IsValidCheck (nodes : List Node) (declared in_force : List ℕ) (first_order : ℕ) : Type 0 where
   pub table : IsTable nodes

@@ -33,6 +33,6 @@ pub record FieldChildrenAreOfOneOrder : Type 0 where
   pub sides : (nodes : List Node) (id a b : ℕ) → IsTable nodes → IsNodeAt nodes id (Eq a b) → (p : ℕ) × IsOrder p × IsFieldAt nodes p a × IsFieldAt nodes p b
   pub parts : (nodes : List Node) (id p : ℕ) (n : Node) → IsTable nodes → IsNodeAt nodes id n → IsFieldAt nodes p id → IsOrder p × All (IsFieldAt nodes p) (field_children n)
 
--- What was put behind a table may be dropped.
+-- What was added after a table may be dropped.
 abbrev pub GrownTablesCanBeCut : Type 0
 GrownTablesCanBeCut = (nodes more : List Node) → IsTable nodes → CanCut (nodes ++ more) (length nodes)

@@ -25,7 +25,7 @@ pub record AreKept (nodes : List Node) (kept : List Kept) : Type 0 where
   pub degrees_are : kept_degrees kept ≡ map capped (degrees nodes)
   pub lengths_are : kept_lengths kept ≡ map capped (lengths nodes)
 
--- k is what is kept of a node that stands behind those of which this is kept
+-- k is what is kept of a node that comes after those of which this is kept
 pub record IsKeptOf (kept : List Kept) (n : Node) (k : Kept) : Type 0 where
   pub sort_is : k.sort ≡ sort_of_node (kept_sorts kept) n
   pub degree_is : k.degree ≡ capped (degree_of_node (kept_degrees kept) n)

@@ -1,4 +1,4 @@
--- What holds of every table: values have the sorts of their nodes, stay when nodes come behind, follow from the values of
+-- What holds of every table: values have the sorts of their nodes, stay when nodes come after, follow from the values of
 -- the children, and depend on the constants among a check's nodes alone.
 use Rattle.std.specs.Prelude.{◌≡◌, ℕ, ◌<◌, List, ◌++◌, Contains, length}
 use Rattle.ffc_term.specs.declared.node.Node.{Node}

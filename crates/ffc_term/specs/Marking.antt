@@ -16,7 +16,7 @@ IsMarked marks id = slice_index_or marks id false ≡ true
 abbrev pub IsNoneMarked : List Bool → ℕ → ℕ → Type 0
 IsNoneMarked marks from to = (k : ℕ) → from ≤ k → k < to → ¬ (IsMarked marks k)
 
--- the mark of a number is one bit; 64 stand in a word
+-- the mark of a number is one bit; 64 are in a word
 abbrev pub mark_in : List ℕ → ℕ → Bool
 mark_in words id = bit_at (slice_index words (id / 64)) (id % 64) == 1
 
@@ -29,7 +29,7 @@ abbrev pub IsEqualityOf : Node → ℕ → ℕ → Type 0
 IsEqualityOf (IteField c a b) id k = (k ≡ id + 1) ⊎ (k ≡ second_equality id a b)
 IsEqualityOf _ id k = ⊥
 
--- what the node n, numbered id, brings into a check
+-- what the node n, numbered id, adds to a check
 abbrev pub IsBroughtBy : Node → ℕ → ℕ → Type 0
 IsBroughtBy n id k = Contains (children n) k ⊎ IsEqualityOf n id k
 
@@ -41,7 +41,7 @@ pub record Marks (P : ℕ → Type 0) (old new : List Bool) : Type 0 where
   pub only : (k : ℕ) → IsMarked new k → IsMarked old k ⊎ P k
 
 -- All listed nodes are marked, marked nodes are nodes of the check, and what the marked nodes from the number `from` on
--- bring is marked.
+-- add is marked.
 pub record IsMarking (nodes : List Node) (ids : List ℕ) (marks : List Bool) (from : ℕ) : Type 0 where
   pub long : length marks ≡ length nodes
   pub listed : (k : ℕ) → Contains ids k → IsMarked marks k

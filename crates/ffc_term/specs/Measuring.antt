@@ -25,7 +25,7 @@ pub record AreMeasuresOf (nodes : List Node) (ids : List ℕ) (span work : ℕ) 
   pub span_is : span ≡ min (span_of nodes among) (2 ^ 64)
   pub work_is : work ≡ min (span_of nodes among * length among) (2 ^ 64)
 
--- the number that is told of a child
+-- the number that is stated of a child
 abbrev pub number_in : List ℕ → ℕ → ℕ
 number_in numbers id = slice_index_or numbers id 0
 
@@ -89,6 +89,6 @@ degree_at nodes id = number_in (degrees nodes) id
 abbrev pub length_at : List Node → ℕ → ℕ
 length_at nodes id = number_in (lengths nodes) id
 
--- up to which number degrees and lengths are told apart
+-- up to which number degrees and lengths are kept exactly
 abbrev pub measure_cap : ℕ
 measure_cap = 2 ^ 32

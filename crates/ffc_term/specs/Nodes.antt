@@ -1,7 +1,7 @@
 -- The nodes of a table: their numbers, their children, their sorts (SMT-LIB 2.6, section 3: many-sorted terms).
 --
 -- A table is seen as the list of its nodes. The number of a node is its place in that list, from 0, and the
--- children of a node stand before it. What is told of each node from what is told of the nodes before it, as
+-- children of a node come before it. What is stated of each node from what is stated of the nodes before it, as
 -- its sort or its value, is a list as long as the table.
 use Rattle.std.specs.Prelude.{◌≡◌, ℕ, Bool, true, false, List, [], ◌∷◌, ◌++◌, Some, slice_get, slice_index, slice_index_or, IsTrue}
 use Rattle.ffc_term.specs.declared.node.Node.{Node}
@@ -48,16 +48,16 @@ abbrev pub IsConstantAt : List Node → ℕ → Type 0
 IsConstantAt nodes id = (n : Node) × IsNodeAt nodes id n × IsTrue (is_constant n)
 
 module _ {X : Type 0} (tell : List X → Node → X) where
-  -- what is told of some nodes, and then of each further one in turn
+  -- what is stated of some nodes, and then of each further one in turn
   abbrev pub in_turn_from : List X → List Node → List X
   in_turn_from told [] = told
   in_turn_from told (n ∷ ns) = in_turn_from (told ++ tell told n ∷ []) ns
 
-  -- what is told of each node in turn, from what is told of the nodes before it
+  -- what is stated of each node in turn, from what is stated of the nodes before it
   abbrev pub in_turn : List Node → List X
   in_turn ns = in_turn_from [] ns
 
--- the sort that is told of a child
+-- the sort that is stated of a child
 abbrev pub sort_in : List Sort → ℕ → Sort
 sort_in sorts id = slice_index_or sorts id sort.Bool
 

@@ -1,5 +1,5 @@
--- Which lists of nodes are tables: each node fits those before it, equal nodes are one, and behind each `ite` of
--- field sort stand the equalities of the `ite` with its branches.
+-- Which lists of nodes are tables: each node fits those before it, equal nodes are one, and after each `ite` of
+-- field sort come the equalities of the `ite` with its branches.
 use Rattle.std.specs.Prelude.{◌≡◌, ℕ, ◌+◌, ◌<◌, ◌≤◌, ◌⊎◌, ◌==◌, if◌then◌else◌, List, [], ◌∷◌, ◌++◌, length, take, All, Contains, count_by}
 use Rattle.ffc_field.specs.Orders.{IsOrder}
 use Rattle.ffc_term.specs.declared.node.Node.{Node}
@@ -30,7 +30,7 @@ pub record AreOfOneField (nodes : List Node) (ids : List ℕ) : Type 0 where
   pub order : ℕ
   pub each : All (IsFieldAt nodes order) ids
 
--- A node may stand behind these: its children are among them, lists of children are not empty, and its sorts and
+-- A node may come after these: its children are among them, lists of children are not empty, and its sorts and
 -- orders fit.
 abbrev pub Fits : List Node → Node → Type 0
 Fits nodes True = Unit {0}
@@ -55,7 +55,7 @@ Fits nodes (Bitsum ids) = AreOfOneField nodes ids
 abbrev pub constant_count : List Node → ℕ
 constant_count nodes = count_by is_constant nodes
 
--- a constant that stands behind these nodes is numbered by the count of the constants among them
+-- a constant that comes after these nodes is numbered by the count of the constants among them
 abbrev pub IsNumbered : List Node → Node → Type 0
 IsNumbered nodes (BoolConst k) = k ≡ constant_count nodes
 IsNumbered nodes (FieldConst k p) = k ≡ constant_count nodes
@@ -70,11 +70,11 @@ IsFieldIte _ = ⊥
 abbrev pub second_equality : ℕ → ℕ → ℕ → ℕ
 second_equality t a b = if a == b then t + 1 else t + 2
 
--- behind each `ite` of field sort stand its equalities with its branches
+-- after each `ite` of field sort come its equalities with its branches
 abbrev pub HasEqualities : List Node → Type 0
 HasEqualities nodes = (t c a b : ℕ) → IsNodeAt nodes t (IteField c a b) → IsNodeAt nodes (t + 1) (Eq t a) × IsNodeAt nodes (second_equality t a b) (Eq t b)
 
--- Each node fits those before it, and no node stands twice.
+-- Each node fits those before it, and no node occurs twice.
 pub record IsWellFormed (nodes : List Node) : Type 0 where
   pub fits : (id : ℕ) (n : Node) → IsNodeAt nodes id n → Fits (take id nodes) n
   pub numbered : (id : ℕ) (n : Node) → IsNodeAt nodes id n → IsNumbered (take id nodes) n
@@ -87,7 +87,7 @@ pub record IsTable (nodes : List Node) : Type 0 where
   pub equalities : HasEqualities nodes
 
 -- The node n was asked for, and id is its number: the table is as it was where it had the node, and else the node was
--- put behind the others.
+-- put after the others.
 pub record IsInterned (old new : List Node) (n : Node) (id : ℕ) : Type 0 where
   pub at : IsNodeAt new id n
   pub added : (Contains old n × (new ≡ old)) ⊎ (¬ (Contains old n) × (new ≡ old ++ n ∷ []) × (id ≡ length old))
@@ -96,11 +96,11 @@ pub record IsInterned (old new : List Node) (n : Node) (id : ℕ) : Type 0 where
 abbrev pub CanCut : List Node → ℕ → Type 0
 CanCut nodes len = (t c a b : ℕ) → IsNodeAt nodes t (IteField c a b) → t < len → second_equality t a b < len
 
--- the nodes that an `ite` of field sort brings, where its number is t
+-- the nodes that an `ite` of field sort adds, where its number is t
 abbrev pub ite_nodes : ℕ → ℕ → ℕ → ℕ → List Node
 ite_nodes t c a b = IteField c a b ∷ Eq t a ∷ (if a == b then [] else Eq t b ∷ [])
 
--- The same for an `ite` of field sort and its equalities: either all were there, or all were put behind the others.
+-- The same for an `ite` of field sort and its equalities: either all were there, or all were put after the others.
 pub record IsIteInterned (old new : List Node) (c a b id : ℕ) : Type 0 where
   pub at : IsNodeAt new id (IteField c a b)
   pub added : (Contains old (IteField c a b) × (new ≡ old)) ⊎ (¬ (Contains old (IteField c a b)) × (new ≡ old ++ ite_nodes id c a b) × (id ≡ length old))

@@ -2,7 +2,7 @@
 use crate::node::NodeId;
 use crate::table::NodeTable;
 
-/// A check: the constants that are declared, the Boolean nodes that are in force, and the order that was named first.
+/// A check: the constants that are declared, the Boolean nodes that are active, and the order that was named first.
 #[derive(Clone, Copy)]
 pub struct Check<'a> {
     pub table: &'a NodeTable,

@@ -7,7 +7,8 @@ ghost use Rattle.ffc_term.specs.Nodes.{children, IsComputed, IsNodeAt, order_at}
 ghost use Rattle.ffc_term.specs.declared.node.Node.{Node};
 ghost use Rattle.ffc_term.specs.Tables.{IsTable};
 ghost use Rattle.ffc_term.specs.Checks.{IsClosed};
-ghost use Rattle.ffc_term.specs.Values.{HoldsValues, truth, value_at, truth_in, residue_in, product_by, bit_sum_from, is_same_truth, value_of_node};
+ghost use Rattle.ffc_term.specs.Values.{HoldsValues, truth, value_at, truth_in, residue_in, product_by, bit_sum_from};
+ghost use Rattle.ffc_term.specs.Values.{is_same_truth, value_of_node};
 
 use crate::modular::{Operation, compute};
 use crate::node::{Node, NodeId};
@@ -91,7 +92,8 @@ fn value_of(node: &Node, order: u64, values: &Assignment, known: &[Value]) -> Va
 fn value_at(table: &NodeTable, id: NodeId, values: &Assignment, known: &[Value]) -> Value
     requires inside { id < length table.now }
     requires within { (n : Node) → IsNodeAt table.now id n → All (λ c. c < length known.now) (children n) }
-    ensures value { (n : Node) → IsNodeAt table.now id n → result ≡ value_of_node (order_at table.now id) values.now known.now n }
+    ensures value { (n : Node) → IsNodeAt table.now id n → result ≡ value_of_node (order_at table.now id) values.now
+        known.now n }
     ensures valid { IsTable table.now }
 {
     value_of(table.node(id), table.sort_of(id).order(), values, known)

@@ -1,5 +1,6 @@
 //! What holds of sorts, degrees and lengths in every table, for the crates above.
-ghost use Rattle.ffc_term.specs.Growth.{FieldChildrenAreOfOneOrder, GrownTablesCanBeCut, MeasuresFollowFromChildren, MeasuresStay};
+ghost use Rattle.ffc_term.specs.Growth.{FieldChildrenAreOfOneOrder, GrownTablesCanBeCut, MeasuresFollowFromChildren};
+ghost use Rattle.ffc_term.specs.Growth.{MeasuresStay};
 
 /// A node's sort, degree and length follow from those of its children.
 pub fn measures_follow_from_children()
@@ -16,7 +17,7 @@ pub fn field_children_are_of_one_order()
     ensures { FieldChildrenAreOfOneOrder }
 {}
 
-/// What was put behind a table may be dropped.
+/// What was added after a table may be dropped.
 pub fn grown_tables_can_be_cut()
     ensures { GrownTablesCanBeCut }
 {}

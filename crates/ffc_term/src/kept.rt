@@ -8,7 +8,7 @@ ghost use Rattle.ffc_term.specs.declared.kept.Kept.{Kept};
 
 use crate::node::{Node, NodeId, Sort};
 
-// Up to which number degrees and lengths are told apart.
+// Up to which number degrees and lengths are kept exactly.
 const MEASURE_CAP: u128 = 1 << 32;
 
 /// What is kept of a node.
@@ -41,7 +41,7 @@ fn sort_of_first(kept: &[Kept], ids: &[NodeId]) -> Sort
     }
 }
 
-// The sort of a node that stands behind those of which this is kept.
+// The sort of a node that comes after those of which this is kept.
 fn sort_of_node(node: &Node, kept: &[Kept]) -> Sort
     ensures { result ≡ sort_of_node (kept_sorts kept.now) node.now }
 {
@@ -122,7 +122,7 @@ fn product_of_lengths(kept: &[Kept], ids: &[NodeId]) -> u64
     product as u64
 }
 
-// The degree of a node that stands behind those of which this is kept.
+// The degree of a node that comes after those of which this is kept.
 fn degree_of_node(node: &Node, kept: &[Kept]) -> u64
     ensures { capped result ≡ capped (degree_of_node (kept_degrees kept.now) node.now) }
 {
@@ -145,7 +145,7 @@ fn degree_of_node(node: &Node, kept: &[Kept]) -> u64
     }
 }
 
-// The length of a node that stands behind those of which this is kept.
+// The length of a node that comes after those of which this is kept.
 fn length_of_node(node: &Node, kept: &[Kept]) -> u64
     ensures { capped result ≡ capped (length_of_node (kept_lengths kept.now) node.now) }
 {
@@ -168,7 +168,7 @@ fn length_of_node(node: &Node, kept: &[Kept]) -> u64
 }
 
 impl Kept {
-    // What is kept of a node that stands behind those of which the rest is kept.
+    // What is kept of a node that comes after those of which the rest is kept.
     fn of(node: &Node, kept: &[Kept]) -> Kept
         ensures { IsKeptOf kept.now node.now result }
     {
@@ -179,7 +179,7 @@ impl Kept {
         }
     }
 
-    /// Puts what is kept of a node behind what is kept of the nodes before it. There has to be room.
+    /// Puts what is kept of a node after what is kept of the nodes before it. There has to be room.
     pub fn keep(node: &Node, kept: &mut Vec<Kept>)
         requires { vec_len kept.old < vec_capacity kept.old }
         ensures { (k : Kept) × IsKeptOf kept.old.items node.now k × (kept.new.items ≡ kept.old.items ++ k ∷ []) }

@@ -1,5 +1,6 @@
 //! What holds of every table, for the crates above.
-ghost use Rattle.ffc_term.specs.Laws.{ValuesAreOfSort, ValuesFollowFromChildren, ValuesStay, ConstantsDecide, NodesAreOneList, MeasuresAreOne};
+ghost use Rattle.ffc_term.specs.Laws.{ValuesAreOfSort, ValuesFollowFromChildren, ValuesStay, ConstantsDecide};
+ghost use Rattle.ffc_term.specs.Laws.{NodesAreOneList, MeasuresAreOne};
 
 /// The value of each node is of the node's sort, under every assignment.
 pub fn values_are_of_sort()

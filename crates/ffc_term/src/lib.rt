@@ -3,6 +3,7 @@
 
 mod check;
 mod eval;
+pub mod fitting;
 pub mod growth_laws;
 mod kept;
 pub mod laws;

@@ -29,7 +29,8 @@ impl Model for MarkSet {
 // The highest bit up to `last` that is set.
 fn highest_bit(word: u64, last: u32) -> Option<u32>
     requires { last < 64 }
-    ensures some { IfSome result (λ i. (i ≤ last) × (bit_at word i ≡ 1) × ((j : ℕ) → i < j → j ≤ last → bit_at word j ≡ 0)) }
+    ensures some { IfSome result (λ i. (i ≤ last) × (bit_at word i ≡ 1)
+        × ((j : ℕ) → i < j → j ≤ last → bit_at word j ≡ 0)) }
     ensures none { IfNone result ((j : ℕ) → j ≤ last → bit_at word j ≡ 0) }
 {
     let bits = word & (u64::MAX >> (63 - last));

@@ -1,7 +1,9 @@
 //! Nodes by number, each once, with what is kept of each.
-ghost use Rattle.std.specs.Prelude.{◌≡◌, ℕ, ◌+◌, ◌<◌, ◌≤◌, ◌↔◌, ◌⊎◌, List, [], ◌++◌, length, take, map, Contains, IfOk, OnErr, IfSome, IfNone, IsErrOf, IsOkUnless, MatchBool, ◌∷◌};
+ghost use Rattle.std.specs.Prelude.{◌≡◌, ℕ, ◌+◌, ◌<◌, ◌≤◌, ◌↔◌, ◌⊎◌, List, [], ◌++◌, length, take, map, Contains, IfOk};
+ghost use Rattle.std.specs.Prelude.{OnErr, IfSome, IfNone, IsErrOf, IsOkUnless, MatchBool, ◌∷◌};
 ghost use Rattle.ffc_term.specs.Nodes.{IsNodeAt, sort_at, sort_of_node};
-ghost use Rattle.ffc_term.specs.Tables.{Fits, IsNumbered, IsWellFormed, IsInterned, IsIteInterned, ite_nodes, most_nodes};
+ghost use Rattle.ffc_term.specs.Tables.{Fits, IsNumbered, IsWellFormed, IsInterned, IsIteInterned, ite_nodes};
+ghost use Rattle.ffc_term.specs.Tables.{most_nodes};
 ghost use Rattle.ffc_term.specs.Measuring.{degree_at, length_at};
 ghost use Rattle.ffc_term.specs.Keeping.{capped};
 ghost use Rattle.ffc_term.specs.declared.node.Node.TheVariants as node_is;
@@ -16,14 +18,14 @@ use std::marker::Model;
 /// How many nodes a table may have.
 pub const MOST_NODES: u32 = 1_048_576;
 
-/// Nodes in the order of their making, each fitting those before it.
+/// Nodes in the order in which they are interned, each fitting those before it.
 #[derive(Debug, Drop)]
 pub struct Store {
     nodes: IndexSet<Node>,
     kept: Vec<Kept>,
 }
 
-// How many nodes an `ite` of field sort with these branches brings.
+// How many nodes an `ite` of field sort with these branches adds.
 fn ite_size(a: NodeId, b: NodeId) -> u32
     ensures size { (t c : ℕ) → result ≡ length (ite_nodes t c a b) }
     ensures few { result ≤ 3 }
@@ -31,10 +33,12 @@ fn ite_size(a: NodeId, b: NodeId) -> u32
     if a == b { 2 } else { 3 }
 }
 
-// Puts a node behind the others where it is not there, and says under which number it is then, and whether it is new.
+// Puts a node after the others where it is not there, and says under which number it is then, and whether it is new.
 fn insert(nodes: &mut IndexSet<Node>, node: Node) -> Result<(usize, bool), TermStop>
     ensures put { IfOk result (λ r. IsInterned nodes.old.keys nodes.new.keys node r.0) }
-    ensures new { IfOk result (λ r. MatchBool r.1 (¬ (Contains nodes.old.keys node) × (nodes.new.keys ≡ nodes.old.keys ++ node ∷ [])) (nodes.new.keys ≡ nodes.old.keys)) }
+    ensures new { IfOk result
+        (λ r. MatchBool r.1 (¬ (Contains nodes.old.keys node) × (nodes.new.keys ≡ nodes.old.keys ++ node ∷ []))
+        (nodes.new.keys ≡ nodes.old.keys)) }
     ensures err { OnErr result (nodes.new.keys ≡ nodes.old.keys) }
     ensures memory { IsOkUnless result TermStop.Memory }
 {
@@ -154,7 +158,7 @@ impl Store {
         }
     }
 
-    // Puts an `ite` of field sort that is not there, and its equalities. After a refusal some of them may stand behind the
+    // Puts an `ite` of field sort that is not there, and its equalities. After a refusal some of them may be after the
     // others.
     fn put_new_ite(&mut self, c: NodeId, a: NodeId, b: NodeId) -> Result<NodeId, TermStop>
         requires valid { IsWellFormed self.old }

@@ -1,8 +1,10 @@
 //! The table of nodes.
-ghost use Rattle.std.specs.Prelude.{◌≡◌, ℕ, ◌+◌, ◌<◌, ◌≤◌, ◌^◌, ◌↔◌, ◌⊎◌, List, [], length, take, Contains, IfOk, OnErr, IsErrOf, min};
+ghost use Rattle.std.specs.Prelude.{◌≡◌, ℕ, ◌+◌, ◌<◌, ◌≤◌, ◌^◌, ◌↔◌, ◌⊎◌, List, [], length, take, Contains, IfOk};
+ghost use Rattle.std.specs.Prelude.{OnErr, IsErrOf, min};
 ghost use Rattle.ffc_field.specs.Orders.{IsOrder};
 ghost use Rattle.ffc_term.specs.Nodes.{IsNodeAt, sort_at, order_at};
-ghost use Rattle.ffc_term.specs.Tables.{Fits, IsFieldAt, IsNumbered, IsFieldIte, IsTable, IsInterned, IsIteInterned, CanCut, ite_nodes, most_nodes, second_equality};
+ghost use Rattle.ffc_term.specs.Tables.{Fits, IsFieldAt, IsNumbered, IsFieldIte, IsTable, IsInterned, IsIteInterned};
+ghost use Rattle.ffc_term.specs.Tables.{CanCut, ite_nodes, most_nodes, second_equality};
 ghost use Rattle.ffc_term.specs.Measuring.{degree_at, length_at, measure_cap};
 ghost use Rattle.ffc_term.specs.declared.node.Node.TheVariants as node_is;
 
@@ -18,7 +20,7 @@ pub enum TermStop {
     /// The table has as many nodes as it may have.
     #[error("the table of nodes is full")]
     Nodes,
-    /// Memory was wanting.
+    /// Out of memory.
     #[error("out of memory")]
     Memory,
 }
@@ -51,7 +53,7 @@ pub(crate) fn second_equality(id: NodeId, a: NodeId, b: NodeId) -> NodeId
     if a == b { id + 1 } else { id + 2 }
 }
 
-/// The nodes of the terms of a script, each once, numbered in the order of their making.
+/// The nodes of the terms of a script, each once, numbered in the order in which they are interned.
 ///
 /// Clauses see it as the list of its nodes.
 #[derive(Debug, Drop)]
@@ -148,7 +150,7 @@ impl NodeTable {
         self.store.put(node)
     }
 
-    /// The number of the `ite` of field sort; where it is new, its equalities with `a` and `b` are put behind it.
+    /// The number of the `ite` of field sort; where it is new, its equalities with `a` and `b` are put after it.
     pub fn ite_field(&mut self, c: NodeId, a: NodeId, b: NodeId) -> Result<NodeId, TermStop>
         requires { Fits self.old (node_is.IteField c a b) }
         ensures ok { IfOk result (IsIteInterned self.old self.new c a b) }
@@ -171,8 +173,10 @@ impl NodeTable {
     /// The numbers of the equalities of an `ite` of field sort with its two branches.
     pub fn branches(&self, id: NodeId) -> (NodeId, NodeId)
         requires { (c a b : ℕ) × IsNodeAt self.now id (node_is.IteField c a b) }
-        ensures first { (c a b : ℕ) → IsNodeAt self.now id (node_is.IteField c a b) → IsNodeAt self.now result.0 (node_is.Eq id a) }
-        ensures second { (c a b : ℕ) → IsNodeAt self.now id (node_is.IteField c a b) → IsNodeAt self.now result.1 (node_is.Eq id b) }
+        ensures first { (c a b : ℕ) → IsNodeAt self.now id (node_is.IteField c a b) → IsNodeAt self.now result.0
+            (node_is.Eq id a) }
+        ensures second { (c a b : ℕ) → IsNodeAt self.now id (node_is.IteField c a b) → IsNodeAt self.now result.1
+            (node_is.Eq id b) }
     {
         match self.node(id) {
             Node::IteField(_, a, b) => (id + 1, second_equality(id, *a, *b)),

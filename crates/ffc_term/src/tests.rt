@@ -1,124 +1,15 @@
 //! Tables made at run time: each node is tried before it is made.
-ghost use Rattle.std.specs.Prelude.{◌≡◌, ℕ, List, ◌<◌, ◌≤◌, length, take, All, IsTrue, IfSome, IsSome, count_by};
-ghost use Rattle.ffc_field.specs.Orders.{IsOrder};
+ghost use Rattle.std.specs.Prelude.{ℕ, ◌<◌, length, IsTrue};
 ghost use Rattle.ffc_term.specs.declared.node.Node.{Node};
-ghost use Rattle.ffc_term.specs.Nodes.{is_constant, sort_at};
-ghost use Rattle.ffc_term.specs.Tables.{Fits, CanCut, IsBooleanAt, IsFieldAt, IsFieldIte, IsNumbered, AreBoolean, AreOfOneField, constant_count};
+ghost use Rattle.ffc_term.specs.Tables.{CanCut};
 
+use crate::fitting::{are_boolean, count_constants, fits, is_order, is_plain};
 use crate::{
     Assignment, Measures, Node, NodeId, NodeList, NodeTable, Sort, TermStop, Value, distinct,
 };
-use ffc_field::FieldId;
 use std::alloc::{AllocError, Global};
 use std::process::Abort;
 use std::test::Fail;
-
-fn is_order(order: u64) -> bool
-    ensures { IsTrue result → IsOrder order }
-{
-    FieldId::of_order(u128::from(order)).is_some()
-}
-
-fn is_boolean(table: &NodeTable, id: NodeId) -> bool
-    ensures { IsTrue result → IsBooleanAt table.now id }
-{
-    if id >= table.len() {
-        return false;
-    }
-    match table.sort_of(id) {
-        Sort::Bool => true,
-        Sort::Field(_) => false,
-    }
-}
-
-fn is_field(table: &NodeTable, order: u64, id: NodeId) -> bool
-    ensures { IsTrue result → IsFieldAt table.now order id }
-{
-    if id >= table.len() {
-        return false;
-    }
-    match table.sort_of(id) {
-        Sort::Bool => false,
-        Sort::Field(own) => own == order,
-    }
-}
-
-fn are_boolean(table: &NodeTable, ids: &[NodeId]) -> bool
-    ensures { IsTrue result → All (IsBooleanAt table.now) ids.now }
-{
-    for id in ids {
-        if !is_boolean(table, *id) {
-            return false;
-        }
-    }
-    true
-}
-
-fn are_field(table: &NodeTable, order: u64, ids: &[NodeId]) -> bool
-    ensures { IsTrue result → All (IsFieldAt table.now order) ids.now }
-{
-    for id in ids {
-        if !is_field(table, order, *id) {
-            return false;
-        }
-    }
-    true
-}
-
-fn are_some_boolean(table: &NodeTable, ids: &[NodeId]) -> bool
-    ensures { IsTrue result → AreBoolean table.now ids.now }
-{
-    !ids.is_empty() && are_boolean(table, ids)
-}
-
-// The order of the first of these nodes, or 0.
-fn order_of_first(table: &NodeTable, ids: &[NodeId]) -> u64 {
-    match ids.first() {
-        Some(id) if *id < table.len() => table.sort_of(*id).order(),
-        _ => 0,
-    }
-}
-
-fn are_of_one_field(table: &NodeTable, ids: &[NodeId]) -> bool
-    ensures { IsTrue result → AreOfOneField table.now ids.now }
-{
-    let order = order_of_first(table, ids);
-    !ids.is_empty() && are_field(table, order, ids)
-}
-
-fn fits(table: &NodeTable, node: &Node) -> bool
-    ensures { IsTrue result → Fits table.now node.now }
-{
-    match node {
-        Node::True | Node::False | Node::BoolConst(_) => true,
-        Node::FieldConst(_, order) => is_order(*order),
-        Node::Num(n, order) => n < order && is_order(*order),
-        Node::Not(a) => is_boolean(table, *a),
-        Node::And(ids) | Node::Or(ids) => are_some_boolean(table, ids.as_slice()),
-        Node::Iff(a, b) | Node::Xor(a, b) => is_boolean(table, *a) && is_boolean(table, *b),
-        Node::IteBool(c, a, b) => is_boolean(table, *c)
-            && is_boolean(table, *a)
-            && is_boolean(table, *b),
-        Node::IteField(c, a, b) => is_boolean(table, *c) && are_of_one_field(table, &[*a, *b]),
-        Node::Eq(a, b) => are_of_one_field(table, &[*a, *b]),
-        Node::Neg(a) => are_of_one_field(table, &[*a]),
-        Node::Add(ids) | Node::Mul(ids) | Node::Bitsum(ids) => are_of_one_field(
-            table,
-            ids.as_slice(),
-        ),
-    }
-}
-
-// Neither an `ite` of field sort nor a constant.
-fn is_plain(node: &Node) -> bool
-    ensures ite { IsTrue result → ¬ (IsFieldIte node.now) }
-    ensures numbered { IsTrue result → (nodes : List Node) → IsNumbered nodes node.now }
-{
-    !matches!(
-        node,
-        Node::IteField(..) | Node::BoolConst(_) | Node::FieldConst(..)
-    )
-}
 
 fn make(rt: &impl Abort, table: &mut NodeTable, node: Node) -> Result<NodeId, TermStop> {
     assert!(rt; fits(table, &node));
@@ -135,18 +26,6 @@ fn make_ite(
 ) -> Result<NodeId, TermStop> {
     assert!(rt; fits(table, &Node::IteField(c, a, b)));
     table.ite_field(c, a, b)
-}
-
-fn count_constants(table: &NodeTable) -> u32
-    ensures { result ≡ constant_count table.now }
-{
-    let mut count = 0;
-    for id in 0..table.len() {
-        if table.node(id).is_constant() {
-            count += 1;
-        }
-    }
-    count
 }
 
 fn declare(rt: &impl Abort, table: &mut NodeTable, sort: Sort) -> Result<NodeId, TermStop> {
@@ -236,7 +115,7 @@ fn measured(
 }
 
 #[test]
-fn an_ite_brings_its_equalities(rt: HostRuntime) -> Result<(), Fail> {
+fn an_ite_adds_its_equalities(rt: HostRuntime) -> Result<(), Fail> {
     let mut table = NodeTable::new(rt.alloc())?;
     let made = numbers(&rt, &mut table)?;
     assert_eq!(rt; made, [0, 0, 1, 2]);

@@ -1,5 +1,6 @@
 //! The nodes of a check.
-ghost use Rattle.std.specs.Prelude.{◌≡◌, ℕ, ◌+◌, ◌<◌, ◌≤◌, ◌^◌, ◌⊎◌, List, length, All, Contains, IfOk, replicate, false, filter, min};
+ghost use Rattle.std.specs.Prelude.{◌≡◌, ℕ, ◌+◌, ◌<◌, ◌≤◌, ◌^◌, ◌⊎◌, List, length, All, Contains, IfOk, replicate};
+ghost use Rattle.std.specs.Prelude.{false, filter, min};
 ghost use Rattle.ffc_term.specs.Nodes.{IsNodeAt, children, is_constant, node_at};
 ghost use Rattle.ffc_term.specs.Tables.{Fits, IsTable};
 ghost use Rattle.ffc_term.specs.Checks.{AreNodesOf, AreConstantsOf, IsClosed};
@@ -56,7 +57,7 @@ fn mark_equalities(marks: &mut MarkSet, id: NodeId, node: &Node)
     }
 }
 
-// Marks what a node brings.
+// Marks what a node adds.
 fn visit(marks: &mut MarkSet, id: NodeId, node: &Node)
     requires within { (k : ℕ) → IsBroughtBy node.now id k → k < length marks.old }
     requires few { id + 2 < 2 ^ 32 }
@@ -66,7 +67,7 @@ fn visit(marks: &mut MarkSet, id: NodeId, node: &Node)
     mark_equalities(marks, id, node);
 }
 
-// Marks the nodes of the check over these ones. Children have lower numbers, and an equality behind an `ite` brings only the
+// Marks the nodes of the check over these ones. Children have lower numbers, and an equality after an `ite` adds only the
 // `ite` and one of its children, so it is enough to look at each marked number once, from the highest on.
 fn mark_nodes(table: &NodeTable, ids: &[NodeId], marks: &mut MarkSet)
     requires within { All (λ id. id < length table.now) ids.now }

@@ -99,7 +99,7 @@ module _ (limit : ℕ) (symbols : Symbols) (at : Place) (w : Walking) where
 
   -- S
 
-  -- what a sort that was read leads to
+  -- what follows from a sort that was read
   abbrev sort_then : KeptSigned → Place → Result (Sort × List Word) Fault → Runs
   sort_then n front (Ok (sort.Bool, rest)) = wrong (fault 10 front)
   sort_then n front (Ok (sort.Field p, rest)) = run limit symbols (at_stage (stage.Close at n p) w) rest

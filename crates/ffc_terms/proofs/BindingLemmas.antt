@@ -46,7 +46,7 @@ bound_onto (x ∷ xs) done = bound_onto xs ((x.0, x.1.sort) ∷ done)
 abbrev pub at_bindings : Place → Parts → List Frame → List Op → Env Sort → Env Sort → Walking
 at_bindings at p fs code locals pending = record { stage = stage.Bindings at p; frames = fs; code = code; locals = locals; pending = pending }
 
--- Whether a name stands among the last ones
+-- Whether a name is among the last ones
 
 late_from : (done : List (Named × Sort)) (base : Env Sort) (name : Name) (k total : ℕ) → total ≡ length (pending_of done base) + k
     → (o : Option ℕ) → slot_of (pending_of done base) name ≡ o

@@ -149,7 +149,7 @@ module _ (limit : ℕ) (nodes : List Node) (symbols : Symbols) (scope : Scope) (
       (λ at fs code base rest.
       bind_open limit nodes symbols scope is locals at p fs code (pending_of done base) o (c ∷ rest) left ∙ variable_one limit nodes symbols scope is locals at p fs code (pending_of done base) c rest None (name_right c right))
 
-  -- a variable and what stands after it
+  -- a variable and what comes after it
   abbrev pair : Word → Tree → Trees → Word → Tree
   pair o x vs c = Group o (First x vs) c
 
@@ -176,7 +176,7 @@ module _ (limit : ℕ) (nodes : List Node) (symbols : Symbols) (scope : Scope) (
   inner_order : (o : Word) (x : Tree) (vs : Trees) (c : Word) (ws : List Word) → AreInOrder (tokens_of (pair o x vs c) ++ ws) → AreInOrder (tokens_of x ++ (tokens_of_items vs ++ c ∷ []))
   inner_order o x vs c ws order = (subst AreInOrder (pair_tokens o x vs c) (order_left (tokens_of (pair o x vs c)) ws order)).1
 
-  -- the faults of what stands after a variable are after one at it
+  -- the faults of what comes after a variable are after one at it
   later_value : (o : Word) (x : Tree) (vs : Trees) (c : Word) (ws : List Word) (f : Fault) → AreInOrder (tokens_of (pair o x vs c) ++ ws) → IsAt (tokens_of x) f
       → NoneBefore f (faults (one_read limit nodes symbols scope is locals vs c))
   later_value o x vs c ws f order a =
@@ -224,7 +224,7 @@ module _ (limit : ℕ) (nodes : List Node) (symbols : Symbols) (scope : Scope) (
       variable_one limit nodes symbols scope is locals at p fs code (pending_of done base) w rest (Some name) named
       ∙ ap (λ b. goes_on (λ x. run limit symbols x rest) rest (if b then refused 9 w else (if is_late p.count (pending_of done base) (slot_of (pending_of done base) name) then refused 9 w else Going (at_term (frame.Value at p ∷ fs) code locals ((name, sort.Bool) ∷ pending_of done base))))) taken)
 
-  -- A variable of this name, and what stands after it.
+  -- A variable of this name, and what comes after it.
   module _ (o w : Word) (name : Name) (vs : Trees) (c : Word) (ts : Trees) (p : Parts) (done : List (Named × Sort))
       (left : o.kind ≡ kinds.LeftParen) (right : c.kind ≡ kinds.RightParen) (named : name_of w ≡ Some name) (free : is_theory_name name ≡ false)
       (order : AreInOrder (tokens_of (pair o (Leaf w) vs c) ++ tokens_of_items ts)) (count : p.count ≡ length done) where
@@ -258,7 +258,7 @@ module _ (limit : ℕ) (nodes : List Node) (symbols : Symbols) (scope : Scope) (
     unfolding tokens_of
     at_w f l k = inl (l, k)
 
-    -- up to what stands after the variable
+    -- up to what comes after the variable
     up_to : (place : Place) (fs : List Frame) (code : List Op) (base : Env Sort) (rest : List Word)
         → run limit symbols (bind place p fs code done base) (tokens_of t ++ rest)
         ≡ goes_on (λ x. run limit symbols x (tokens_of_items vs ++ c ∷ rest)) (tokens_of_items vs ++ c ∷ rest)

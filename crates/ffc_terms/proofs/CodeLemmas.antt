@@ -1,4 +1,4 @@
--- Code stays code where names come, and what a name stands for is found as it is kept.
+-- Code stays code where names come, and what a name means is found as it is kept.
 use Rattle.std.proofs.Common.{◌≡◌, ℕ, ◌<◌, Bool, true, false, List, [], ◌∷◌, if◌then◌else◌, length, map, Option, Some, None, refl, sym, ap, ◌∙◌, ⊎_elim, arith}
 use Rattle.std.specs.Bool.{◌==◌}
 use Rattle.std.specs.Str.{bytes_eq}
@@ -15,7 +15,7 @@ use Rattle.ffc_terms.specs.declared.scope.Meaning.TheVariants as meaning
 use Rattle.ffc_terms.specs.Slots.{slot_of, at_slot}
 use Rattle.ffc_terms.specs.Codes.{IsCode, AreCodes, IsMeaning, AreMeanings, place_of}
 
--- what stands at a place of the one stands there in the other
+-- what is at a place of the one is there in the other
 abbrev pub Extends : Env Meaning → Env Meaning → Type 0
 Extends xs ys = (place : ℕ) (m : Meaning) → at_slot (map (λ x. x.1) xs) place ≡ Some m → at_slot (map (λ x. x.1) ys) place ≡ Some m
 
@@ -71,7 +71,7 @@ meaning_more nodes xs ys (meaning.Macro m) (AsMacro ps s t) e h = record {
   weight_is = h.weight_is;
 }
 
--- what a name stands for, as it is kept and as the definitions have it
+-- what a name means, as it is kept and as the definitions have it
 abbrev pub FoundAs : List Node → Env Meaning → Option Meaning → Option Meant → Type 0
 FoundAs nodes all None None = Unit {0}
 FoundAs nodes all None (Some x) = ⊥

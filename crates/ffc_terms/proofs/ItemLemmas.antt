@@ -11,7 +11,7 @@ use Rattle.ffc_words.specs.Outcomes.{outcome}
 use Rattle.ffc_terms.specs.SortSteps.{opens, closes}
 use Rattle.ffc_terms.proofs.FirstLemmas.{Each, all_from, each_append, each_weaker, AreInOrder, order_left, order_right, IsAt, at_left, at_right, NoneBefore, none_later, outcome_faulty, first_is}
 
--- what an outcome leads to
+-- what follows from an outcome
 abbrev pub answer : {A X : Type 0} → (Fault → X) → (A → X) → Result A Fault → X
 answer err ok (Ok a) = ok a
 answer err ok (Err f) = err f

@@ -37,7 +37,7 @@ use Rattle.ffc_terms.proofs.FirstLemmas.{NoneBefore, not_before_itself, outcome_
 use Rattle.ffc_terms.proofs.HeadLemmas.{operator_back}
 use Rattle.ffc_terms.proofs.SlotLemmas.{not_found, found_at, slot_within, at_slot_map}
 
--- Where a name stands
+-- Where a name is
 
 pub data IsPlaced {A : Type 0} (env : Env A) (name : Name) : Type 0 where
   Nowhere : slot_of env name ≡ None → found env name ≡ None → IsPlaced env name

@@ -94,7 +94,7 @@ module _ (limit : ℕ) (nodes : List Node) (symbols : Symbols) (scope : Scope) (
   abbrev of_let : Trees → Read Sorted
   of_let items = behind (let_read limit scope locals closing items) (of_height limit opening)
 
-  -- up to what stands after `let`
+  -- up to what comes after `let`
   up_to : (items : Trees) (fs : List Frame) (code : List Op) (pending : Env Sort) (rest : List Word) → takes_none limit symbols fs ≡ false
       → run limit symbols (at_term fs code locals pending) (tokens_of (Group opening (First (Leaf word) items) closing) ++ rest)
       ≡ run limit symbols (at_stage (stage.Let (place_of opening)) (at_term fs code locals pending)) (tokens_of_items items ++ closing ∷ rest)
@@ -122,7 +122,7 @@ module _ (limit : ℕ) (nodes : List Node) (symbols : Symbols) (scope : Scope) (
   unfolding let_read tokens_of tokens_of_items
   let_leaf w more k = λ fs code pending rest takes. up_to (First (Leaf w) more) fs code pending rest takes ∙ not_open w fs code pending (tokens_of_items more ++ closing ∷ rest) (opens_leaf w.kind k)
 
-  -- The list of variables, and what stands after it.
+  -- The list of variables, and what comes after it.
   module _ (o c : Word) (bs vs : Trees) (open_is : o.kind ≡ kinds.LeftParen) (close_is : c.kind ≡ kinds.RightParen)
       (order : AreInOrder (tokens_of_items bs ++ (c ∷ (tokens_of_items vs ++ closing ∷ []))))
       (hv : (env : Env Sort) → OneRuns limit nodes symbols scope is env vs closing (outcome (one_read limit nodes symbols scope is env vs closing))) where

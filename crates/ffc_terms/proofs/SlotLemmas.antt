@@ -20,7 +20,7 @@ at_slot_map f (x ∷ xs) i = rw (length-map xs f, at_slot_map f xs i) (sym (map_
 earlier : {A : Type 0} (x : A) (xs : List A) (i k : ℕ) (d : A) → k ≡ length xs - 1 - i → i < length xs → get_or (x ∷ xs) (length xs - i) d ≡ get_or xs k d
 earlier x xs i k d e h = let n : length xs - i ≡ suc k = omega arith in rw n refl
 
--- what stands at a place, counted from the end
+-- what is at a place, counted from the end
 pub at_slot_from_end : {A : Type 0} (xs : List A) (i : ℕ) (d : A) → i < length xs → at_slot xs i ≡ Some (get_or xs (length xs - 1 - i) d)
 at_slot_from_end [] i d h = absurd (omega arith)
 at_slot_from_end (x ∷ xs) i d h = ⊎_elim
@@ -49,7 +49,7 @@ value_at entries env slot e view h is =
     let at = at_slot_map pair_of (reverse entries) slot ∙ ap (option_map pair_of) (at_slot_reverse entries slot e within) in
     ap (λ v. option_map (λ x. x.1) (at_slot v slot)) (sym view) ∙ ap (option_map (λ x. x.1)) at ∙ ap (λ x. Some x.value) (sym is)
 
--- a name stands at its place
+-- a name is at its place
 pub slot_within : {A : Type 0} (env : Env A) (name : List ℕ) (slot : ℕ) → Some slot ≡ slot_of env name → slot < length env
 slot_within [] name slot h = cc
 slot_within (x ∷ xs) name slot h = ⊎_elim
@@ -87,7 +87,7 @@ found_at (x ∷ xs) name slot h = ⊎_elim
     ∙ sym (ap (option_map (λ x. x.1)) (cond-false (slot == length xs) (Some x) (at_slot xs slot) (less_not slot (length xs) (slot_within xs name slot h')))))
     (cases_Bool (bytes_eq x.0 name))
 
--- nothing stands past the end
+-- nothing is past the end
 pub at_slot_past : {A : Type 0} (xs : List A) (slot : ℕ) → length xs ≤ slot → at_slot xs slot ≡ None
 at_slot_past [] slot h = refl
 at_slot_past (x ∷ xs) slot h =

@@ -66,21 +66,21 @@ pub record IsMacro (nodes : List Node) (earlier : Env Meaning) (m : Macro) (para
   pub height_is : m.height ≡ height body
   pub weight_is : m.weight ≡ capped_weight (weight body)
 
--- what a name stands for, as it is kept
+-- what a name means, as it is kept
 abbrev pub IsMeaning : List Node → Env Meaning → Meaning → Meant → Type 0
 IsMeaning nodes earlier (meaning.Constant number sort id) (AsConstant k s) = (number ≡ k) × (sort ≡ s) × IsKnown nodes (Constant k s) id
 IsMeaning nodes earlier (meaning.Defined sort id) (AsTerm s t) = (sort ≡ s) × IsKnown nodes t id
 IsMeaning nodes earlier (meaning.Macro m) (AsMacro parameters s t) = IsMacro nodes earlier m parameters s t
 IsMeaning nodes earlier _ _ = ⊥
 
--- the names in scope with what they stand for, the last ones first
+-- the names in scope with what they mean, the last ones first
 abbrev pub AreMeanings : List Node → Env Meaning → Env Meant → Type 0
 AreMeanings nodes [] [] = Unit {0}
 AreMeanings nodes [] (y ∷ ys) = ⊥
 AreMeanings nodes (x ∷ xs) [] = ⊥
 AreMeanings nodes (x ∷ xs) (y ∷ ys) = (x.0 ≡ y.0) × IsMeaning nodes xs x.1 y.1 × AreMeanings nodes xs ys
 
--- the names are those of this scope, with what they stand for in a table of these nodes
+-- the names are those of this scope, with what they mean in a table of these nodes
 pub record IsScope (nodes : List Node) (symbols : Symbols) (scope : Scope) : Type 0 where
   pub terms : AreMeanings nodes symbols.terms scope.names
   pub sorts : symbols.sorts ≡ scope.sorts

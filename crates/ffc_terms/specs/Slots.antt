@@ -10,12 +10,12 @@ use Rattle.ffc_smt.specs.Meaning.{Env}
 use Rattle.ffc_smt.specs.Terms.{Name}
 use Rattle.ffc_terms.specs.declared.environment.Entry.{Entry}
 
--- the place of a name: of the last one, where it stands more than once
+-- the place of a name: of the last one, where it occurs more than once
 abbrev pub slot_of : {A : Type 0} → Env A → Name → Option ℕ
 slot_of [] name = None
 slot_of (x ∷ xs) name = if bytes_eq x.0 name then Some (length xs) else slot_of xs name
 
--- what stands at a place
+-- what is at a place
 abbrev pub at_slot : {A : Type 0} → List A → ℕ → Option A
 at_slot [] slot = None
 at_slot (x ∷ xs) slot = if slot == length xs then Some x else at_slot xs slot

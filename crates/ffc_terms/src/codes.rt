@@ -2,7 +2,7 @@
 use ffc_parts::Operator;
 use ffc_term::NodeId;
 
-/// A step of making a node, over a stack of nodes and a stack of local variables, each the node that it stands for.
+/// A step of making a node, over a stack of nodes and a stack of local variables, each as its node.
 #[derive(Clone, Copy, Debug, PartialEq, Eq)]
 pub enum Op {
     Truth(bool),

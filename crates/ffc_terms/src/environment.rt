@@ -1,5 +1,6 @@
-//! Names and what they stand for, the last ones first.
-ghost use Rattle.std.specs.Prelude.{◌≡◌, ◌<◌, ◌≤◌, ℕ, ◌∷◌, [], List, length, drop, OnOk, OnErr, Some, None, MatchOption, IfOk, option_map, if◌then◌else◌, is_some, IfSome, IfNone, ◌-◌};
+//! Names and what they mean, the last ones first.
+ghost use Rattle.std.specs.Prelude.{◌≡◌, ◌<◌, ◌≤◌, ℕ, ◌∷◌, [], List, length, drop, OnOk, OnErr, Some, None};
+ghost use Rattle.std.specs.Prelude.{MatchOption, IfOk, option_map, if◌then◌else◌, is_some, IfSome, IfNone, ◌-◌};
 ghost use Rattle.std.specs.Option.{option_copied};
 ghost use Rattle.std.specs.Str.{bytes_eq};
 ghost use Rattle.ffc_smt.specs.Meaning.{found};
@@ -39,7 +40,8 @@ impl<V> Model for Names<V> {
 
 /// Gives a name this place.
 fn set(index: &mut BTreeMap<Vec<u8>, usize>, name: Vec<u8>, slot: usize) -> Result<(), AllocError>
-    ensures ok { OnOk result ((other : List ℕ) → indexed index.new other ≡ (if bytes_eq name.items other then Some slot else indexed index.old other)) }
+    ensures ok { OnOk result ((other : List ℕ) → indexed index.new other
+        ≡ (if bytes_eq name.items other then Some slot else indexed index.old other)) }
     ensures err { OnErr result ((other : List ℕ) → indexed index.new other ≡ indexed index.old other) }
 {
     index.insert(name, slot)?;
@@ -48,7 +50,9 @@ fn set(index: &mut BTreeMap<Vec<u8>, usize>, name: Vec<u8>, slot: usize) -> Resu
 
 /// Gives a name that has a place this one, or takes its place away.
 fn set_back(index: &mut BTreeMap<Vec<u8>, usize>, name: &[u8], slot: Option<usize>)
-    ensures { (other : List ℕ) → indexed index.new other ≡ (if bytes_eq name.now other then (if is_some (indexed index.old name.now) then slot else None) else indexed index.old other) }
+    ensures { (other : List ℕ) → indexed index.new other
+        ≡ (if bytes_eq name.now other then (if is_some (indexed index.old name.now) then slot else None) else indexed
+        index.old other) }
 {
     match slot {
         None => {
@@ -79,14 +83,14 @@ impl<V: Drop> Names<V> {
         self.entries.len()
     }
 
-    /// The place of a name, the last one where it stands more than once.
+    /// The place of a name, the last one where it occurs more than once.
     pub fn find(&self, name: &[u8]) -> Option<usize>
         ensures { result ≡ slot_of self.now name.now }
     {
         self.index.get(name).copied()
     }
 
-    /// What the name at a place stands for.
+    /// What the name at a place means.
     pub fn value(&self, slot: usize) -> &V
         requires { slot < length self.now }
         ensures { option_map (λ x. x.1) (at_slot self.now slot) ≡ Some result.now }
@@ -94,7 +98,7 @@ impl<V: Drop> Names<V> {
         &self.entries[slot].value
     }
 
-    /// The place of a name, and what it stands for.
+    /// The place of a name, and what it means.
     pub fn locate(&self, name: &[u8]) -> Option<(usize, &V)>
         ensures place { option_map (λ x. x.0) result ≡ slot_of self.now name.now }
         ensures value { option_map (λ x. x.1.now) result ≡ found self.now name.now }
@@ -105,7 +109,7 @@ impl<V: Drop> Names<V> {
         }
     }
 
-    /// What a name stands for.
+    /// What a name means.
     pub fn get(&self, name: &[u8]) -> Option<&V>
         ensures { option_copied result ≡ found self.now name.now }
     {

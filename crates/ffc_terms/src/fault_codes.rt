@@ -4,7 +4,7 @@
 pub(crate) const SHAPE: u8 = 5;
 /// A name that is not in scope.
 pub(crate) const NAME: u8 = 8;
-/// A name that is taken, or stands twice in a list.
+/// A name that is taken, or occurs twice in a list.
 pub(crate) const TWICE: u8 = 9;
 /// A term of the wrong sort.
 pub(crate) const SORT: u8 = 10;

@@ -46,7 +46,7 @@ fn literal(words: &FormWords, at: usize) -> Result<Leaf, ScriptFault>
     }
 }
 
-/// What a name in scope stands for, without arguments.
+/// What a name in scope means, without arguments.
 fn global(symbols: &Symbols, words: &FormWords, at: usize, name: &[u8]) -> Result<Leaf, ScriptFault>
     ensures { answered result ≡ leaves.global symbols.now (word_at words.now at) name.now }
 {

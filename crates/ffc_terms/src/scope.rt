@@ -1,4 +1,4 @@
-//! What the names in scope stand for.
+//! What the names in scope mean.
 ghost use Rattle.std.specs.Prelude.{◌≡◌};
 ghost use Rattle.std.specs.Option.{option_copied};
 ghost use Rattle.ffc_terms.specs.Callees.{macro_at};
@@ -20,7 +20,7 @@ pub struct Macro {
     pub weight: u32,
 }
 
-/// What a name of terms stands for.
+/// What a name of terms means.
 #[derive(Drop)]
 pub enum Meaning {
     /// A declared constant: its number, its sort and its node.

@@ -122,7 +122,8 @@ pub fn sort_at(
     words: &FormWords,
     at: usize,
 ) -> Result<(Sort, usize), ScriptFault>
-    ensures { (tree : Tree) (rest : List Word) → IsTreeAt words.now at tree rest → answered result ≡ steps.placed tree at (outcome (sort_read sorts.now tree)) }
+    ensures { (tree : Tree) (rest : List Word) → IsTreeAt words.now at tree rest → answered result
+        ≡ steps.placed tree at (outcome (sort_read sorts.now tree)) }
 {
     words.are_in_order();
     sort_from(sorts, words, at)

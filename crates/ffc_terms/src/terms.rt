@@ -30,7 +30,8 @@ pub struct TermRead {
 
 /// The term that begins at this place: the words from it on, one by one.
 fn term_from(reader: &Reader, locals: Names<Sort>, at: usize) -> Result<TermRead, TakeStop>
-    ensures { walking.RunsAs reader.now.words.now (walking.at reader.now.limit reader.now.symbols.now locals reader.now.words.now at) result }
+    ensures { walking.RunsAs reader.now.words.now
+        (walking.at reader.now.limit reader.now.symbols.now locals reader.now.words.now at) result }
 {
     let mut walk = Walk::new(reader.alloc, locals);
     for i in at..reader.words.len() {
@@ -63,7 +64,8 @@ pub fn term_at(
     at: usize,
     limit: u32,
 ) -> Result<TermRead, TakeStop>
-    ensures { (nodes : List Node) (scope : Scope) (tree : Tree) (rest : List Word) → IsScope nodes symbols.now scope → IsTreeAt words.now at tree rest
+    ensures { (nodes : List Node) (scope : Scope) (tree : Tree) (rest : List Word) → IsScope nodes symbols.now scope
+        → IsTreeAt words.now at tree rest
         → ReadsTerm nodes symbols.now locals (term_read limit scope locals tree) tree at result }
 {
     words.are_in_order();

@@ -32,7 +32,7 @@ pub(crate) struct Reader<'a> {
     pub(crate) limit: u32,
 }
 
-/// The place in a term that reading has come to.
+/// The place in a term that reading has reached.
 #[derive(Drop)]
 pub(crate) struct Walk {
     pub(crate) stage: Stage,
@@ -47,7 +47,13 @@ impl Model for Walk {
 
     ghost Value = { Walking };
 
-    ghost view = { λ w. record { stage = w.stage; frames = w.frames; code = w.code.items; locals = w.locals; pending = w.pending } };
+    ghost view = { λ w. record {
+      stage = w.stage;
+      frames = w.frames;
+      code = w.code.items;
+      locals = w.locals;
+      pending = w.pending;
+    } };
 }
 
 /// The last names of the one become names of the other, the last one first.
@@ -140,7 +146,8 @@ impl Walk {
         op: Op,
     ) -> Result<Option<Value>, TakeStop>
         requires { AreFramesBelow (2 ^ 64 - 2) self.old.frames }
-        ensures { Steps (walking.ended reader.now.limit reader.now.symbols.now place sort (height + 1) (walking.plus_one weight) op self.old) result self.new }
+        ensures { Steps (walking.ended reader.now.limit reader.now.symbols.now place sort (height + 1)
+            (walking.plus_one weight) op self.old) result self.new }
     {
         if height >= reader.limit {
             return Err(TakeStop::Fault(place.fault(DEPTH)));
@@ -159,7 +166,8 @@ impl Walk {
     #[tactic(auto, unfolding(crate::specs::Walking::closed))]
     fn close(&mut self, reader: &Reader, at: usize) -> Result<Option<Value>, TakeStop>
         requires { AreFramesBelow (2 ^ 64 - 2) self.old.frames }
-        ensures { Steps (walking.closed reader.now.limit reader.now.symbols.now (word_at reader.now.words.now at) self.old self.old.frames) result self.new }
+        ensures { Steps (walking.closed reader.now.limit reader.now.symbols.now (word_at reader.now.words.now at)
+            self.old self.old.frames) result self.new }
     {
         match self.frames.pop() {
             Some(Frame::Call(place, callee, parts)) => {
@@ -192,7 +200,8 @@ impl Walk {
     #[tactic(auto, unfolding(crate::specs::Walking::leaf_at))]
     fn leaf(&mut self, reader: &Reader, at: usize) -> Result<Option<Value>, TakeStop>
         requires { AreFramesBelow (2 ^ 64 - 2) self.old.frames }
-        ensures { Steps (walking.leaf_at reader.now.limit reader.now.symbols.now (word_at reader.now.words.now at) self.old) result self.new }
+        ensures { Steps (walking.leaf_at reader.now.limit reader.now.symbols.now (word_at reader.now.words.now at)
+            self.old) result self.new }
     {
         let leaf = match leaf_at(reader.symbols, &self.locals, reader.words, at) {
             Ok(leaf) => leaf,
@@ -212,7 +221,8 @@ impl Walk {
     #[tactic(auto, unfolding(crate::specs::Walking::term_step))]
     fn term(&mut self, reader: &Reader, at: usize) -> Result<Option<Value>, TakeStop>
         requires { AreFramesBelow (2 ^ 64 - 2) self.old.frames }
-        ensures { Steps (walking.term_step reader.now.limit reader.now.symbols.now (word_at reader.now.words.now at) self.old) result self.new }
+        ensures { Steps (walking.term_step reader.now.limit reader.now.symbols.now (word_at reader.now.words.now at)
+            self.old) result self.new }
     {
         let kind = reader.words.kind(at);
         if kind == TokenKind::RightParen {
@@ -231,7 +241,8 @@ impl Walk {
     /// The word after the parenthesis that opens a term.
     #[tactic(auto, unfolding(crate::specs::Walking::head_step))]
     fn head(&mut self, reader: &Reader, place: Place, at: usize) -> Result<(), TakeStop>
-        ensures { Moves (walking.head_step reader.now.limit reader.now.symbols.now place (word_at reader.now.words.now at) self.old) result self.new }
+        ensures { Moves (walking.head_step reader.now.limit reader.now.symbols.now place
+            (word_at reader.now.words.now at) self.old) result self.new }
     {
         match head_at(reader.symbols, &self.locals, reader.words, at) {
             Ok(Head::Let) => self.stage = Stage::Let(place),
@@ -271,7 +282,8 @@ impl Walk {
         parts: Parts,
         at: usize,
     ) -> Result<(), TakeStop>
-        ensures { Moves (walking.bindings_step reader.now.limit reader.now.symbols.now place parts (word_at reader.now.words.now at) self.old) result self.new }
+        ensures { Moves (walking.bindings_step reader.now.limit reader.now.symbols.now place parts
+            (word_at reader.now.words.now at) self.old) result self.new }
     {
         match reader.words.kind(at) {
             TokenKind::LeftParen => {
@@ -308,7 +320,8 @@ impl Walk {
         parts: Parts,
         at: usize,
     ) -> Result<(), TakeStop>
-        ensures { Moves (walking.variable_step reader.now.limit reader.now.symbols.now place parts (word_at reader.now.words.now at) self.old) result self.new }
+        ensures { Moves (walking.variable_step reader.now.limit reader.now.symbols.now place parts
+            (word_at reader.now.words.now at) self.old) result self.new }
     {
         let Some(name) = name_at(reader.words, at) else {
             return Err(TakeStop::Fault(reader.words.fault(SHAPE, at)));
@@ -334,7 +347,8 @@ impl Walk {
         at: usize,
     ) -> Result<Option<Value>, TakeStop>
         requires { AreFramesBelow (2 ^ 64 - 2) self.old.frames }
-        ensures { Steps (walking.end_step reader.now.limit reader.now.symbols.now place parts sort (word_at reader.now.words.now at) self.old) result self.new }
+        ensures { Steps (walking.end_step reader.now.limit reader.now.symbols.now place parts sort
+            (word_at reader.now.words.now at) self.old) result self.new }
     {
         if reader.words.kind(at) != TokenKind::RightParen {
             return Err(TakeStop::Fault(reader.words.fault(SHAPE, at)));
@@ -354,7 +368,8 @@ impl Walk {
     /// The W of `(as W S)`.
     #[tactic(auto, unfolding(crate::specs::Walking::constant_step))]
     fn constant(&mut self, reader: &Reader, place: Place, at: usize) -> Result<(), TakeStop>
-        ensures { Moves (walking.constant_step reader.now.limit reader.now.symbols.now place (word_at reader.now.words.now at) self.old) result self.new }
+        ensures { Moves (walking.constant_step reader.now.limit reader.now.symbols.now place
+            (word_at reader.now.words.now at) self.old) result self.new }
     {
         match constant(reader.words, at) {
             Ok(n) => {
@@ -376,7 +391,8 @@ impl Walk {
         stage: SortStage,
         at: usize,
     ) -> Result<(), TakeStop>
-        ensures { Moves (walking.sort_word reader.now.limit reader.now.symbols.now place n front stage (word_at reader.now.words.now at) self.old) result self.new }
+        ensures { Moves (walking.sort_word reader.now.limit reader.now.symbols.now place n front stage
+            (word_at reader.now.words.now at) self.old) result self.new }
     {
         match sort_step(&reader.symbols.sorts, reader.words, at, stage) {
             Ok(SortStep::More(next)) => {
@@ -403,7 +419,8 @@ impl Walk {
         at: usize,
     ) -> Result<Option<Value>, TakeStop>
         requires { AreFramesBelow (2 ^ 64 - 2) self.old.frames }
-        ensures { Steps (walking.close_step reader.now.limit reader.now.symbols.now place n p (word_at reader.now.words.now at) self.old) result self.new }
+        ensures { Steps (walking.close_step reader.now.limit reader.now.symbols.now place n p
+            (word_at reader.now.words.now at) self.old) result self.new }
     {
         if reader.words.kind(at) != TokenKind::RightParen {
             return Err(TakeStop::Fault(reader.words.fault(SHAPE, at)));
@@ -421,7 +438,8 @@ impl Walk {
     /// The parenthesis that opens the list of variables.
     #[tactic(auto, unfolding(crate::specs::Walking::open_step))]
     fn open_list(&mut self, reader: &Reader, place: Place, at: usize) -> Result<(), TakeStop>
-        ensures { Moves (walking.open_step reader.now.limit reader.now.symbols.now place (word_at reader.now.words.now at) self.old) result self.new }
+        ensures { Moves (walking.open_step reader.now.limit reader.now.symbols.now place
+            (word_at reader.now.words.now at) self.old) result self.new }
     {
         if reader.words.kind(at) != TokenKind::LeftParen {
             return Err(TakeStop::Fault(reader.words.fault(SHAPE, at)));
@@ -439,7 +457,8 @@ impl Walk {
         parts: Parts,
         at: usize,
     ) -> Result<(), TakeStop>
-        ensures { Moves (walking.bound_step reader.now.limit reader.now.symbols.now place parts (word_at reader.now.words.now at) self.old) result self.new }
+        ensures { Moves (walking.bound_step reader.now.limit reader.now.symbols.now place parts
+            (word_at reader.now.words.now at) self.old) result self.new }
     {
         if reader.words.kind(at) != TokenKind::RightParen {
             return Err(TakeStop::Fault(reader.words.fault(SHAPE, at)));
@@ -451,7 +470,8 @@ impl Walk {
     /// Takes a word. It gives the outermost term where that is complete.
     pub(crate) fn step(&mut self, reader: &Reader, at: usize) -> Result<Option<Value>, TakeStop>
         requires { IsBelow (2 ^ 64 - 2) self.old }
-        ensures { Steps (walking.step reader.now.limit reader.now.symbols.now (word_at reader.now.words.now at) self.old) result self.new }
+        ensures { Steps (walking.step reader.now.limit reader.now.symbols.now (word_at reader.now.words.now at)
+            self.old) result self.new }
     {
         match self.stage {
             Stage::Term => return self.term(reader, at),

@@ -17,7 +17,7 @@ opened_by_tree o trees steps = if o.steps == 0 && nat_lt 0 o.trees then Some (re
 abbrev pub opened_by_step : Open → Option Open
 opened_by_step o = if nat_lt 0 o.steps then Some (record { trees = o.trees; steps = o.steps - 1 }) else None
 
--- after a line, where that line may stand there
+-- after a line, where that line may come there
 abbrev pub opened : Open → CertLine → Option Open
 opened o (Assume k) = opened_by_clause o 0
 opened o (Scheme node scheme index) = opened_by_clause o 0

@@ -34,11 +34,12 @@ fn number_at(constant: &Node, values: &[Value]) -> u64
     }
 }
 
-/// Gives a constant the value that a number stands for.
+/// Gives a constant the value of a number.
 fn give(constant: &Node, number: u64, values: &mut [Value])
     requires constant { is_constant constant.now ≡ true }
     requires inside { number_of_constant constant.now < length values.old }
-    ensures { values.new ≡ slice_set values.old (number_of_constant constant.now) (value_of_number constant.now number) }
+    ensures { values.new ≡ slice_set values.old (number_of_constant constant.now)
+        (value_of_number constant.now number) }
 {
     match constant {
         Node::BoolConst(k) => values[*k as usize] = Value::Bool(number == 1),
@@ -51,8 +52,10 @@ fn give(constant: &Node, number: u64, values: &mut [Value])
 fn advance_one(table: &NodeTable, constant: NodeId, values: &mut [Value]) -> bool
     requires constant { IsConstantAt table.now constant }
     requires long { length values.old ≡ length table.now }
-    ensures carry { result ≡ (number_given table.now values.old constant + 1 == value_count (node_at table.now constant)) }
-    ensures set { values.new ≡ with_value table.now values.old (constant, if result then 0 else number_given table.now values.old constant + 1) }
+    ensures carry { result
+        ≡ (number_given table.now values.old constant + 1 == value_count (node_at table.now constant)) }
+    ensures set { values.new ≡ with_value table.now values.old
+        (constant, if result then 0 else number_given table.now values.old constant + 1) }
 {
     let node = table.node(constant);
     let next = number_at(node, values) + 1;

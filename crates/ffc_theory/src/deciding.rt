@@ -7,7 +7,8 @@ ghost use Rattle.ffc_rules.specs.Entries.{limits, EntryOk};
 ghost use Rattle.ffc_rules.specs.Laws.{IsValid};
 ghost use Rattle.ffc_check.specs.Judged.{node_check};
 ghost use Rattle.ffc_theory.specs.Parts.{IsConeOf};
-ghost use Rattle.ffc_theory.specs.Stops.{IsCaused, IsGiven, IsWithinLimits, IsSmallSpan, IsVerdict, MayBeDecided, SpendsAll};
+ghost use Rattle.ffc_theory.specs.Stops.{IsCaused, IsGiven, IsWithinLimits, IsSmallSpan, IsVerdict, MayBeDecided};
+ghost use Rattle.ffc_theory.specs.Stops.{SpendsAll};
 
 use crate::cone::Cone;
 use crate::enumerate::Enumeration;

@@ -1,5 +1,6 @@
 //! The limits of polynomials, and whether a check passes one.
-ghost use Rattle.std.specs.Prelude.{◌≡◌, ◌<◌, ◌≤◌, ◌/◌, ◌==◌, if◌then◌else◌, min, nat_lt, length, filter, All, OnOk, IfErr, IfSome, IfNone, false};
+ghost use Rattle.std.specs.Prelude.{◌≡◌, ◌<◌, ◌≤◌, ◌/◌, ◌==◌, if◌then◌else◌, min, nat_lt, length, filter, All, OnOk};
+ghost use Rattle.std.specs.Prelude.{IfErr, IfSome, IfNone, false};
 ghost use Rattle.std.specs.List.{list_any};
 ghost use Rattle.ffc_term.specs.Nodes.{node_at};
 ghost use Rattle.ffc_term.specs.Measuring.{degree_at, length_at};
@@ -33,7 +34,8 @@ fn is_equality(node: &Node) -> bool
 /// Whether the degree of an equality among these nodes is too high.
 fn passes_degree(table: &NodeTable, nodes: &[NodeId]) -> bool
     requires { All (λ id. id < length table.now) nodes.now }
-    ensures { result ≡ list_any (λ id. nat_lt 255 (degree_at table.now id)) (filter (λ id. is_equality (node_at table.now id)) nodes.now) }
+    ensures { result ≡ list_any (λ id. nat_lt 255 (degree_at table.now id))
+        (filter (λ id. is_equality (node_at table.now id)) nodes.now) }
 {
     for id in nodes {
         if is_equality(table.node(*id)) && table.degree(*id) > MOST_DEGREE {
@@ -46,7 +48,8 @@ fn passes_degree(table: &NodeTable, nodes: &[NodeId]) -> bool
 /// Whether an equality among these nodes has too many terms.
 fn passes_length(table: &NodeTable, nodes: &[NodeId]) -> bool
     requires { All (λ id. id < length table.now) nodes.now }
-    ensures { result ≡ list_any (λ id. nat_lt 65536 (length_at table.now id)) (filter (λ id. is_equality (node_at table.now id)) nodes.now) }
+    ensures { result ≡ list_any (λ id. nat_lt 65536 (length_at table.now id))
+        (filter (λ id. is_equality (node_at table.now id)) nodes.now) }
 {
     for id in nodes {
         if is_equality(table.node(*id)) && table.length(*id) > MOST_TERMS {

@@ -1,6 +1,7 @@
 //! Whether an entry is one that a certificate of version 2 may have.
 ghost use Rattle.std.specs.Prelude.{◌≡◌, IsTrue, IfSome};
-ghost use Rattle.ffc_cert.specs.Ranges.{IsNarrow, IsWide, IsLiteral, IsPower, VariablesIncrease, IsTerm, IsMultiple, IsCounted, IsValue, IsLine, IsCause};
+ghost use Rattle.ffc_cert.specs.Ranges.{IsNarrow, IsWide, IsLiteral, IsPower, VariablesIncrease, IsTerm, IsMultiple};
+ghost use Rattle.ffc_cert.specs.Ranges.{IsCounted, IsValue, IsLine, IsCause};
 ghost use Rattle.ffc_cert.specs.WellFormed.{FitsVersion, IsReadable, IsWellFormed, IsRefutation, LineFitsVersion};
 ghost use Rattle.ffc_theory.specs.Opened.{opened, opened_by_clause, opened_by_step, opened_by_tree};
 
@@ -201,7 +202,7 @@ impl Open {
         }
     }
 
-    /// After a line, where that line may stand here.
+    /// After a line, where that line may come here.
     fn after(self, line: &CertLine) -> Option<Open>
         ensures { IfSome result (λ next. opened self line.now ≡ Some next) }
     {

@@ -10,3 +10,5 @@ pub mod SameLemmas
 pub mod AlikeLemmas
 pub mod BoundLemmas
 pub mod RuleLemmas
+pub mod PartLemmas
+pub mod ProductLemmas

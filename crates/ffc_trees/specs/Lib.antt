@@ -8,3 +8,4 @@ pub mod Laws
 pub mod Rows
 pub mod Same
 pub mod Rules
+pub mod Parts

@@ -1,6 +1,8 @@
 //! What holds of polynomials of nodes and of case trees, for the crates above. Each function has an empty body: its
 //! contract is the law.
-ghost use Rattle.ffc_trees.specs.Laws.{NormalIsSame, NormalIsNormal, PolynomialsKeepValues, PolynomialsStay, PolynomialsHaveVariables, MeasuresBound, TreesRefute, ReadTreesClose, ClosedTreesAreRead, TreesAreTakenOff, FirstLinesVanish, LemmasAreSound};
+ghost use Rattle.ffc_trees.specs.Laws.{NormalIsSame, NormalIsNormal, PolynomialsKeepValues, PolynomialsStay};
+ghost use Rattle.ffc_trees.specs.Laws.{PolynomialsHaveVariables, MeasuresBound, TreesRefute, ReadTreesClose};
+ghost use Rattle.ffc_trees.specs.Laws.{ClosedTreesAreRead, TreesAreTakenOff, FirstLinesVanish, LemmasAreSound};
 ghost use Rattle.ffc_trees.specs.Rules.{SumsAre, ChainsAre, StepsAre, SplitsAre, ValuesAre};
 ghost use Rattle.ffc_trees.specs.Same.{SizesAreOne, StagesReadAlike, TreesReadAlike};
 

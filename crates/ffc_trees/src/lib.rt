@@ -2,7 +2,7 @@
 //!
 //! A lemma of a refutation says that some literal of it is true, each on an equality of one prime field. Its tree
 //! shows that: what would be 0 if all literals were false has no common zero. The functions do nothing when they run:
-//! each stands for the laws in its contract.
+//! each states the laws in its contract.
 #![tactic(auto)]
 
 mod laws;

@@ -89,7 +89,7 @@ coefficient_at-shifted_zero zero k = refl
 coefficient_at-shifted_zero (suc n) zero = refl
 coefficient_at-shifted_zero (suc n) (suc k) = coefficient_at-shifted_zero n k
 
--- a sum behind the first n coefficients
+-- a sum after the first n coefficients
 pub spliced : (p n : ℕ) (a b c : Coefficients) → n ≤ length a → SameUnivariate p b (plus (drop n a) c) → SameUnivariate p (take n a ++ b) (plus a (shifted n c))
 spliced p zero a b c h e = e
 spliced p (suc n) [] b c h e = absurd (omega arith)
@@ -98,7 +98,7 @@ spliced p (suc n) (x ∷ a) b c h e = elim [
   | suc k ↦ spliced p n a b c (omega arith) e k
 ]
 
--- one row more of a product, with a zero put behind the sum so far
+-- one row more of a product, with a zero put after the sum so far
 pub product_step : (p n x : ℕ) (a b c rest all : Coefficients) → SameUnivariate p c (plus (a ++ 0 ∷ []) (shifted n (multiple x b))) → SameUnivariate p (plus a (shifted n (times (x ∷ rest) b))) all → SameUnivariate p (plus c (shifted (suc n) (times rest b))) all
 product_step p n x a b c rest all e same k =
     let row = shifted n (multiple x b) in

@@ -29,7 +29,7 @@ module _ {F : Type 0} (value : F → ℕ) where
   coefficient_read (y ∷ ys) zero x h e = ap value (sym e)
   coefficient_read (y ∷ ys) (suc i) x h e = coefficient_read ys i x (omega arith) e
 
-  -- one coefficient more behind those of a function of the place
+  -- one coefficient more after those of a function of the place
   pub coefficients_pushed : (xs : List F) (x : F) (t : ℕ → ℕ) → ((k : ℕ) → k < length xs → coefficient_at (map value xs) k ≡ t k) → value x ≡ t (length xs) → (k : ℕ) → k < length xs + 1 → coefficient_at (map value (xs ++ x ∷ [])) k ≡ t k
   coefficients_pushed [] x t so_far e zero h = e
   coefficients_pushed [] x t so_far e (suc k) h = absurd (omega arith)
@@ -50,7 +50,7 @@ shifted_before zero a k h = absurd (omega arith)
 shifted_before (suc n) a zero h = refl
 shifted_before (suc n) a (suc k) h = shifted_before n a k (omega arith)
 
--- the product with the coefficient at a place of the first factor, and those with what is behind it
+-- the product with the coefficient at a place of the first factor, and those with what is after it
 pub product_next : (i : ℕ) (a b : Coefficients) (k : ℕ) → i ≤ k → coefficient_at (shifted i (times (drop i a) b)) k ≡ coefficient_at a i * coefficient_at b (k - i) + coefficient_at (shifted (suc i) (times (drop (suc i) a) b)) k
 product_next zero [] b k h = omega (arith, coefficient_at-shifted_zero 1 k)
 product_next zero (x ∷ a) b k h =

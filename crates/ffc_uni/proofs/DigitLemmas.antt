@@ -9,7 +9,7 @@ abbrev pub digit_value : Bool → ℕ
 digit_value false = 0
 digit_value true = 1
 
--- the number that these digits make behind those of e
+-- the number that these digits make after those of e
 abbrev pub spelled : ℕ → List Bool → ℕ
 spelled e [] = e
 spelled e (d ∷ ds) = spelled (2 * e + digit_value d) ds
@@ -32,7 +32,7 @@ spelled-binary (suc n) e m =
     ∙ ap (λ k. (2 * e + k) * 2 ^ n + m % 2 ^ n) digit
     ∙ omega arith
 
--- what stands behind the first 1 spells the same, from 1 on
+-- what comes after the first 1 spells the same, from 1 on
 spelled-behind_first : (ds : List Bool) → 0 < spelled 0 ds → spelled 1 (behind_first ds) ≡ spelled 0 ds
 spelled-behind_first [] some = absurd (omega arith)
 spelled-behind_first (false ∷ ds) some = spelled-behind_first ds some

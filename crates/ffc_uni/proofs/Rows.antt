@@ -10,7 +10,7 @@ use Rattle.ffc_uni.proofs.Coefficients.{coefficient_at-zero_behind}
 pub left_at : {A : Type 0} (xs : List A) (i : ℕ) (x : A) → i < length xs → x ≡ get_or xs i x → drop i xs ≡ x ∷ drop (i + 1) xs
 left_at xs i x h e = drop-cons xs i x h ∙ ap₂ ◌∷◌ (sym e) (ap (λ k. drop k xs) (sym (add-one i)))
 
--- the same where the place behind the element is known
+-- the same where the place after the element is known
 pub left_before : {A : Type 0} (xs : List A) (end : ℕ) (x : A) → 0 < end → end ≤ length xs → x ≡ get_or xs (end - 1) x → drop (end - 1) xs ≡ x ∷ drop end xs
 left_before xs end x some within e =
     left_at xs (end - 1) x (omega arith) e ∙ ap (λ k. x ∷ drop k xs) (let same : end - 1 + 1 ≡ end = omega arith in same)
@@ -21,7 +21,7 @@ taken_at [] i x h e = absurd (omega arith)
 taken_at (y ∷ ys) zero x h e = ap (λ k. k ∷ []) (sym e)
 taken_at (y ∷ ys) (suc i) x h e = rw add-one (ap (λ k. y ∷ k) (sym (ap (λ k. take k ys) (add-one i)) ∙ taken_at ys i x (omega arith) e))
 
--- a write leaves what is behind it
+-- a write leaves what is after it
 pub unwritten_behind : {A : Type 0} (xs : List A) (i : ℕ) (y : A) → drop (i + 1) (set xs i y) ≡ drop (i + 1) xs
 unwritten_behind xs i y = drop-set-lt (i + 1) xs i y (omega arith)
 
@@ -43,7 +43,7 @@ module _ {F : Type 0} (value : F → ℕ) where
   pub all_written : (xs : List F) (i : ℕ) → map value (take i xs) ++ map value (drop i xs) ≡ map value xs
   all_written xs i = sym (map-append value (take i xs) (drop i xs)) ∙ ap (map value) (take-append-drop i xs)
 
-  -- what is written at a place stands behind what was before it
+  -- what is written at a place comes after what was before it
   pub written_at : (xs : List F) (i : ℕ) (y : F) (r : ℕ) (behind : Coefficients) → i < length xs → value y ≡ r → map value (take (i + 1) (set xs i y)) ++ behind ≡ map value (take i xs) ++ (r ∷ behind)
   written_at xs i y r behind h v =
       ap (λ k. map value k ++ behind) (take_more_set xs i y h)

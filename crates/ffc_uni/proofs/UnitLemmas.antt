@@ -1,4 +1,4 @@
--- Units taken one behind another.
+-- Units taken one after another.
 use Rattle.std.proofs.Common.{◌≡◌, ℕ, ◌+◌, ◌≤◌, sym, ap, ◌∙◌, subst, arith, add_assoc, add-zero}
 use Rattle.ffc_base.specs.Metering.{Spending, total}
 use Rattle.ffc_uni.specs.declared.stop.UniStop.{UniStop}

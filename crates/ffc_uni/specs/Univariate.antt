@@ -60,7 +60,7 @@ abbrev pub with_factor : Coefficients → Bool → Coefficients → Coefficients
 with_factor a false power = times power power
 with_factor a true power = times a (times power power)
 
--- r is a modulo f: a is a multiple of f plus r. (That r is of lower degree stands beside it where it holds.)
+-- r is a modulo f: a is a multiple of f plus r. (That r is of lower degree is stated beside it where it holds.)
 abbrev pub IsRemainder : ℕ → Coefficients → Coefficients → Coefficients → Type 0
 IsRemainder p f a r = (q : Coefficients) × SameUnivariate p a (plus (times q f) r)
 

@@ -18,7 +18,7 @@ fn halves(x: u64, y: u64) -> (u128, u128)
     (product % RADIX, product / RADIX)
 }
 
-/// The element that `low + 2^64 * high` stands for.
+/// The element of `low + 2^64 * high`.
 fn reduced<F: Field>(low: u128, high: u128) -> F
     requires { high ≤ 2 ^ 128 - 2 ^ 64 }
     ensures { F.value result ≡ (low + 2 ^ 64 * high) % F.ORDER }
@@ -32,7 +32,8 @@ fn reduced<F: Field>(low: u128, high: u128) -> F
 /// give. The low and the high halves of the products are summed apart, so that neither sum overflows.
 pub fn coefficient_from<F: Field>(a: &[F], b: &[F], from: usize, place: usize) -> F
     requires { place < from + length b.now }
-    ensures { F.value result ≡ coefficient_at (shifted from (times (drop from (map F.value a.now)) (map F.value b.now))) place % F.ORDER }
+    ensures { F.value result ≡ coefficient_at (shifted from (times (drop from (map F.value a.now)) (map F.value b.now)))
+        place % F.ORDER }
 {
     let to = a.len().min(place.saturating_add(1));
     let mut low: u128 = 0;

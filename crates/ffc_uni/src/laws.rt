@@ -1,6 +1,8 @@
 //! What holds of polynomials in one variable, for the crates above. Each function has an empty body: its contract is
 //! the law.
-ghost use Rattle.ffc_uni.specs.Laws.{OneNormal, SumOfValues, ProductOfValues, OneValue, SameSums, SameProducts, SameInRing, SameOutOfRing, SumInRing, ProductInRing, ValueInRing, ZerosOfChains, FewPairs};
+ghost use Rattle.ffc_uni.specs.Laws.{OneNormal, SumOfValues, ProductOfValues, OneValue, SameSums, SameProducts};
+ghost use Rattle.ffc_uni.specs.Laws.{SameInRing, SameOutOfRing, SumInRing, ProductInRing, ValueInRing, ZerosOfChains};
+ghost use Rattle.ffc_uni.specs.Laws.{FewPairs};
 
 use ffc_field::Field;
 

@@ -1,14 +1,16 @@
 //! Rows: slices of coefficients from the lowest.
-ghost use Rattle.std.specs.Prelude.{◌≡◌, ℕ, ◌+◌, ◌-◌, ◌*◌, ◌%◌, ◌<◌, ◌≤◌, [], ◌∷◌, ◌++◌, length, map, max, min, take, IfOk, OnOk};
+ghost use Rattle.std.specs.Prelude.{◌≡◌, ℕ, ◌+◌, ◌-◌, ◌*◌, ◌%◌, ◌<◌, ◌≤◌, [], ◌∷◌, ◌++◌, length, map, max, min, take};
+ghost use Rattle.std.specs.Prelude.{IfOk, OnOk};
 ghost use Rattle.ffc_field.specs.Modular.{mul_mod};
-ghost use Rattle.ffc_uni.specs.Univariate.{SameUnivariate, IsNormal, coefficient_at, plus, multiple, times, product_of_roots, value_of};
+ghost use Rattle.ffc_uni.specs.Univariate.{SameUnivariate, IsNormal, coefficient_at, plus, multiple, times};
+ghost use Rattle.ffc_uni.specs.Univariate.{product_of_roots, value_of};
 ghost use Rattle.ffc_uni.specs.Rows.{leading};
 
 use crate::coefficient::{coefficient, coefficient_from, coefficient_of_square};
 use ffc_field::Field;
 use std::alloc::{AllocError, Global};
 
-/// How many coefficients stand before the zeros at the end.
+/// How many coefficients come before the zeros at the end.
 pub fn length_without_zeros<F: Field>(row: &[F]) -> usize
     ensures within { result ≤ length row.now }
     ensures normal { IsNormal F.ORDER (map F.value (take result row.now)) }
@@ -36,7 +38,8 @@ pub fn value_at<F: Field>(row: &[F], x: F) -> F
 /// Adds c times a row, in one pass.
 fn add_multiple<F: Field>(out: &mut [F], c: F, row: &[F])
     requires { length row.now ≤ length out.old }
-    ensures { SameUnivariate F.ORDER (map F.value out.new) (plus (map F.value out.old) (multiple (F.value c) (map F.value row.now))) }
+    ensures { SameUnivariate F.ORDER (map F.value out.new)
+        (plus (map F.value out.old) (multiple (F.value c) (map F.value row.now))) }
 {
     for (place, coef) in row.iter().enumerate() {
         out[place] = out[place].add_scaled(c, *coef);
@@ -45,7 +48,8 @@ fn add_multiple<F: Field>(out: &mut [F], c: F, row: &[F])
 
 /// a + c*b for a constant c, in one buffer.
 pub fn sum<F: Field>(alloc: Global, a: &[F], c: F, b: &[F]) -> Result<Vec<F>, AllocError>
-    ensures same { IfOk result (λ v. SameUnivariate F.ORDER (map F.value v.items) (plus (map F.value a.now) (multiple (F.value c) (map F.value b.now)))) }
+    ensures same { IfOk result (λ v. SameUnivariate F.ORDER (map F.value v.items)
+        (plus (map F.value a.now) (multiple (F.value c) (map F.value b.now)))) }
     ensures long { IfOk result (λ v. length v.items ≡ max (length a.now) (length b.now)) }
 {
     let mut out = Vec::new(alloc);
@@ -65,7 +69,8 @@ fn append_product<F: Field>(
     requires empty { out.old.items ≡ [] }
     requires some { 1 ≤ length b.now }
     requires all { count ≡ length a.now + (length b.now - 1) }
-    ensures product { OnOk result (SameUnivariate F.ORDER (map F.value out.new.items) (times (map F.value a.now) (map F.value b.now))) }
+    ensures product { OnOk result (SameUnivariate F.ORDER (map F.value out.new.items)
+        (times (map F.value a.now) (map F.value b.now))) }
     ensures long { OnOk result (length out.new.items ≡ count) }
 {
     for place in 0..count {
@@ -78,7 +83,8 @@ fn append_product<F: Field>(
 /// The product, in place of what the buffer had: each pair of coefficients is multiplied once, and each coefficient of the
 /// product is reduced once.
 pub fn multiply_into<F: Field>(out: &mut Vec<F>, a: &[F], b: &[F]) -> Result<(), AllocError>
-    ensures product { OnOk result (SameUnivariate F.ORDER (map F.value out.new.items) (times (map F.value a.now) (map F.value b.now))) }
+    ensures product { OnOk result (SameUnivariate F.ORDER (map F.value out.new.items)
+        (times (map F.value a.now) (map F.value b.now))) }
     ensures short { OnOk result (length out.new.items ≤ length a.now + (length b.now - 1)) }
 {
     out.clear();
@@ -96,7 +102,8 @@ fn append_square<F: Field>(out: &mut Vec<F>, a: &[F], count: usize) -> Result<()
     requires empty { out.old.items ≡ [] }
     requires some { 1 ≤ length a.now }
     requires all { count ≡ length a.now + (length a.now - 1) }
-    ensures square { OnOk result (SameUnivariate F.ORDER (map F.value out.new.items) (times (map F.value a.now) (map F.value a.now))) }
+    ensures square { OnOk result (SameUnivariate F.ORDER (map F.value out.new.items)
+        (times (map F.value a.now) (map F.value a.now))) }
     ensures long { OnOk result (length out.new.items ≡ count) }
 {
     for place in 0..count {
@@ -108,7 +115,8 @@ fn append_square<F: Field>(out: &mut Vec<F>, a: &[F], count: usize) -> Result<()
 
 /// The square, in place of what the buffer had, with half as many products.
 pub fn square_into<F: Field>(out: &mut Vec<F>, a: &[F]) -> Result<(), AllocError>
-    ensures square { OnOk result (SameUnivariate F.ORDER (map F.value out.new.items) (times (map F.value a.now) (map F.value a.now))) }
+    ensures square { OnOk result (SameUnivariate F.ORDER (map F.value out.new.items)
+        (times (map F.value a.now) (map F.value a.now))) }
     ensures short { OnOk result (length out.new.items ≤ length a.now + (length a.now - 1)) }
 {
     out.clear();
@@ -123,7 +131,8 @@ pub fn square_into<F: Field>(out: &mut Vec<F>, a: &[F]) -> Result<(), AllocError
 
 /// Multiplies by X - root in one pass, and answers the leading coefficient, for which there is no place.
 fn times_root<F: Field>(out: &mut [F], root: F) -> F
-    ensures { SameUnivariate F.ORDER (map F.value out.new ++ F.value result ∷ []) (times ((F.ORDER - F.value root) ∷ 1 ∷ []) (map F.value out.old)) }
+    ensures { SameUnivariate F.ORDER (map F.value out.new ++ F.value result ∷ [])
+        (times ((F.ORDER - F.value root) ∷ 1 ∷ []) (map F.value out.old)) }
 {
     let scale = root.neg();
     let mut below = F::of(0);
@@ -137,7 +146,8 @@ fn times_root<F: Field>(out: &mut [F], root: F) -> F
 
 /// The product of the X - root, in one buffer.
 pub fn root_product<F: Field>(alloc: Global, roots: &[F]) -> Result<Vec<F>, AllocError>
-    ensures product { IfOk result (λ v. SameUnivariate F.ORDER (map F.value v.items) (product_of_roots F.ORDER (map F.value roots.now))) }
+    ensures product { IfOk result (λ v. SameUnivariate F.ORDER (map F.value v.items)
+        (product_of_roots F.ORDER (map F.value roots.now))) }
     ensures long { IfOk result (λ v. length v.items ≡ length roots.now + 1) }
 {
     let mut out = Vec::new(alloc);
@@ -166,7 +176,9 @@ fn quotient<F: Field>(alloc: Global, row: &[F], by: &[F], inverse: F) -> Result<
     requires nonzero { 1 ≤ length by.now }
     requires inverse { mul_mod F.ORDER (leading (map F.value by.now)) (F.value inverse) ≡ 1 }
     ensures long { IfOk result (λ q. length q.items ≡ length row.now - (length by.now - 1)) }
-    ensures cancels { IfOk result (λ q. (k : ℕ) → length by.now ≤ k + 1 → coefficient_at (times (map F.value q.items) (map F.value by.now)) k % F.ORDER ≡ coefficient_at (map F.value row.now) k % F.ORDER) }
+    ensures cancels { IfOk result (λ q. (k : ℕ) → length by.now ≤ k + 1
+        → coefficient_at (times (map F.value q.items) (map F.value by.now)) k % F.ORDER
+        ≡ coefficient_at (map F.value row.now) k % F.ORDER) }
 {
     let degree = by.len() - 1;
     let places = row.len().saturating_sub(degree);
@@ -189,7 +201,9 @@ fn remainder<F: Field>(
 ) -> Result<Vec<F>, AllocError>
     requires nonzero { 1 ≤ length by.now }
     ensures long { IfOk result (λ r. length r.items ≡ min (length row.now) (length by.now - 1)) }
-    ensures left { IfOk result (λ r. (k : ℕ) → k < length r.items → (coefficient_at (times (map F.value quotient.now) (map F.value by.now)) k + coefficient_at (map F.value r.items) k) % F.ORDER ≡ coefficient_at (map F.value row.now) k % F.ORDER) }
+    ensures left { IfOk result (λ r. (k : ℕ) → k < length r.items
+        → (coefficient_at (times (map F.value quotient.now) (map F.value by.now)) k
+        + coefficient_at (map F.value r.items) k) % F.ORDER ≡ coefficient_at (map F.value row.now) k % F.ORDER) }
 {
     let mut out = Vec::new(alloc);
     for place in 0..row.len().min(by.len() - 1) {
@@ -209,7 +223,8 @@ pub fn quotient_and_remainder<F: Field>(
 ) -> Result<(Vec<F>, Vec<F>), AllocError>
     requires nonzero { 1 ≤ length by.now }
     requires inverse { mul_mod F.ORDER (leading (map F.value by.now)) (F.value inverse) ≡ 1 }
-    ensures division { IfOk result (λ d. SameUnivariate F.ORDER (map F.value row.now) (plus (times (map F.value d.0.items) (map F.value by.now)) (map F.value d.1.items))) }
+    ensures division { IfOk result (λ d. SameUnivariate F.ORDER (map F.value row.now)
+        (plus (times (map F.value d.0.items) (map F.value by.now)) (map F.value d.1.items))) }
     ensures lower { IfOk result (λ d. length d.1.items < length by.now) }
     ensures short { IfOk result (λ d. length d.0.items ≡ length row.now - (length by.now - 1)) }
 {

@@ -3,7 +3,8 @@ ghost use Rattle.std.specs.Prelude.{◌≡◌, ◌≢◌, ℕ, ◌+◌, ◌<◌,
 ghost use Rattle.ffc_field.specs.Modular.{mul_mod};
 ghost use Rattle.ffc_uni.specs.Equality.{same_coefficients};
 ghost use Rattle.ffc_uni.specs.Rows.{leading};
-ghost use Rattle.ffc_uni.specs.Univariate.{SameUnivariate, IsNormal, IsRemainder, plus, minus, multiple, times, product_of_roots, value_of};
+ghost use Rattle.ffc_uni.specs.Univariate.{SameUnivariate, IsNormal, IsRemainder, plus, minus, multiple, times};
+ghost use Rattle.ffc_uni.specs.Univariate.{product_of_roots, value_of};
 
 use crate::row;
 use ffc_field::Field;
@@ -137,7 +138,8 @@ impl<F: Field> Uni<F> {
     pub fn mul(&self, other: &Self) -> Result<Self, AllocError>
         ensures product { IfOk result (λ r. SameUnivariate F.ORDER r (times self.now other.now)) }
         ensures short { IfOk result (λ r. length r ≤ length self.now + (length other.now - 1)) }
-        ensures value { IfOk result (λ r. (x : ℕ) → value_of F.ORDER x r ≡ mul_mod F.ORDER (value_of F.ORDER x self.now) (value_of F.ORDER x other.now)) }
+        ensures value { IfOk result (λ r. (x : ℕ) → value_of F.ORDER x r ≡ mul_mod F.ORDER (value_of F.ORDER x self.now)
+            (value_of F.ORDER x other.now)) }
     {
         let mut product = Vec::new(*self.coefs.allocator());
         row::multiply_into(&mut product, self.coefs(), other.coefs())?;
@@ -146,7 +148,8 @@ impl<F: Field> Uni<F> {
 
     /// The product of the X - root: one pass over it for each root.
     pub fn from_roots(alloc: Global, roots: &[F]) -> Result<Self, AllocError>
-        ensures product { IfOk result (λ r. SameUnivariate F.ORDER r (product_of_roots F.ORDER (map F.value roots.now))) }
+        ensures product { IfOk result
+            (λ r. SameUnivariate F.ORDER r (product_of_roots F.ORDER (map F.value roots.now))) }
         ensures long { IfOk result (λ r. length r ≡ length roots.now + 1) }
     {
         Ok(Self::from_row(row::root_product(alloc, roots)?))
@@ -186,7 +189,8 @@ impl<F: Field> Uni<F> {
     pub(crate) fn divide(&self, row: &[F], inverse: F) -> Result<(Self, Self), AllocError>
         requires nonzero { self.now ≢ [] }
         requires inverse { mul_mod F.ORDER (leading self.now) (F.value inverse) ≡ 1 }
-        ensures division { IfOk result (λ d. SameUnivariate F.ORDER (map F.value row.now) (plus (times d.0 self.now) d.1)) }
+        ensures division { IfOk result (λ d. SameUnivariate F.ORDER (map F.value row.now)
+            (plus (times d.0 self.now) d.1)) }
         ensures lower { IfOk result (λ d. length d.1 < length self.now) }
         ensures short { IfOk result (λ d. length d.0 ≤ length row.now - (length self.now - 1)) }
     {

@@ -106,7 +106,7 @@ ended_at_fault a end at_line column code e is = by_ending a.ending (ap (λ d. d.
     by_ending ending.Refused h = cc
     by_ending ending.ScriptRefused h = (at_line, column, code, is, ap (λ d. d.text) e)
 
--- the contents that are told are those that are left once they are opened
+-- the contents that are stated are those that are left once they are opened
 pub opened_due : (cores : Bool) (script : List ℕ) (contents left : Option (List ℕ)) (v : Verdict) (a : Answer) → (reads script).end ≡ Done → IfSome contents (λ bytes. left ≡ Some bytes)
     → IfSome left (λ certificate. IsVerdict cores script certificate v) → due_of a ≡ verdict_due v → IfSome contents (λ certificate. due_of a ≡ due cores script certificate)
 opened_due cores script None left v a done opened judged e = tt

@@ -27,7 +27,7 @@ record Fits (wanted : ℕ) (p : Progress) : Type 0 where
   pub few : p.complete ≤ wanted
   pub awaited : is_within p.place ≡ true → p.complete < wanted
 
--- what a line leads to from a place where fewer are complete
+-- the state after a line from a place where fewer are complete
 Leads : ℕ → Progress → Next → Type 0
 Leads wanted p (Halt fault) = Unit {0}
 Leads wanted p (Move q) = (q.complete ≡ p.complete) × Fits wanted q

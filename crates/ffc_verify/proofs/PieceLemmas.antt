@@ -24,7 +24,7 @@ HasRead (Some bytes) now text = (rest : List ℕ) × (bytes ≡ text ++ rest) ×
 moved : (n : ℕ) (buffer rest : List ℕ) (now new : Option (List ℕ)) → now ≡ Some rest → MovesFront n buffer now new → MovesFront n buffer (Some rest) new
 moved n buffer rest now new e m = let P : Option (List ℕ) → Type 0 = λ o. MovesFront n buffer o new in subst P e m
 
--- a piece that was read stands behind the text
+-- a piece that was read comes after the text
 pub HasRead-more : (first now new : Option (List ℕ)) (text buffer : List ℕ) (n : ℕ) → HasRead first now text → MovesFront n buffer now new
     → HasRead first new (text ++ take n buffer)
 HasRead-more None now new text buffer n h m = tt
@@ -98,7 +98,7 @@ pub record HasReadOn (old : Certificate) (left : Option (List ℕ)) (new : Certi
 pub read_on_first : (c : Certificate) (left : Option (List ℕ)) → HasReadOn c left c left
 read_on_first c left = record { same = refl; grows = ([], sym (append-nil c.text)); moves = λ rest e. (rest, e, refl) }
 
--- a piece moves from what is left behind the text
+-- a piece moves from what is left after the text
 pub piece_moves : (text buffer : List ℕ) (n : ℕ) (left new : Option (List ℕ)) → MovesFront n buffer left new → MovesOn text left (text ++ take n buffer) new
 piece_moves text buffer n None new m = λ rest e. cc
 piece_moves text buffer n (Some bytes) new m = λ rest e.

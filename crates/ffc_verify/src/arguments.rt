@@ -64,7 +64,8 @@ fn text_or_empty(text: Option<&str>) -> &str
 /// What these matches ask for.
 fn plan_of<'a>(matches: &ArgMatches<'a>) -> CheckPlan<'a>
     ensures cert { result.cert.now ≡ unwrap_or (first_value (found_of matches.now) (codes "cert")) [] }
-    ensures cores { result.cores ≡ unwrap_or (option_map is_set (first_value (found_of matches.now) (codes "cores"))) false }
+    ensures cores { result.cores ≡ unwrap_or (option_map is_set (first_value (found_of matches.now) (codes "cores")))
+        false }
 {
     CheckPlan {
         cert: text_or_empty(matches.get_str("cert")),

@@ -1,12 +1,14 @@
 //! Judging the entries of a certificate beside the checks of a script.
-ghost use Rattle.std.specs.Prelude.{◌≡◌, ◌+◌, ◌<◌, ◌≤◌, ◌^◌, ◌++◌, length, true, false, None, IfOk, IfErr, OnOk, IfSome, IfNone, IsErrOf};
+ghost use Rattle.std.specs.Prelude.{◌≡◌, ◌+◌, ◌<◌, ◌≤◌, ◌^◌, ◌++◌, length, true, false, None, IfOk, IfErr, OnOk};
+ghost use Rattle.std.specs.Prelude.{IfSome, IfNone, IsErrOf};
 ghost use Rattle.ffc_base.specs.Outside.{Rose};
 ghost use Rattle.ffc_check.specs.Judged.{IsReadableEntry, node_check};
 ghost use Rattle.ffc_rules.specs.Judging as judging;
 ghost use Rattle.ffc_rules.specs.Entries.{entry_fault};
 ghost use Rattle.ffc_rules.specs.Laws.{IsValid};
 ghost use Rattle.ffc_smt.specs.Scripts.{reads, Done};
-ghost use Rattle.ffc_verify.specs.Judged.{EndsAsVerdict, IsBrokenBy, IsRefusedFor, IsTaken, IsVerdict, TakesUp, cores_after, counts_in, refusal_for};
+ghost use Rattle.ffc_verify.specs.Judged.{EndsAsVerdict, IsBrokenBy, IsRefusedFor, IsTaken, IsVerdict, TakesUp};
+ghost use Rattle.ffc_verify.specs.Judged.{cores_after, counts_in, refusal_for};
 ghost use Rattle.ffc_verify.specs.Reading.{Grows, IsOpen, MovesOn};
 ghost use Rattle.ffc_verify.specs.Walking.{GivesCheck, IsCounted, IsThrough};
 
@@ -38,7 +40,8 @@ impl Tally {
     fn count(&mut self, entry: &Entry)
         requires { self.old.sat + self.old.unsat + self.old.unknown < 2 ^ 32 }
         ensures counts { counts_in self.new ≡ judging.counted entry.now (counts_in self.old) }
-        ensures all { self.new.sat + self.new.unsat + self.new.unknown ≡ self.old.sat + self.old.unsat + self.old.unknown + 1 }
+        ensures all { self.new.sat + self.new.unsat + self.new.unknown ≡ self.old.sat + self.old.unsat
+            + self.old.unknown + 1 }
         ensures cores { self.new.cores.items ≡ self.old.cores.items }
     {
         match entry {
@@ -52,8 +55,10 @@ impl Tally {
     fn take(&mut self, alloc: Global, beside: &Beside, entry: &Numbered) -> Result<(), AllocError>
         requires { self.old.sat + self.old.unsat + self.old.unknown < 2 ^ 32 }
         ensures counts { OnOk result (counts_in self.new ≡ judging.counted entry.now.entry (counts_in self.old)) }
-        ensures all { OnOk result (self.new.sat + self.new.unsat + self.new.unknown ≡ self.old.sat + self.old.unsat + self.old.unknown + 1) }
-        ensures cores { OnOk result (self.new.cores.items ≡ self.old.cores.items ++ cores_after beside.now.cores beside.now.names.now (length beside.now.check.in_force.now) entry.now) }
+        ensures all { OnOk result (self.new.sat + self.new.unsat + self.new.unknown ≡ self.old.sat + self.old.unsat
+            + self.old.unknown + 1) }
+        ensures cores { OnOk result (self.new.cores.items ≡ self.old.cores.items
+            ++ cores_after beside.now.cores beside.now.names.now (length beside.now.check.in_force.now) entry.now) }
     {
         self.count(&entry.entry);
         if beside.cores {
@@ -69,7 +74,9 @@ fn judge_entry(alloc: Global, beside: &Beside, entry: &Numbered) -> Result<Optio
     requires valid { IsValid (node_check beside.now.check) }
     requires readable { IsReadableEntry entry.now.entry }
     requires line { entry.now.first_line < 2 ^ 63 }
-    ensures none { IfOk result (λ found. IfNone found (entry_fault (node_check beside.now.check) entry.now.entry entry.now.first_line ≡ None)) }
+    ensures none { IfOk result
+        (λ found. IfNone found (entry_fault (node_check beside.now.check) entry.now.entry entry.now.first_line
+        ≡ None)) }
     ensures some { IfOk result (λ found. IfSome found (IsBrokenBy (node_check beside.now.check) entry.now)) }
     ensures memory { IfErr result (λ stop. stop ≡ Stop.Memory) }
 {
@@ -132,8 +139,10 @@ fn judge_next<C: Source>(
     requires open { IsOpen entries.old }
     requires few { tally.old.sat + tally.old.unsat + tally.old.unknown < 2 ^ 32 }
     requires awaited { entries.old.given < entries.old.wanted }
-    ensures none { IfOk result (λ found. IfNone found (IsTaken beside.now entries.old entries.new tally.old tally.new)) }
-    ensures some { IfOk result (λ found. IfSome found (IsRefusedFor (node_check beside.now.check) entries.old entries.new (C.left cert.old))) }
+    ensures none { IfOk result
+        (λ found. IfNone found (IsTaken beside.now entries.old entries.new tally.old tally.new)) }
+    ensures some { IfOk result
+        (λ found. IfSome found (IsRefusedFor (node_check beside.now.check) entries.old entries.new (C.left cert.old))) }
     ensures moves { OnOk result (MovesOn entries.old.text (C.left cert.old) entries.new.text (C.left cert.new)) }
     ensures grows { Grows entries.old entries.new }
     ensures later { C.faults cert.old ≤ C.faults cert.new }
@@ -194,7 +203,8 @@ pub(crate) fn judge<C: Source>(
 ) -> Result<Verdict, Stop>
     requires short { length script.now ≤ 67108865 }
     requires counted { IsCounted script.now checks }
-    ensures ok { IfOk result (λ verdict. IfSome (C.left cert.old) (λ certificate. IsVerdict cores script.now certificate verdict)) }
+    ensures ok { IfOk result
+        (λ verdict. IfSome (C.left cert.old) (λ certificate. IsVerdict cores script.now certificate verdict)) }
     ensures later { C.faults cert.old ≤ C.faults cert.new }
     ensures cause { IsErrOf result Stop.Failed → Rose (C.faults cert.old) (C.faults cert.new) }
 {

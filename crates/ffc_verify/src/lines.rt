@@ -6,7 +6,8 @@ ghost use Rattle.ffc_lex.specs.Names.{written_symbol};
 ghost use Rattle.ffc_rules.specs.Cores.{names_at};
 ghost use Rattle.ffc_verify.specs.Due.{core_text};
 ghost use Rattle.ffc_verify.specs.Judged.{cause_of};
-ghost use Rattle.ffc_verify.specs.Texts.{accepted_line, cause_text, core_line, fault_line, refused_line, spaced, spaced_after};
+ghost use Rattle.ffc_verify.specs.Texts.{accepted_line, cause_text, core_line, fault_line, refused_line, spaced};
+ghost use Rattle.ffc_verify.specs.Texts.{spaced_after};
 
 use crate::verdicts::{Cause, Refusal};
 use ffc_cert::{Entry, Numbered};
@@ -44,7 +45,8 @@ pub(crate) fn append_accepted(
     unknown: u64,
     out: &mut Vec<u8>,
 ) -> Result<(), AllocError>
-    ensures { OnOk result (out.new.items ≡ out.old.items ++ accepted_line (record { sat = sat; unsat = unsat; unknown = unknown })) }
+    ensures { OnOk result (out.new.items ≡ out.old.items
+        ++ accepted_line (record { sat = sat; unsat = unsat; unknown = unknown })) }
 {
     out.extend_from_slice(b"accepted ")?;
     append_number(sat, out)?;
@@ -73,7 +75,8 @@ fn append_cause(cause: Cause, out: &mut Vec<u8>) -> Result<(), AllocError>
 
 /// Appends the line of a refusal.
 pub(crate) fn append_refusal(refusal: &Refusal, out: &mut Vec<u8>) -> Result<(), AllocError>
-    ensures { OnOk result (out.new.items ≡ out.old.items ++ refused_line refusal.now.entry refusal.now.line (cause_of refusal.now.cause)) }
+    ensures { OnOk result (out.new.items ≡ out.old.items ++ refused_line refusal.now.entry refusal.now.line
+        (cause_of refusal.now.cause)) }
 {
     out.extend_from_slice(b"refused ")?;
     append_number(refusal.entry, out)?;
@@ -172,7 +175,8 @@ pub(crate) fn append_core(
     in_force: u64,
     out: &mut Vec<u8>,
 ) -> Result<(), AllocError>
-    ensures { OnOk result (out.new.items ≡ out.old.items ++ core_text names.now in_force entry.now.number entry.now.entry) }
+    ensures { OnOk result (out.new.items ≡ out.old.items ++ core_text names.now in_force entry.now.number
+        entry.now.entry) }
 {
     match &entry.entry {
         Entry::Sat(_) | Entry::Unknown(_) => Ok(()),

@@ -106,7 +106,8 @@ impl From<AllocError> for AnswerStop {
 
 /// The answer to a script's fault.
 fn fault_answer(alloc: Global, fault: ScriptFault) -> Result<Answer, AnswerStop>
-    ensures ok { IfOk result (λ answer. due_of answer ≡ record { status = CheckStatus.ScriptRefused; text = fault_line fault.line fault.column fault.code }) }
+    ensures ok { IfOk result (λ answer. due_of answer
+        ≡ record { status = CheckStatus.ScriptRefused; text = fault_line fault.line fault.column fault.code }) }
     ensures memory { IfErr result (λ stop. stop ≡ AnswerStop.Memory) }
 {
     let mut text = Vec::new(alloc);
@@ -159,7 +160,8 @@ fn certificate_answer<C: NamedSource>(
 ) -> Result<Answer, AnswerStop>
     requires short { length script.now ≤ 67108865 }
     requires counted { IsCounted script.now checks }
-    ensures ok { IfOk result (λ answer. IfSome (C.contents cert.old plan.now.cert.now) (λ certificate. due_of answer ≡ due plan.now.cores script.now certificate)) }
+    ensures ok { IfOk result (λ answer. IfSome (C.contents cert.old plan.now.cert.now) (λ certificate. due_of answer
+        ≡ due plan.now.cores script.now certificate)) }
     ensures ending { IfOk result (λ answer. IsEndedAs answer (reads script.now).end) }
     ensures cause { IsErrOf result AnswerStop.CertFault → Rose (C.faults cert.old) (C.faults cert.new) }
     ensures only { IsErrOf result AnswerStop.ReadFault → ⊥ }
@@ -183,9 +185,12 @@ fn find_answer<S: Source, C: NamedSource>(
     script: &mut S,
     cert: &mut C,
 ) -> Result<Answer, AnswerStop>
-    ensures ok { IfOk result (λ answer. IfSome (S.left script.old) (λ bytes. IfSome (C.contents cert.old plan.now.cert.now) (λ certificate. due_of answer ≡ due plan.now.cores bytes certificate))) }
+    ensures ok { IfOk result
+        (λ answer. IfSome (S.left script.old) (λ bytes. IfSome (C.contents cert.old plan.now.cert.now)
+        (λ certificate. due_of answer ≡ due plan.now.cores bytes certificate))) }
     ensures ending { IfOk result (λ answer. IfSome (S.left script.old) (λ bytes. IsEndedAs answer (reads bytes).end)) }
-    ensures opened { IsErrOf result AnswerStop.CertFault → IfSome (S.left script.old) (λ bytes. (reads bytes).end ≡ Done) }
+    ensures opened { IsErrOf result AnswerStop.CertFault → IfSome (S.left script.old) (λ bytes. (reads bytes).end
+        ≡ Done) }
     ensures taken { IfSome (S.left script.old) (λ bytes. TakesFront bytes (S.left script.new)) }
     ensures unread { IsErrOf result AnswerStop.ReadFault → cert.new ≡ cert.old }
     ensures unopened { IfOk result (λ answer. answer.ending ≡ Ending.ScriptRefused → cert.new ≡ cert.old) }
@@ -239,7 +244,8 @@ fn run_plan<S: Source, C: NamedSource, O: Sink>(
     ensures usage { result ≡ CheckStatus.Usage → ⊥ }
     ensures left { IfSome (S.left script.old) (λ bytes. IfSome (C.contents cert.old plan.now.cert.now) (λ certificate.
         IsLeft result (due plan.now.cores bytes certificate) (O.holds out.old) (O.holds out.new))) }
-    ensures script { IfSome (S.left script.old) (λ bytes. SaysOfScript result bytes (O.holds out.old) (O.holds out.new)) }
+    ensures script { IfSome (S.left script.old) (λ bytes. SaysOfScript result bytes (O.holds out.old)
+        (O.holds out.new)) }
     ensures taken { IfSome (S.left script.old) (λ bytes. TakesFront bytes (S.left script.new)) }
     ensures unread { result ≡ CheckStatus.ReadFault → (out.new ≡ out.old) × (cert.new ≡ cert.old) }
     ensures unanswered { result ≡ CheckStatus.CertFault → out.new ≡ out.old }
@@ -272,24 +278,31 @@ pub fn check_main<'a, S: Source, C: NamedSource, O: Sink>(
     out: &mut O,
 ) -> CheckStatus
     ensures usage { result ≡ CheckStatus.Usage → ¬ (AreTaken (map (λ w. w.now) words.now)) }
-    ensures refused { ¬ (AreTaken (map (λ w. w.now) words.now)) → (result ≡ CheckStatus.Usage) ⊎ (result ≡ CheckStatus.Memory) }
-    ensures unused { result ≡ CheckStatus.Usage → (script.new ≡ script.old) × (cert.new ≡ cert.old) × (out.new ≡ out.old) }
+    ensures refused { ¬ (AreTaken (map (λ w. w.now) words.now)) → (result ≡ CheckStatus.Usage)
+        ⊎ (result ≡ CheckStatus.Memory) }
+    ensures unused { result ≡ CheckStatus.Usage → (script.new ≡ script.old) × (cert.new ≡ cert.old)
+        × (out.new ≡ out.old) }
 
     // The status and the text in the output are those that are due for the script and the certificate.
-    ensures left { IfSome (S.left script.old) (λ bytes. IfSome (C.contents cert.old (cert_name (map (λ w. w.now) words.now))) (λ certificate.
-        IsLeft result (due (wants_cores (map (λ w. w.now) words.now)) bytes certificate) (O.holds out.old) (O.holds out.new))) }
-    ensures script { IfSome (S.left script.old) (λ bytes. SaysOfScript result bytes (O.holds out.old) (O.holds out.new)) }
+    ensures left { IfSome (S.left script.old)
+        (λ bytes. IfSome (C.contents cert.old (cert_name (map (λ w. w.now) words.now))) (λ certificate.
+        IsLeft result (due (wants_cores (map (λ w. w.now) words.now)) bytes certificate) (O.holds out.old)
+        (O.holds out.new))) }
+    ensures script { IfSome (S.left script.old) (λ bytes. SaysOfScript result bytes (O.holds out.old)
+        (O.holds out.new)) }
 
     // Whatever the status is, a front of the script was taken, of 67,108,865 bytes at most.
     ensures taken { IfSome (S.left script.old) (λ bytes. TakesFront bytes (S.left script.new)) }
 
-    // What a run did not come to is as it was.
+    // What a run did not reach is as it was.
     ensures unread { result ≡ CheckStatus.ReadFault → (out.new ≡ out.old) × (cert.new ≡ cert.old) }
     ensures unanswered { result ≡ CheckStatus.CertFault → out.new ≡ out.old }
     ensures unopened { result ≡ CheckStatus.ScriptRefused → cert.new ≡ cert.old }
 
     // At `Accepted` every check of the script has an entry that is true of it.
-    ensures accepted_means { result ≡ CheckStatus.Accepted → IfSome (S.left script.old) (λ bytes. IfSome (C.contents cert.old (cert_name (map (λ w. w.now) words.now))) (λ certificate. AllHaveEntries bytes certificate)) }
+    ensures accepted_means { result ≡ CheckStatus.Accepted → IfSome (S.left script.old)
+        (λ bytes. IfSome (C.contents cert.old (cert_name (map (λ w. w.now) words.now)))
+        (λ certificate. AllHaveEntries bytes certificate)) }
     ensures read_fault { result ≡ CheckStatus.ReadFault → Rose (S.faults script.old) (S.faults script.new) }
     ensures cert_fault { result ≡ CheckStatus.CertFault → Rose (C.faults cert.old) (C.faults cert.new) }
     ensures write_fault { result ≡ CheckStatus.WriteFault → Rose (O.faults out.old) (O.faults out.new) }

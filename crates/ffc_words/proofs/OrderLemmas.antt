@@ -1,4 +1,4 @@
--- The words of a form stand in order.
+-- The words of a form are in order.
 use Rattle.std.proofs.Common.{suc, List, [], ◌∷◌, map, get_or, Contains, arith}
 use Rattle.std.specs.List.{AllPairs}
 use Rattle.std.proofs.lemmas.List.Kept.{AllPairs-cons}

@@ -108,7 +108,8 @@ impl<'a> FormWords<'a> {
 
     /// The place after the tree that begins at this place.
     pub fn skip(&self, at: usize) -> usize
-        ensures { (tree : Tree) (rest : List Word) → IsTreeAt self.now at tree rest → result ≡ at + length (tokens_of tree) }
+        ensures { (tree : Tree) (rest : List Word) → IsTreeAt self.now at tree rest → result ≡ at
+            + length (tokens_of tree) }
     {
         let mut depth = 0usize;
         for i in at..self.len() {

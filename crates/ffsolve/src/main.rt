@@ -13,10 +13,11 @@ use std::io::{self, ErrorKind};
 use std::process::ExitCode;
 use std::rt::{Env, Files};
 
-/// Answers the script on standard input. The words are those of the command line, the program's name first.
+/// Answers the script on standard input. The words are the arguments, the program's name first.
 fn answer<R: Files + Input + Print + AllocGlobal>(rt: &R, words: &[&str]) -> SolveStatus
     ensures usage { result ≡ SolveStatus.Usage → AreRefused (map (λ w. w.now) words.now) }
-    ensures refused { AreRefused (map (λ w. w.now) words.now) → (result ≡ SolveStatus.Usage) ⊎ (result ≡ SolveStatus.Memory) }
+    ensures refused { AreRefused (map (λ w. w.now) words.now) → (result ≡ SolveStatus.Usage)
+        ⊎ (result ≡ SolveStatus.Memory) }
 {
     let mut script = StdSource::new(rt.reader());
     let mut out = StdSink::new(io::writer(rt));
@@ -24,7 +25,7 @@ fn answer<R: Files + Input + Print + AllocGlobal>(rt: &R, words: &[&str]) -> Sol
     solve_main(rt.alloc(), words, &mut script, &mut out, &mut cert)
 }
 
-/// Answers with the words of the command line. The call fails where memory is wanting or a word is no UTF-8.
+/// Answers with the arguments. The call fails where memory runs out or an argument is no UTF-8.
 fn answer_with_words<R: Files + Env + Input + Print + AllocGlobal>(
     rt: &R,
 ) -> io::Result<SolveStatus> {

@@ -122,7 +122,7 @@ fn faults_are_at_their_places(rt: HostRuntime) {
     }
 }
 
-/// Every kind of token, with bytes past ASCII where they may stand.
+/// Every kind of token, with bytes past ASCII where they may occur.
 const ALL_KINDS: &[u8] =
     b"; \xe9\r(a |b\xc3 c| 0 12\n1.50 :k \"x\"\"\xfe\" #f-1m7())\r\n(-x |let| || \"\")";
 
@@ -215,7 +215,7 @@ fn bytes_held(alloc: Global, piece: &[u8], count: u64) -> Result<usize, LexStop>
     Ok(lexer.window.len().saturating_add(lexer.form.bytes.len()))
 }
 
-/// A text of 200,000 bytes, of which at most a form, a piece and the bytes that need not be let go yet are held.
+/// A text of 200,000 bytes, of which at most a form, a piece and the bytes that need not be dropped yet are held.
 #[test]
 fn lets_go_of_bytes(rt: HostRuntime) -> Result<(), Fail> {
     for piece in [" ; c\n", "; c d", "(a b)", "(|a|)", "     "] {
@@ -264,7 +264,7 @@ fn limits_open_parentheses(rt: HostRuntime) -> Result<(), Fail> {
     Ok(())
 }
 
-/// The column and code of the fault of a text of blanks and this end, which begins so many bytes before the limit.
+/// The column and code of the fault of a text of spaces and this end, which begins so many bytes before the limit.
 fn fault_at_limit(alloc: Global, before: usize, last: &[u8]) -> Result<Option<(u64, u8)>, Fail> {
     let mut tokens = Vec::new(alloc);
     let mut lexer = Lexer::new(alloc);

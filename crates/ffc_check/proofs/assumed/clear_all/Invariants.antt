@@ -1,6 +1,6 @@
 use Rattle.std.proofs.Common.{◌≡◌, ◌==◌, ◌&&◌, not, ℕ, drop}
 use Rattle.std.specs.List.{list_any}
-use Rattle.ffc_check.specs.Assumed.{place_of, mark_at}
+use Rattle.ffc_clause.specs.Marks.{place_of, mark_at}
 use Rattle.ffc_check.proofs.assumed.clear_all.Given as goal
 
 abbrev pub invariant-loop-literal : goal.invariant-loop-literal

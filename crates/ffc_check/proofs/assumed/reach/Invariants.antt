@@ -1,5 +1,5 @@
 use Rattle.std.proofs.Common.{◌≡◌, ◌+◌, ◌-◌, ℕ, length}
-use Rattle.ffc_check.specs.Assumed.{mark_at}
+use Rattle.ffc_clause.specs.Marks.{mark_at}
 use Rattle.ffc_check.proofs.assumed.reach.Given as goal
 
 abbrev pub invariant-loop-marks : goal.invariant-loop-marks

@@ -1,4 +1,4 @@
-use Rattle.ffc_check.proofs.ReadLemmas.{read_is_readable}
+use Rattle.ffc_cert.proofs.CallerLemmas.{read_is_readable}
 use Rattle.ffc_check.proofs.tests.judged.Goals as goal
 
 pub check_entry-requires-clause-readable : goal.check_entry-requires-clause-readable

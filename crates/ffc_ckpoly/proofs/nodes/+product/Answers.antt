@@ -1,4 +1,4 @@
-use Rattle.std.proofs.Common.{◌≡◌, ◌+◌, ◌≤◌, ◌<◌, ◌%◌, ◌++◌, ◌∷◌, [], get_or, sum_by, All, sym, ap, ap₂, ◌∙◌, subst, arith, rules, take-append-drop}
+use Rattle.std.proofs.Common.{◌≡◌, ◌+◌, ◌≤◌, ◌<◌, ◌%◌, ◌++◌, ◌∷◌, [], get_or, sum_by, All, refl, sym, ap, ap₂, ◌∙◌, subst, arith, rules, take-append-drop}
 use Rattle.std.proofs.lemmas.List.Elements.{All-take, All-drop}
 use Rattle.std.proofs.lemmas.List.Sums.{sum_by-append, sum_by-cons}
 use Rattle.ffc_ring.specs.Polynomial.{SamePolynomial, written, product}
@@ -11,7 +11,8 @@ use Rattle.ffc_trees.proofs.BoundLemmas.{poly_at-bounded}
 use Rattle.ffc_trees.proofs.SameLemmas.{one_degree}
 use Rattle.ffc_ckpoly.proofs.Lists.{only_one, get_or-any}
 use Rattle.ffc_ckpoly.proofs.DegreeLemmas.{degree_within, within_degree}
-use Rattle.ffc_ckpoly.proofs.PartLemmas.{at_some, product_halves, product_single, within-product}
+use Rattle.ffc_trees.proofs.ProductLemmas.{product_halves, product_single}
+use Rattle.ffc_ckpoly.proofs.PartLemmas.{at_some, within-product}
 use Rattle.ffc_ckpoly.proofs.nodes.+product.Goals as goal
 
 pub product-requires-in_default : goal.product-requires-in_default
@@ -40,7 +41,7 @@ returns-in_ok-copied-in-Some-clause-same g t c m =
     let one : ids ≡ id ∷ [] = only_one ids id c.in-len1.len_at_least c.in-len1.len_below (get_or-any ids 0 0 id (omega (arith, c.in-len1.len_at_least))) in
     let field : IsFieldAt nodes p id = c.requires.fields 0 0 (omega (arith, c.in-len1.len_at_least)) in
     let line : IsSameLine p c.in-Some.part.now (poly_at nodes id) = at_some (λ f. IsSameLine p f (poly_at nodes id)) _ c.in-Some.part.now (sym c.in-Some.ensures.value) (c.requires.known id) in
-    ap (λ ts. written ts m % p) c.in_ok-copied-in-Some.ensures.same ∙ product_single nodes p id c.in-Some.part.now c.requires.valid field line.same m
+    ap (λ ts. written ts m % p) c.in_ok-copied-in-Some.ensures.same ∙ product_single nodes p c.requires.valid c.in-Some.part.now id (id ∷ []) refl field line.same m
     ∙ ap (λ l. written (product_of (node_polys nodes) l) m % p) (sym one)
 
 pub returns-in_ok-copied-in-Some-clause-degree : goal.returns-in_ok-copied-in-Some-clause-degree

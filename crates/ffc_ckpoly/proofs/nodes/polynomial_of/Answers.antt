@@ -8,7 +8,8 @@ use Rattle.ffc_term.specs.Measuring.{degree_at}
 use Rattle.ffc_trees.specs.Normal.{IsNormal}
 use Rattle.ffc_trees.specs.NodePolynomials.{node_polys, poly_at, product_of}
 use Rattle.ffc_trees.specs.Same.{IsSameLine}
-use Rattle.ffc_ckpoly.proofs.PartLemmas.{if_some, node_line, parts_are, factors_low, as_product}
+use Rattle.ffc_trees.proofs.PartLemmas.{parts_are}
+use Rattle.ffc_ckpoly.proofs.PartLemmas.{if_some, node_line, factors_low, as_product}
 use Rattle.ffc_ckpoly.proofs.OpeningLemmas.{node_expands}
 use Rattle.ffc_ckpoly.proofs.nodes.polynomial_of.Goals as goal
 

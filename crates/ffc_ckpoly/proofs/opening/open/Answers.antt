@@ -9,7 +9,7 @@ use Rattle.ffc_term.specs.Tables.{IsFieldAt}
 use Rattle.ffc_trees.specs.NodePolynomials.{node_polys, poly_at}
 use Rattle.ffc_ckpoly.specs.Parts.{weighted, owed}
 use Rattle.ffc_ckpoly.proofs.SortedLemmas.{minus_one}
-use Rattle.ffc_ckpoly.proofs.PartLemmas.{parts_are}
+use Rattle.ffc_trees.proofs.PartLemmas.{parts_are}
 use Rattle.ffc_ckpoly.proofs.OpeningLemmas.{node_expands, parts_owed, sum_kept, term_added, term_scaled, sum_expands, bits_expand, negation_expands}
 use Rattle.ffc_ckpoly.proofs.opening.open.Goals as goal
 

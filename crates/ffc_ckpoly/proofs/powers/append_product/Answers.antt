@@ -1,6 +1,6 @@
 use Rattle.std.proofs.Common.{◌≡◌, ◌++◌, sym, ap, ◌∙◌, arith, append_assoc}
 use Rattle.ffc_ring.proofs.MonomialLemmas.{sums}
-use Rattle.ffc_ckpoly.proofs.PowerLemmas.{rest_is, degree_is, pushed, joined_by_left, joined_by_right, joined_by_both, joined_at_left_end, joined_at_right_end}
+use Rattle.ffc_ring.proofs.PowerLemmas.{rest_is, degree_is, pushed, joined_by_left, joined_by_right, joined_by_both, joined_at_left_end, joined_at_right_end}
 use Rattle.ffc_ckpoly.proofs.powers.append_product.Goals as goal
 use Rattle.ffc_ckpoly.proofs.powers.append_product.Goals.{in_default, in_default-2}
 

@@ -4,7 +4,7 @@ use Rattle.ffc_ring.specs.Polynomial.{value_sum}
 use Rattle.ffc_ckpoly.specs.Flat.{cut, Parts}
 use Rattle.ffc_ckpoly.specs.Sorted.{point_of}
 use Rattle.ffc_ckpoly.proofs.Lists.{left_at}
-use Rattle.ffc_ckpoly.proofs.Values.{term_taken}
+use Rattle.ffc_ring.proofs.ValueLemmas.{term_taken}
 use Rattle.ffc_ckpoly.proofs.reading.value_at.Goals as goal
 
 pub loop-mark-preserved : goal.loop-mark-preserved

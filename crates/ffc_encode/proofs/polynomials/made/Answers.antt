@@ -4,7 +4,8 @@ use Rattle.ffc_term.specs.declared.node.Node.TheVariants.{Mul}
 use Rattle.ffc_term.specs.Nodes.{IsNodeAt}
 use Rattle.ffc_trees.specs.NodePolynomials.{node_polys, poly_at, product_of}
 use Rattle.ffc_encode.specs.Parts.{AreFactors}
-use Rattle.ffc_encode.proofs.PartLemmas.{factors_are, parts_are, if_some}
+use Rattle.ffc_trees.proofs.PartLemmas.{parts_are}
+use Rattle.ffc_encode.proofs.PartLemmas.{factors_are, if_some}
 use Rattle.ffc_encode.proofs.ExpandLemmas.{product_expands}
 use Rattle.ffc_encode.proofs.polynomials.made.Goals as goal
 

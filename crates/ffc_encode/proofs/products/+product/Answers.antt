@@ -1,4 +1,4 @@
-use Rattle.std.proofs.Common.{◌≡◌, ◌++◌, ◌∷◌, [], get_or, All, sym, ap, ap₂, ◌∙◌, subst, arith, rules, take-append-drop, sum_by}
+use Rattle.std.proofs.Common.{◌≡◌, ◌++◌, ◌∷◌, [], get_or, All, sym, ap₂, ◌∙◌, subst, arith, rules, take-append-drop, sum_by}
 use Rattle.std.proofs.Math.Nat.{mul-le-mul}
 use Rattle.std.proofs.lemmas.List.Elements.{All-take, All-drop}
 use Rattle.ffc_ring.specs.Polynomial.{SamePolynomial, product}
@@ -8,7 +8,7 @@ use Rattle.ffc_term.specs.Measuring.{degree_at}
 use Rattle.ffc_trees.specs.NodePolynomials.{node_polys, poly_at, product_of}
 use Rattle.ffc_encode.proofs.LimitLemmas.{terms_few, degree_low, length-product}
 use Rattle.ffc_encode.proofs.PartLemmas.{at_some, if_some, front_factors, back_factors, degrees_split, lengths_split, product_low, product_short}
-use Rattle.ffc_encode.proofs.ExpandLemmas.{product_halves, product_single}
+use Rattle.ffc_trees.proofs.ProductLemmas.{product_halves, product_single}
 use Rattle.ffc_encode.proofs.WaitingLemmas.{only_one, get_or-any}
 use Rattle.ffc_encode.proofs.products.+product.Goals as goal
 

@@ -8,7 +8,7 @@ use Rattle.ffc_term.specs.Tables.{IsFieldAt}
 use Rattle.ffc_trees.specs.NodePolynomials.{node_polys, poly_at}
 use Rattle.ffc_encode.specs.declared.sums.Owed.{Owed}
 use Rattle.ffc_encode.specs.Waiting.{owed_of, geometric}
-use Rattle.ffc_encode.proofs.PartLemmas.{parts_are}
+use Rattle.ffc_trees.proofs.PartLemmas.{parts_are}
 use Rattle.ffc_encode.proofs.WaitingLemmas.{all_waiting, waiting_fields, opened, sum_opened, bits_opened, negation_opened}
 use Rattle.ffc_encode.proofs.sums.open.Goals as goal
 

@@ -1,6 +1,7 @@
 use Rattle.std.proofs.Common.{◌≡◌, refl, ◌++◌, take, take_all, sym, ap, ◌∙◌, arith, append_assoc}
 use Rattle.ffc_ring.proofs.MonomialLemmas.{sums}
-use Rattle.ffc_mono.proofs.PowerLemmas.{rest_is, degree_is, pushed, joined_by_left, joined_by_right, joined_by_both, joined_at_left_end, joined_at_right_end, longer-append, part-append}
+use Rattle.ffc_ring.proofs.PowerLemmas.{rest_is, degree_is, pushed, joined_by_left, joined_by_right, joined_by_both, joined_at_left_end, joined_at_right_end}
+use Rattle.ffc_mono.proofs.PowerLemmas.{longer-append, part-append}
 use Rattle.ffc_mono.proofs.powers.append_powers.Goals as goal
 use Rattle.ffc_mono.proofs.powers.append_powers.Goals.{in_default, in_default-2}
 

@@ -1,5 +1,6 @@
 use Rattle.std.proofs.Common.{◌<◌, refl, sym, arith, true≢false}
-use Rattle.ffc_mono.proofs.PowerLemmas.{rest_is, coprime_not_both, coprime_behind_left, coprime_behind_right, coprime_at_left_end, coprime_at_right_end}
+use Rattle.ffc_ring.proofs.PowerLemmas.{rest_is}
+use Rattle.ffc_mono.proofs.PowerLemmas.{coprime_not_both, coprime_behind_left, coprime_behind_right, coprime_at_left_end, coprime_at_right_end}
 use Rattle.ffc_mono.proofs.powers.are_coprime.Goals as goal
 
 pub loop-p-init : goal.loop-p-init

@@ -1,5 +1,6 @@
 use Rattle.std.proofs.Common.{◌<◌, sym, arith, true≢false}
-use Rattle.ffc_mono.proofs.PowerLemmas.{rest_is, divides_nothing, divides_not_below, divides_not_higher, divides_behind_both, divides_behind_right}
+use Rattle.ffc_ring.proofs.PowerLemmas.{rest_is}
+use Rattle.ffc_mono.proofs.PowerLemmas.{divides_nothing, divides_not_below, divides_not_higher, divides_behind_both, divides_behind_right}
 use Rattle.ffc_mono.proofs.powers.divides.Goals as goal
 
 pub returns-in_default-split_first : goal.returns-in_default-split_first

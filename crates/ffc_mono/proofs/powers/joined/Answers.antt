@@ -1,7 +1,8 @@
 use Rattle.std.proofs.Common.{◌≡◌, ℕ, ◌∷◌, ◌++◌, sym, ap, ◌∙◌, arith, append_assoc}
 use Rattle.ffc_ring.specs.Monomial.{joined}
 use Rattle.ffc_mono.specs.Joining.{joining_of}
-use Rattle.ffc_mono.proofs.PowerLemmas.{joins_of, rest_is, degree_is, pushed, joined_by_left, joined_by_right, joined_by_both, joined_at_left_end, joined_at_right_end}
+use Rattle.ffc_ring.proofs.PowerLemmas.{rest_is, degree_is, pushed, joined_by_left, joined_by_right, joined_by_both, joined_at_left_end, joined_at_right_end}
+use Rattle.ffc_mono.proofs.PowerLemmas.{joins_of}
 use Rattle.ffc_mono.proofs.powers.joined.Goals as goal
 use Rattle.ffc_mono.proofs.powers.joined.Goals.{in_default, in_default-2}
 

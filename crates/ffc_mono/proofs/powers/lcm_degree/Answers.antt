@@ -1,7 +1,8 @@
 use Rattle.std.proofs.Common.{◌≡◌, ◌++◌, max, ap, arith}
 use Rattle.ffc_ring.specs.Monomial.{degree, mono_lcm}
 use Rattle.ffc_ring.proofs.MonomialLemmas.{greater_ones}
-use Rattle.ffc_mono.proofs.PowerLemmas.{rest_is, degree_is, degree-append, joined_by_left, joined_by_right, joined_by_both, joined_at_left_end, joined_at_right_end}
+use Rattle.ffc_ring.proofs.PowerLemmas.{rest_is, degree_is, joined_by_left, joined_by_right, joined_by_both, joined_at_left_end, joined_at_right_end}
+use Rattle.ffc_mono.proofs.PowerLemmas.{degree-append}
 use Rattle.ffc_mono.proofs.powers.lcm_degree.Goals as goal
 use Rattle.ffc_mono.proofs.powers.lcm_degree.Goals.{in_default, in_default-2}
 

@@ -1,6 +1,7 @@
 use Rattle.std.proofs.Common.{◌≡◌, ◌++◌, sym, ap, ◌∙◌, arith, inl, inr}
 use Rattle.std.proofs.lemmas.Bool.{cases_lt}
-use Rattle.ffc_mono.proofs.PowerLemmas.{rest_is, pushed, quotient_above, quotient_keeps_first, quotient_lowers_first, quotient_drops_first, divides_behind_first, divides_behind_same, quotient_at_left_end, quotient_at_right_end}
+use Rattle.ffc_ring.proofs.PowerLemmas.{rest_is, pushed}
+use Rattle.ffc_mono.proofs.PowerLemmas.{quotient_above, quotient_keeps_first, quotient_lowers_first, quotient_drops_first, divides_behind_first, divides_behind_same, quotient_at_left_end, quotient_at_right_end}
 use Rattle.ffc_mono.proofs.powers.quotient.Goals as goal
 use Rattle.ffc_mono.proofs.powers.quotient.Goals.{in_default, in_default-2}
 

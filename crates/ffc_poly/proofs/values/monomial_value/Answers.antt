@@ -3,7 +3,7 @@ use Rattle.ffc_ring.specs.Monomial.{mono_value}
 use Rattle.ffc_field.specs.Modular.{mul_mod}
 use Rattle.ffc_poly.specs.Ordered.{point_of}
 use Rattle.ffc_poly.proofs.Lists.{left_at, get_or-any}
-use Rattle.ffc_poly.proofs.ValueLemmas.{power_taken}
+use Rattle.ffc_ring.proofs.ValueLemmas.{power_taken}
 use Rattle.ffc_poly.proofs.values.monomial_value.Goals as goal
 
 pub loop-power-preserved : goal.loop-power-preserved

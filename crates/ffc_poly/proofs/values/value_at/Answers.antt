@@ -4,7 +4,7 @@ use Rattle.ffc_field.specs.Modular.{add_mod, mul_mod}
 use Rattle.ffc_ring.specs.Monomial.{mono_value}
 use Rattle.ffc_ring.specs.Polynomial.{value_sum}
 use Rattle.ffc_poly.specs.Ordered.{point_of}
-use Rattle.ffc_poly.proofs.ValueLemmas.{term_taken}
+use Rattle.ffc_ring.proofs.ValueLemmas.{term_taken}
 use Rattle.ffc_poly.proofs.values.value_at.Goals as goal
 
 pub loop-i-preserved : goal.loop-i-preserved

@@ -1,9 +1,9 @@
 use Rattle.std.proofs.Common.{reverse, sym, ap, ap₂, ◌∙◌, length, not, ◌&&◌, ◌==◌}
 use Rattle.std.specs.List.{list_any}
 use Rattle.ffc_clause.specs.Clauses.{is_among}
-use Rattle.ffc_check.specs.Assumed.{place_of, mark_at}
+use Rattle.ffc_clause.specs.Marks.{place_of, mark_at}
 use Rattle.ffc_check.proofs.AnswerLemmas.{written_back}
-use Rattle.ffc_check.proofs.HintLemmas.{all_cleared}
+use Rattle.ffc_clause.proofs.MarkLemmas.{all_cleared}
 use Rattle.ffc_check.proofs.assumed.Assumed.clear.Goals as goal
 
 pub invariant_of-self : goal.invariant_of-self

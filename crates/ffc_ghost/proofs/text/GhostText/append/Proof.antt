@@ -1,4 +1,4 @@
--- An empty body: the borrow is opened, and closed at the list with the piece behind it.
+-- An empty body: the borrow is opened, and closed at the list with the piece after it.
 use Rattle.std.proofs.Common.{List, [], ◌∷◌, ◌++◌, refl}
 use Rattle.std.proofs.raw_atomic.Walks.{proved}
 use mir.Syntax.{named}

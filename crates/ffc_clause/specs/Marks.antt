@@ -2,7 +2,7 @@
 use Rattle.std.specs.Prelude.{◌≡◌, ℕ, ◌+◌, ◌*◌, Bool, false, if◌then◌else◌, List, slice_index_or}
 use Rattle.ffc_clause.specs.Clauses.{Literal, is_among}
 
--- the place of a literal's mark
+-- the place of a literal among the literals of all nodes
 abbrev pub place_of : Literal → ℕ
 place_of l = 2 * l.1 + (if l.0 then 1 else 0)
 

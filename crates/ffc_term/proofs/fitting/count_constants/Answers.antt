@@ -4,8 +4,8 @@ use Rattle.std.proofs.lemmas.Option.{get_or_from_slice_get, slice_get_within}
 use Rattle.ffc_term.specs.declared.node.Node.{Node}
 use Rattle.ffc_term.specs.declared.node.Node.TheVariants.{True}
 use Rattle.ffc_term.specs.Nodes.{is_constant}
-use Rattle.ffc_term.proofs.tests.count_constants.Goals as goal
-use Rattle.ffc_term.proofs.tests.count_constants.Goals.{then-is_constant, else-is_constant}
+use Rattle.ffc_term.proofs.fitting.count_constants.Goals as goal
+use Rattle.ffc_term.proofs.fitting.count_constants.Goals.{then-is_constant, else-is_constant}
 
 pub loop-id-preserved : goal.loop-id-preserved
 loop-id-preserved c =

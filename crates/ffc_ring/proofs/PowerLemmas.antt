@@ -7,7 +7,7 @@ pub none_left : {A : Type 0} (xs : List A) → length xs ≡ 0 → xs ≡ []
 none_left [] h = refl
 none_left (x ∷ xs) h = absurd (omega arith)
 
--- what is behind the first power
+-- what is after the first power
 module _ (left rest : Monomial) (p : ℕ × ℕ) (is : left ≡ p ∷ rest) where
   pub first_at : IsMonomial left → IsMonomial (p ∷ rest)
   first_at v = subst IsMonomial is v
@@ -18,11 +18,11 @@ module _ (left rest : Monomial) (p : ℕ × ℕ) (is : left ≡ p ∷ rest) wher
   pub degree_is : degree left ≡ p.1 + degree rest
   degree_is = ap degree is
 
--- a pushed element stands in front of what is left
+-- a pushed element is in front of what is left
 pub pushed : {A : Type 0} (out out' : List A) (x : A) (left all : List A) → out' ≡ out ++ x ∷ [] → out ++ (x ∷ left) ≡ all → out' ++ left ≡ all
 pushed out out' x left all e h = ap (λ k. k ++ left) e ∙ simp append_assoc h
 
--- ---- joined
+-- ---- merged
 
 module _ (f : ℕ → ℕ → ℕ) (j : Joins f) (left right left_rest right_rest : Monomial) (p q : ℕ × ℕ) (left_is : left ≡ p ∷ left_rest) (right_is : right ≡ q ∷ right_rest) (v : IsMonomial left) (w : IsMonomial right) where
   pub joined_by_left : p.0 < q.0 → joined f left right ≡ p ∷ joined f left_rest right

@@ -1,7 +1,7 @@
 use Rattle.std.proofs.Common.{All, subst, take_all}
 use Rattle.std.proofs.lemmas.List.Elements.{All-more}
 use Rattle.ffc_term.specs.Nodes.{IsConstantAt}
-use Rattle.ffc_check.proofs.tests.are_constants.Goals as goal
+use Rattle.ffc_term.proofs.fitting.are_constants.Goals as goal
 
 pub loop-id-preserved : goal.loop-id-preserved
 loop-id-preserved c = All-more (IsConstantAt c.args.table.now) c.args.ids.now c.loop-id.id-index 0 c.loop-id-test.true c.loop-id.invariant (c.is_constant.ensures c.if-not-is_constant.false)
