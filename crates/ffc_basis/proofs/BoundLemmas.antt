@@ -1,5 +1,5 @@
 -- How many units a reduction takes: each cancels a monomial, and they all differ.
-use Rattle.std.proofs.Common.{◌≡◌, ◌≢◌, ℕ, zero, suc, ◌+◌, ◌-◌, ◌*◌, ◌<◌, ◌≤◌, ◌⊎◌, List, [], ◌∷◌, ◌++◌, length, get_or, max, refl, sym, ap, ap₂, ◌∙◌, subst, inl, inr, arith}
+use Rattle.std.proofs.Common.{◌≡◌, ◌≢◌, ℕ, zero, suc, ◌+◌, ◌*◌, ◌<◌, ◌≤◌, List, [], ◌∷◌, ◌++◌, length, get_or, sym, ap, ap₂, ◌∙◌, subst, inl, inr, arith}
 use Rattle.std.proofs.Math.Nat.{mul-le-mul_right}
 use Rattle.std.proofs.lemmas.Bool.{cases_eq}
 use Rattle.std.specs.declared.cmp.Ordering.{Ordering}
@@ -9,15 +9,14 @@ use Rattle.ffc_base.specs.declared.meter.Unit.TheVariants.{Reduction}
 use Rattle.ffc_field.specs.Binomial.{choose}
 use Rattle.ffc_field.specs.Modular.{IsPrime, sub_mod}
 use Rattle.ffc_field.proofs.ModularLaws.{sub_mod-self}
-use Rattle.ffc_ring.specs.Monomial.{Monomial, IsMonomial, exponent, degree, Divides, mono_mul, mono_lcm, mono_quotient}
-use Rattle.ffc_ring.specs.Polynomial.{Terms, AreTerms, coefficient, SamePolynomial, IsNoneOf, term_product, difference}
+use Rattle.ffc_ring.specs.Monomial.{Monomial, IsMonomial, exponent, degree, Divides, mono_lcm, mono_quotient}
+use Rattle.ffc_ring.specs.Polynomial.{Terms, AreTerms, coefficient, IsNoneOf, term_product}
 use Rattle.ffc_ring.specs.Counting.{IsIn, AreDifferent, AreUpTo as AreMonomialsUpTo}
 use Rattle.ffc_ring.proofs.CountingLemmas.{count_of_monomials}
-use Rattle.ffc_ring.proofs.MonomialLemmas.{IsMonomial-mono_mul, exponent-mono_mul, degree-mono_mul, degree_of_divisor, IsMonomialFrom-mono_quotient, exponent-mono_quotient, IsMonomial-mono_lcm, exponent-mono_lcm}
+use Rattle.ffc_ring.proofs.MonomialLemmas.{exponent-mono_mul, degree-mono_mul, degree_of_divisor, IsMonomialFrom-mono_quotient, exponent-mono_quotient, IsMonomial-mono_lcm, exponent-mono_lcm}
 use Rattle.ffc_ring.proofs.PolynomialLemmas.{coefficient-difference, monomial_of_coefficient, shifted_monomial}
 use Rattle.ffc_mono.specs.Graded.{IsGradedIn}
 use Rattle.ffc_mono.specs.MonomialOrder.{IsMonomialOrder}
-use Rattle.ffc_mono.specs.Leading.{IsLeading}
 use Rattle.ffc_mono.proofs.LeadingLemmas.{greater_trans, not_itself}
 use Rattle.ffc_basis.specs.declared.line.Line.{Line}
 use Rattle.ffc_basis.specs.Lines.{polys_of}
@@ -224,10 +223,8 @@ settled_is_bounded p cmp gs rs joined old new pairs few bound =
     more_pairs p cmp gs (settled_count rs) (length gs * length gs) old new (settled_square rs joined (length gs) pairs.joined_within few) bound
 
 -- a pair more, of which the lines may have grown
-pub bound_next : {F O : Type 0} (p : ℕ) (cmp : Monomial → Monomial → Ordering) (ls ks : List (Line F O)) (n before : ℕ) (a b c : Spending) → before ≡ n → IsFront p cmp ls ks → IsPairsBound p cmp (polys_of ls) n a b → IsPairsBound p cmp (polys_of ls) 1 b c
-    → IsPairsBound p cmp (polys_of ks) (before + 1) a c
-bound_next p cmp ls ks n before a b c same front first second =
-    subst (λ k. IsPairsBound p cmp (polys_of ks) (k + 1) a c) (sym same) (front_pairs p cmp ls ks (n + 1) a c front (both_pairs p cmp (polys_of ls) n 1 a b c first second))
+pub bound_next : {F O : Type 0} (p : ℕ) (cmp : Monomial → Monomial → Ordering) (ls ks : List (Line F O)) (n : ℕ) (a b c : Spending) → IsFront p cmp ls ks → IsPairsBound p cmp (polys_of ls) n a b → IsPairsBound p cmp (polys_of ls) 1 b c → IsPairsBound p cmp (polys_of ks) (n + 1) a c
+bound_next p cmp ls ks n a b c front first second = front_pairs p cmp ls ks (n + 1) a c front (both_pairs p cmp (polys_of ls) n 1 a b c first second)
 
 pub pending_is_bounded : (p : ℕ) (cmp : Monomial → Monomial → Ordering) (gs : List Terms) (rs qs : List PairRecord) (joined again place : ℕ) (old new : Spending) → again ≡ joined → ArePairs p cmp gs qs again → IsPendingAt rs place → AreFew (seconds rs) joined
     → IsPairsBound p cmp gs (settled_count rs + 1) old new → IsCompletionBound p cmp gs old new

@@ -11,7 +11,7 @@ use Rattle.ffc_field.specs.Modular.{IsPrime, mul_mod}
 use Rattle.ffc_ring.specs.Monomial.{Monomial, IsMonomial, exponent, mono_mul, mono_lcm, mono_quotient, Divides}
 use Rattle.ffc_ring.specs.Polynomial.{Terms, AreTerms, coefficient, SamePolynomial, product, term_product, scaled, difference}
 use Rattle.ffc_ring.proofs.MonomialLemmas.{one_monomial, IsMonomial-mono_mul, exponent-mono_mul, IsMonomial-mono_lcm, mono_mul_comm, mono_mul_assoc, IsMonomialFrom-mono_quotient, exponent-mono_quotient, first_divides_lcm, second_divides_lcm}
-use Rattle.ffc_ring.proofs.PolynomialLemmas.{weighted, weighted-append, weighted-term_product, weighted-product, weighted-alike, one_weighted, SamePolynomial-from_weighted, sum_alike, times_alike, same_sums, same_term_products, shifted_monomial, monomial_of_coefficient}
+use Rattle.ffc_ring.proofs.PolynomialLemmas.{weighted, weighted-append, weighted-term_product, weighted-product, weighted-alike, SamePolynomial-from_weighted, sum_alike, times_alike, same_sums, same_term_products, shifted_monomial, monomial_of_coefficient}
 use Rattle.ffc_mono.specs.MonomialOrder.{IsMonomialOrder}
 use Rattle.ffc_mono.specs.Leading.{IsLeading}
 use Rattle.ffc_mono.proofs.LeadingLemmas.{turned, greater_trans, one_leading}

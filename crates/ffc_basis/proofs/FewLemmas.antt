@@ -1,5 +1,5 @@
 -- How many pairs there are of the first lines, and how many are settled.
-use Rattle.std.proofs.Common.{◌≡◌, ◌≢◌, ℕ, zero, suc, ◌+◌, ◌*◌, ◌<◌, ◌≤◌, List, [], ◌∷◌, ◌++◌, length, get_or, set, map, min, filter, nat_lt, Bool, true, false, cond, refl, sym, ap, ap₂, ◌∙◌, subst, inl, inr, arith, length-append, append-nil, append_assoc, take, if◌then◌else◌}
+use Rattle.std.proofs.Common.{◌≡◌, ℕ, zero, suc, ◌+◌, ◌*◌, ◌<◌, ◌≤◌, List, [], ◌∷◌, ◌++◌, length, get_or, set, map, min, filter, nat_lt, true, false, cond, refl, sym, ap, ap₂, ◌∙◌, subst, inl, inr, arith, length-append, append-nil, append_assoc, take, if◌then◌else◌}
 use Rattle.std.proofs.Math.Nat.{min-eq_left, min-eq_right, mul-le-mul}
 use Rattle.std.proofs.lemmas.Bool.{cases_order}
 use Rattle.std.proofs.lemmas.Bool.Decides.{nat_tests}
@@ -7,7 +7,7 @@ use Rattle.ffc_basis.specs.declared.pair.PairRecord.{PairRecord}
 use Rattle.ffc_basis.specs.declared.pair.PairState.{PairState}
 use Rattle.ffc_basis.specs.declared.pair.PairState.TheVariants.{Pending, Closed, Over}
 use Rattle.ffc_basis.proofs.LineLemmas.{take_front}
-use Rattle.ffc_basis.specs.PairTable.{forgotten, with_state, count_below, seconds, AreFew, ArePendingOf, IsJoined, IsPendingAt, settled_one, settled_count}
+use Rattle.ffc_basis.specs.PairTable.{forgotten, count_below, seconds, AreFew, ArePendingOf, IsJoined, IsPendingAt, settled_one, settled_count}
 
 -- ---- counts of numbers
 

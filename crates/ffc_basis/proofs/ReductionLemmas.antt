@@ -10,7 +10,7 @@ use Rattle.ffc_field.proofs.ModularLaws.{sub_mod-zero, mul_mod-zero_first, sub_m
 use Rattle.ffc_ring.specs.Monomial.{Monomial, IsMonomial, exponent, degree, mono_mul}
 use Rattle.ffc_ring.specs.Counting.{IsIn}
 use Rattle.ffc_ring.specs.Polynomial.{Terms, AreTerms, written, coefficient, SamePolynomial, term_product, scaled, difference, PassesDegree, PassesTerms}
-use Rattle.ffc_ring.proofs.MonomialLemmas.{mono_mul_comm, IsMonomial-mono_mul, exponent-mono_mul, degree-mono_mul}
+use Rattle.ffc_ring.proofs.MonomialLemmas.{mono_mul_comm, IsMonomial-mono_mul, exponent-mono_mul}
 use Rattle.ffc_ring.proofs.PolynomialLemmas.{cases_monomial, written-append, written-scaled, coefficient-difference, sum_alike, monomial_of_coefficient, shifted_monomial}
 use Rattle.ffc_mono.specs.MonomialOrder.{IsMonomialOrder}
 use Rattle.ffc_mono.specs.Leading.{IsLeading}

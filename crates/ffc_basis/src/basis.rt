@@ -5,7 +5,8 @@ ghost use Rattle.ffc_ring.specs.Polynomial.{SamePolynomial, difference};
 ghost use Rattle.ffc_basis.specs.Completion.{ReducesToZero};
 ghost use Rattle.ffc_basis.specs.Completed.{IsFront, IsCompletion, IsProgress, HasTaken};
 ghost use Rattle.ffc_basis.specs.Units.{Takes, TakesReductions, IsReductionBound, IsCompletionBound};
-ghost use Rattle.ffc_basis.specs.Lines.{polys_of, combination, AreBefore, AreLines, ArePolynomials, AreGenerators, IsAddedTo};
+ghost use Rattle.ffc_basis.specs.Lines.{polys_of, combination, AreBefore, AreLines, ArePolynomials, AreGenerators};
+ghost use Rattle.ffc_basis.specs.Lines.{IsAddedTo};
 ghost use Rattle.ffc_basis.specs.Reduction.{ArePartsAtMost, IsReduced, IsStopped};
 ghost use Rattle.ffc_basis.specs.declared.stop.BasisStop.TheVariants as stops;
 
@@ -116,7 +117,8 @@ impl<F: Field, O: MonoOrder> Basis<F, O> {
         ensures spent { IsErrOf result stops.Spent → total meter.new ≡ meter.new.budget }
         ensures takes { Takes meter.old meter.new }
         ensures reductions { TakesReductions meter.old meter.new }
-        ensures bound { (IsErrOf result stops.Memory → ⊥) → IsCompletionBound F.ORDER O.cmp (polys_of self.new) meter.old meter.new }
+        ensures bound { (IsErrOf result stops.Memory → ⊥) → IsCompletionBound F.ORDER O.cmp (polys_of self.new)
+            meter.old meter.new }
         ensures unchanged { IsErrOf result stops.Memory → self.new ≡ self.old }
     {
         match self.complete_within(u64::MAX, meter) {
@@ -129,8 +131,10 @@ impl<F: Field, O: MonoOrder> Basis<F, O> {
         }
     }
 
-    /// Does a part of that work: pairs are left only where at least so many units were taken. It looks at the units between
-    /// two pairs, so a call with at least one unit goes on by at least one pair. With none it looks for a constant line alone.
+    /// Does a part of that work: pairs are left only where at least so many units were taken. Reductions of lines come before
+    /// other S-polynomials, and are all done, also past the units: a pair simplifies where both lines are linear, or where one
+    /// line's leading monomial divides that of the other line and it is no longer. With no units no other pair is reduced.
+    /// The units are looked at between two pairs, so a call with at least one unit goes on by at least one pair.
     pub fn complete_within(&mut self, units: u64, meter: &mut Meter) -> Result<Progress, BasisStop>
         ensures stays { IsFront F.ORDER O.cmp self.old self.new }
         ensures found { IfOk result (IsProgress F.ORDER O.cmp (polys_of self.new)) }
@@ -138,7 +142,8 @@ impl<F: Field, O: MonoOrder> Basis<F, O> {
         ensures spent { IsErrOf result stops.Spent → total meter.new ≡ meter.new.budget }
         ensures takes { Takes meter.old meter.new }
         ensures reductions { TakesReductions meter.old meter.new }
-        ensures bound { (IsErrOf result stops.Memory → ⊥) → IsCompletionBound F.ORDER O.cmp (polys_of self.new) meter.old meter.new }
+        ensures bound { (IsErrOf result stops.Memory → ⊥) → IsCompletionBound F.ORDER O.cmp (polys_of self.new)
+            meter.old meter.new }
         ensures unchanged { IsErrOf result stops.Memory → self.new ≡ self.old }
     {
         let count = self.lines.len();

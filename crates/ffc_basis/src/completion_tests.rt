@@ -317,6 +317,30 @@ fn in_parts(rt: HostRuntime) -> Result<(), Fail> {
 }
 
 #[test]
+fn without_units(rt: HostRuntime) -> Result<(), Fail> {
+    let alloc = rt.alloc();
+    let linear: [&[Row]; 2] = [
+        &[(1, [1, 0, 0, 0, 0]), (MINUS, [0, 1, 0, 0, 0])],
+        &[(1, [1, 0, 0, 0, 0]), (MINUS, [0, 0, 0, 0, 0])],
+    ];
+    let mut basis = basis_of::<Lex>(alloc, &linear)?;
+    for _ in 0..2 {
+        let progress = basis
+            .complete_within(0, &mut Meter::new(UNITS))
+            .map_err(|_| "stopped")?;
+        assert!(rt; matches!(progress, Progress::Done(Completion::Closed)));
+        assert_eq!(rt; basis.lines().len(), 3);
+        basis.cut(2);
+    }
+    let mut basis = basis_of::<GradedReverseLex>(alloc, &KATSURA)?;
+    let progress = basis
+        .complete_within(0, &mut Meter::new(UNITS))
+        .map_err(|_| "stopped")?;
+    assert!(rt; matches!(progress, Progress::Left));
+    Ok(())
+}
+
+#[test]
 fn constants_and_limits(rt: HostRuntime) -> Result<(), Fail> {
     let alloc = rt.alloc();
     let unit: [&[Row]; 2] = [

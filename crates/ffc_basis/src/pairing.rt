@@ -1,12 +1,15 @@
 //! The pairs of a basis, and what is known of each.
-ghost use Rattle.std.specs.Prelude.{◌≡◌, ◌+◌, ◌<◌, ◌≤◌, [], length, min, map, filter, nat_lt, vec_len, get_or, set, IfOk, IfSome, IfNone, OnOk, IsErrOf};
+ghost use Rattle.std.specs.Prelude.{◌≡◌, ◌+◌, ◌<◌, ◌≤◌, [], length, min, map, filter, nat_lt, vec_len, get_or, set};
+ghost use Rattle.std.specs.Prelude.{IfOk, IfSome, IfNone, OnOk, IsErrOf};
 ghost use Rattle.std.specs.Bool.{OnTrue, OnFalse};
 ghost use Rattle.ffc_base.specs.Metering.{total};
 ghost use Rattle.ffc_basis.specs.Lines.{polys_of, AreLines};
 ghost use Rattle.ffc_basis.specs.Completion.{IsConstantLine};
 ghost use Rattle.ffc_basis.specs.Completed.{IsFront, IsProgress, HasTaken};
 ghost use Rattle.ffc_basis.specs.Outcomes.{IsOutcome};
-ghost use Rattle.ffc_basis.specs.PairTable.{AreNeedless, ArePairs, AreRecords, AreFew, AreSettled, IsJoined, IsPendingAt, seconds, settled_count, known_by, forgotten, with_state, over_of, answer_of};
+ghost use Rattle.ffc_basis.specs.PairTable.{AreNeedless, ArePairs, AreRecords, AreFew, AreSettled, IsJoined};
+ghost use Rattle.ffc_basis.specs.PairTable.{IsPendingAt, seconds, settled_count, known_by, forgotten, with_state};
+ghost use Rattle.ffc_basis.specs.PairTable.{over_of, answer_of};
 ghost use Rattle.ffc_basis.specs.Units.{TakesReductions, IsPairBound, IsPairsBound, IsCompletionBound};
 ghost use Rattle.ffc_basis.specs.declared.stop.BasisStop.TheVariants as stops;
 
@@ -47,13 +50,15 @@ impl Pairing {
 
     /// Drops the pairs of the lines from a number on, and what is known of others by them. It takes no memory.
     pub fn cut(&mut self, len: usize)
-        ensures records { self.new.records.items ≡ map (forgotten len) (filter (λ r. nat_lt r.second len) self.old.records.items) }
+        ensures records { self.new.records.items
+            ≡ map (forgotten len) (filter (λ r. nat_lt r.second len) self.old.records.items) }
         ensures joined { self.new.joined ≡ min self.old.joined len }
     {
         drop_after(&mut self.records, len);
         forget_after(&mut self.records, len);
         self.joined = self.joined.min(len);
-        self.queue.forget();
+        self.queue
+            .cut(*self.records.allocator(), self.records.len());
     }
 }
 
@@ -177,7 +182,7 @@ fn join_next<F: Field, O: MonoOrder>(
     }
 }
 
-/// Makes the pairs of the lines that have none yet.
+/// Makes the pairs of the lines that have none yet, and lets all pending pairs wait.
 fn join<F: Field, O: MonoOrder>(
     alloc: Global,
     lines: &[Line<F, O>],
@@ -190,6 +195,7 @@ fn join<F: Field, O: MonoOrder>(
     ensures settled { settled_count pairing.new.records.items ≡ settled_count pairing.old.records.items }
     ensures joined { OnOk result (pairing.new.joined ≡ length lines.now) }
 {
+    pairing.queue.refresh(pairing.records.as_slice())?;
     while pairing.joined < lines.len() {
         join_next(alloc, lines, pairing)?;
     }
@@ -219,11 +225,10 @@ fn next_place<F: Field, O: MonoOrder>(
     ensures some { IfOk result (λ o. IfSome o (IsPendingAt records.now)) }
     ensures none { IfOk result (λ o. IfNone o (AreSettled records.now)) }
 {
-    queue.refresh(alloc, lines, records)?;
     if let Some(place) = queue.next_near(alloc, lines, records)? {
         return Ok(Some(place));
     }
-    if let Some(place) = queue.next_late(records) {
+    if let Some(place) = queue.next_late(records)? {
         return Ok(Some(place));
     }
     Ok(first_pending(records))
@@ -298,7 +303,8 @@ fn settle<F: Field, O: MonoOrder>(
     ensures pairs { ArePairs F.ORDER O.cmp (polys_of lines.new.items) pairing.new.records.items pairing.new.joined }
     ensures seconds { seconds pairing.new.records.items ≡ seconds pairing.old.records.items }
     ensures joined { pairing.new.joined ≡ pairing.old.joined }
-    ensures settled { OnOk result (settled_count pairing.new.records.items ≡ settled_count pairing.old.records.items + 1) }
+    ensures settled { OnOk result (settled_count pairing.new.records.items ≡ settled_count pairing.old.records.items
+        + 1) }
 {
     let count = lines.len();
     match outcome {
@@ -361,7 +367,8 @@ fn treat<F: Field, O: MonoOrder>(
     ensures pairs { ArePairs F.ORDER O.cmp (polys_of lines.new.items) pairing.new.records.items pairing.new.joined }
     ensures seconds { seconds pairing.new.records.items ≡ seconds pairing.old.records.items }
     ensures joined { pairing.new.joined ≡ pairing.old.joined }
-    ensures settled { OnOk result (settled_count pairing.new.records.items ≡ settled_count pairing.old.records.items + 1) }
+    ensures settled { OnOk result (settled_count pairing.new.records.items ≡ settled_count pairing.old.records.items
+        + 1) }
     ensures spent { IsErrOf result stops.Spent → total meter.new ≡ meter.new.budget }
     ensures takes { TakesReductions meter.old meter.new }
     ensures bound { IsPairsBound F.ORDER O.cmp (polys_of lines.old.items) 1 meter.old meter.new }
@@ -388,7 +395,24 @@ fn is_constant_at<F: Field, O: MonoOrder>(lines: &[Line<F, O>], number: usize) -
     number < lines.len() && !lines[number].poly.is_zero() && lines[number].poly.is_constant()
 }
 
-/// Goes on with Buchberger's algorithm, until at least so many units were taken.
+/// Whether another pair is due: fewer than so many units were taken, or the next pair simplifies, or none waits.
+fn is_due<F: Field, O: MonoOrder>(
+    alloc: Global,
+    lines: &[Line<F, O>],
+    records: &[PairRecord],
+    queue: &mut Queue,
+    taken: u64,
+    units: u64,
+) -> Result<bool, AllocError>
+    ensures { IfOk result (λ due. OnFalse due (units ≤ taken)) }
+{
+    if taken < units {
+        return Ok(true);
+    }
+    queue.simplifies(alloc, lines, records)
+}
+
+/// Goes on with Buchberger's algorithm, until at least so many units were taken and the next pair does not simplify.
 pub(crate) fn advance<F: Field, O: MonoOrder>(
     lines: &mut Vec<Line<F, O>>,
     pairing: &mut Pairing,
@@ -413,8 +437,16 @@ pub(crate) fn advance<F: Field, O: MonoOrder>(
         return Ok(Progress::Done(Completion::Constant(line as u64)));
     }
     let before = meter.count(Unit::Reduction);
-    while meter.count(Unit::Reduction) - before < units {
-        join(alloc, lines.as_slice(), pairing)?;
+    let mut taken = 0;
+    join(alloc, lines.as_slice(), pairing)?;
+    while is_due(
+        alloc,
+        lines.as_slice(),
+        pairing.records.as_slice(),
+        &mut pairing.queue,
+        taken,
+        units,
+    )? {
         let next = next_place(
             alloc,
             lines.as_slice(),
@@ -427,9 +459,11 @@ pub(crate) fn advance<F: Field, O: MonoOrder>(
         };
         let count = lines.len();
         treat(lines, pairing, place, meter)?;
+        taken = meter.count(Unit::Reduction) - before;
         if is_constant_at(lines.as_slice(), count) {
             return Ok(Progress::Done(Completion::Constant(count as u64)));
         }
+        join(alloc, lines.as_slice(), pairing)?;
     }
     Ok(Progress::Left)
 }

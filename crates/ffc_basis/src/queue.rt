@@ -1,6 +1,7 @@
-//! The order in which pairs are reduced: those first that cancel a leading term by a divisor, then those of low degree
-//! (Cox, Little and O'Shea, chapter 2, section 10). A pair that the chain criterion leaves out (Gebauer and Möller 1988)
-//! comes after all others.
+//! The order in which pairs are reduced. Reductions of lines come first: a pair simplifies where both lines are linear, or
+//! where a line's leading monomial divides that of another line and the line is no longer than the other. Other pairs follow
+//! as S-polynomials: those that cancel a leading term by a divisor, then those of low degree (Cox, Little and O'Shea, chapter
+//! 2, section 10). A pair that the chain criterion leaves out (Gebauer and Möller 1988) comes after all others.
 //!
 //! The order is a cache. No answer depends on it but by how soon it comes.
 ghost use Rattle.std.specs.Prelude.{IfOk, IfSome};
@@ -12,10 +13,13 @@ use ffc_field::Field;
 use ffc_mono::{Mono, MonoOrder, MonoRef, MonoStop};
 use std::alloc::{AllocError, Global};
 use std::collections::BinaryHeap;
+use std::mem;
 
 /// A pair that waits. The greatest comes first.
 #[derive(Clone, Copy, Debug, PartialEq, Eq, PartialOrd, Ord)]
 pub(crate) struct Turn {
+    /// Whether it simplifies.
+    simplifies: bool,
     /// Whether one leading monomial divides the other.
     divides: bool,
     /// How far the degree of the least common multiple is below all numbers.
@@ -37,8 +41,9 @@ pub(crate) struct Queue {
     near: BinaryHeap<Turn>,
     /// Those that the chain criterion leaves out.
     late: BinaryHeap<Turn>,
-    /// Whether places have changed.
-    stale: bool,
+    /// Those that were taken out, in that order. What is known of a pair is known by the lines that there were then, so those
+    /// that are pending again after lines are dropped are the last.
+    taken: Vec<Turn>,
 }
 
 impl Queue {
@@ -47,15 +52,14 @@ impl Queue {
         Queue {
             near: BinaryHeap::new(alloc),
             late: BinaryHeap::new(alloc),
-            stale: false,
+            taken: Vec::new(alloc),
         }
     }
 
-    /// Forgets all pairs, since their places have changed. It takes no memory.
-    pub fn forget(&mut self) {
-        self.near.clear();
-        self.late.clear();
-        self.stale = true;
+    /// Drops the places from a number on. It takes no memory.
+    pub fn cut(&mut self, alloc: Global, len: usize) {
+        keep_before(alloc, &mut self.near, len);
+        keep_before(alloc, &mut self.late, len);
     }
 
     /// Lets a pair wait.
@@ -71,27 +75,58 @@ impl Queue {
         Ok(())
     }
 
-    /// Lets all pending pairs wait again, where places have changed.
-    pub fn refresh<F: Field, O: MonoOrder>(
+    /// Lets the pairs wait again that were taken out and are pending. It is called after lines are dropped, before their
+    /// places are used again.
+    pub fn refresh(&mut self, pairs: &[PairRecord]) -> Result<(), AllocError> {
+        while let Some(turn) = self.taken.last().copied() {
+            let place = turn.place();
+            if place < pairs.len() {
+                if !pairs[place].is_pending() {
+                    return Ok(());
+                }
+                self.near.push(turn)?;
+            }
+            self.taken.pop();
+        }
+        Ok(())
+    }
+
+    /// The place of the next pair that the chain criterion does not leave out, and whether it simplifies. It still waits.
+    fn front<F: Field, O: MonoOrder>(
         &mut self,
         alloc: Global,
         lines: &[Line<F, O>],
         pairs: &[PairRecord],
-    ) -> Result<(), AllocError> {
-        if !self.stale {
-            return Ok(());
-        }
-        self.near.clear();
-        for place in 0..pairs.len() {
-            if pairs[place].is_pending() {
-                self.put(alloc, lines, &pairs[place], place)?;
+    ) -> Result<Option<(usize, bool)>, AllocError>
+        ensures { IfOk result (λ o. IfSome o (λ t. IsPendingAt pairs.now t.0)) }
+    {
+        while let Some(turn) = self.near.peek().copied() {
+            let place = turn.place();
+            if let Some(pair) = pending_at(pairs, place) {
+                if !is_covered(alloc, lines, &pair)? {
+                    return Ok(Some((place, turn.simplifies)));
+                }
+                self.late.push(turn)?;
             }
+            self.near.pop();
         }
-        self.stale = false;
-        Ok(())
+        Ok(None)
     }
 
-    /// The place of the next pair that the chain criterion does not leave out.
+    /// Whether the next pair simplifies. So it does where none waits: then there is nothing left to do.
+    pub fn simplifies<F: Field, O: MonoOrder>(
+        &mut self,
+        alloc: Global,
+        lines: &[Line<F, O>],
+        pairs: &[PairRecord],
+    ) -> Result<bool, AllocError> {
+        match self.front(alloc, lines, pairs)? {
+            Some((_, simplifies)) => Ok(simplifies),
+            None => Ok(self.late.is_empty()),
+        }
+    }
+
+    /// Takes out the next pair that the chain criterion does not leave out.
     pub fn next_near<F: Field, O: MonoOrder>(
         &mut self,
         alloc: Global,
@@ -100,31 +135,35 @@ impl Queue {
     ) -> Result<Option<usize>, AllocError>
         ensures { IfOk result (λ o. IfSome o (IsPendingAt pairs.now)) }
     {
-        while let Some(turn) = self.near.pop() {
-            let place = turn.place();
-            if let Some(pair) = pending_at(pairs, place) {
-                if is_covered(alloc, lines, &pair)? {
-                    self.late.push(turn)?;
-                } else {
-                    return Ok(Some(place));
-                }
-            }
+        let Some((place, _)) = self.front(alloc, lines, pairs)? else {
+            return Ok(None);
+        };
+        if let Some(turn) = self.near.pop() {
+            self.taken.push(turn)?;
         }
-        Ok(None)
+        Ok(Some(place))
     }
 
-    /// The place of the next pair that it leaves out.
-    pub fn next_late(&mut self, pairs: &[PairRecord]) -> Option<usize>
-        ensures { IfSome result (IsPendingAt pairs.now) }
+    /// Takes out the next pair that it leaves out.
+    pub fn next_late(&mut self, pairs: &[PairRecord]) -> Result<Option<usize>, AllocError>
+        ensures { IfOk result (λ o. IfSome o (IsPendingAt pairs.now)) }
     {
         while let Some(turn) = self.late.pop() {
             let place = turn.place();
             if pending_at(pairs, place).is_some() {
-                return Some(place);
+                self.taken.push(turn)?;
+                return Ok(Some(place));
             }
         }
-        None
+        Ok(None)
     }
+}
+
+/// Drops the turns of the places from a number on. It takes no memory.
+fn keep_before(alloc: Global, turns: &mut BinaryHeap<Turn>, len: usize) {
+    let mut kept = mem::replace(turns, BinaryHeap::new(alloc)).into_vec();
+    kept.retain(|turn| turn.place() < len);
+    *turns = BinaryHeap::from(kept);
 }
 
 /// The pair at a place, where it is pending.
@@ -161,6 +200,7 @@ fn turn_of<F: Field, O: MonoOrder>(
     place: usize,
 ) -> Result<Turn, AllocError> {
     let mut turn = Turn {
+        simplifies: false,
         divides: false,
         ease: 0,
         age: usize::MAX - place,
@@ -168,12 +208,26 @@ fn turn_of<F: Field, O: MonoOrder>(
     if let Some(m) = lead_of(lines, pair.first) {
         if let Some(n) = lead_of(lines, pair.second) {
             if let Some(lcm) = lcm_of(alloc, m, n)? {
-                turn.divides = lcm.as_ref() == m || lcm.as_ref() == n;
+                let by_first = lcm.as_ref() == n;
+                let by_second = lcm.as_ref() == m;
+                turn.divides = by_first || by_second;
+                turn.simplifies = lcm.degree() <= 1
+                    || by_first && is_no_longer(lines, pair.first, pair.second)
+                    || by_second && is_no_longer(lines, pair.second, pair.first);
                 turn.ease = u32::MAX - lcm.degree();
             }
         }
     }
     Ok(turn)
+}
+
+/// Whether a line has no more terms than another, or at most two: replacing a variable by a variable or a value makes no
+/// polynomial longer.
+fn is_no_longer<F: Field, O: MonoOrder>(lines: &[Line<F, O>], line: usize, other: usize) -> bool {
+    match (lines.get(line), lines.get(other)) {
+        (Some(line), Some(other)) => line.poly.len() <= other.poly.len().max(2),
+        _ => false,
+    }
 }
 
 /// Whether the chain criterion leaves a pair out.

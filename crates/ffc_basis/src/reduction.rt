@@ -1,11 +1,13 @@
 //! Reduction by the lines of a basis.
-ghost use Rattle.std.specs.Prelude.{◌≡◌, ◌≢◌, ℕ, ◌<◌, ◌⊎◌, [], ◌∷◌, ◌++◌, length, vec_len, get_or, IfOk, IfErr, IfSome, IfNone, OnOk, OnErr, IsErrOf};
+ghost use Rattle.std.specs.Prelude.{◌≡◌, ◌≢◌, ℕ, ◌<◌, ◌⊎◌, [], ◌∷◌, ◌++◌, length, vec_len, get_or, IfOk, IfErr, IfSome};
+ghost use Rattle.std.specs.Prelude.{IfNone, OnOk, OnErr, IsErrOf};
 ghost use Rattle.ffc_base.specs.Metering.{total};
 ghost use Rattle.ffc_field.specs.Modular.{mul_mod};
 ghost use Rattle.ffc_ring.specs.Monomial.{Divides, mono_mul};
 ghost use Rattle.ffc_ring.specs.Polynomial.{Terms, SamePolynomial, PassesTerms};
 ghost use Rattle.ffc_basis.specs.Lines.{polys_of, HasPart, IsLineOfNone, ArePolynomials};
-ghost use Rattle.ffc_basis.specs.Reduction.{IsIrreducible, IsStep, IsAddedAt, IsRecorded, IsReduction, IsReduced, SameFirst, IsCancelled, IsStopped, PassesLimit};
+ghost use Rattle.ffc_basis.specs.Reduction.{IsIrreducible, IsStep, IsAddedAt, IsRecorded, IsReduction, IsReduced};
+ghost use Rattle.ffc_basis.specs.Reduction.{SameFirst, IsCancelled, IsStopped, PassesLimit};
 ghost use Rattle.ffc_basis.specs.Units.{TakesReductions, IsReductionBound};
 ghost use Rattle.ffc_basis.specs.declared.stop.BasisStop.TheVariants as stops;
 
@@ -71,7 +73,8 @@ pub(crate) fn multiple_of<F: Field>(
     requires divides { Divides lead.1.powers.now m.powers.now }
     ensures line { IfOk result (λ s. s.line ≡ line) }
     ensures monomial { IfOk result (λ s. mono_mul lead.entry.1.powers.now s.monomial ≡ m.entry.powers.now) }
-    ensures coefficient { IfOk result (λ s. mul_mod F.ORDER (F.value s.coefficient) (F.value lead.entry.0) ≡ F.value c) }
+    ensures coefficient { IfOk result (λ s. mul_mod F.ORDER (F.value s.coefficient) (F.value lead.entry.0)
+        ≡ F.value c) }
 {
     let monomial = m.to_mono(alloc)?.quotient(&lead.1.to_mono(alloc)?)?;
     Ok(Step {
@@ -90,7 +93,8 @@ fn step_at<F: Field, O: MonoOrder>(
 ) -> Result<Option<Step<F>>, AllocError>
     ensures none { IfOk result (λ o. IfNone o (IsIrreducible F.ORDER O.cmp (polys_of lines.now) m.entry.powers.now)) }
     ensures some { IfOk result (λ o. IfSome o (λ s.
-        IsStep F.ORDER O.cmp (polys_of lines.now) (F.value c) m.entry.powers.now s.line (F.value s.coefficient) s.monomial)) }
+        IsStep F.ORDER O.cmp (polys_of lines.now) (F.value c) m.entry.powers.now s.line (F.value s.coefficient)
+        s.monomial)) }
 {
     for number in 0..lines.len() {
         if let Some(lead) = lines[number].poly.lead() {
@@ -139,8 +143,10 @@ fn add_at<F: Field, O: MonoOrder>(
 ) -> Result<(), PolyStop>
     requires { place < vec_len parts.old }
     ensures added { OnOk result (IsAddedAt F.ORDER parts.old.items parts.new.items place more.now) }
-    ensures polynomials { OnOk result (ArePolynomials F.ORDER O.cmp parts.old.items → ArePolynomials F.ORDER O.cmp parts.new.items) }
-    ensures over { IsErrOf result PolyStop.TermsOver → PassesTerms F.ORDER 131072 ((get_or parts.old.items place (0, [])).1 ++ more.now) }
+    ensures polynomials { OnOk result (ArePolynomials F.ORDER O.cmp parts.old.items
+        → ArePolynomials F.ORDER O.cmp parts.new.items) }
+    ensures over { IsErrOf result PolyStop.TermsOver → PassesTerms F.ORDER 131072
+        ((get_or parts.old.items place (0, [])).1 ++ more.now) }
     ensures no_product { IsErrOf result PolyStop.DegreeOver → ⊥ }
     ensures unchanged { OnErr result (parts.new.items ≡ parts.old.items) }
 {
@@ -173,8 +179,10 @@ pub(crate) fn record<F: Field, O: MonoOrder>(
     step: &Step<F>,
 ) -> Result<(), PolyStop>
     ensures recorded { OnOk result
-        (IsRecorded F.ORDER parts.old.items parts.new.items step.now.line (F.value step.now.coefficient) step.now.monomial) }
-    ensures polynomials { OnOk result (ArePolynomials F.ORDER O.cmp parts.old.items → ArePolynomials F.ORDER O.cmp parts.new.items) }
+        (IsRecorded F.ORDER parts.old.items parts.new.items step.now.line (F.value step.now.coefficient)
+        step.now.monomial) }
+    ensures polynomials { OnOk result (ArePolynomials F.ORDER O.cmp parts.old.items
+        → ArePolynomials F.ORDER O.cmp parts.new.items) }
     ensures over { IsErrOf result PolyStop.TermsOver → (t : Terms) × HasPart parts.old.items step.now.line t
         × PassesTerms F.ORDER 131072 (t ++ (F.value step.now.coefficient, step.now.monomial) ∷ []) }
     ensures no_product { IsErrOf result PolyStop.DegreeOver → ⊥ }
@@ -198,14 +206,17 @@ fn subtract<F: Field, O: MonoOrder>(
     step: &Step<F>,
 ) -> Result<(), PolyStop>
     requires within { place < length rest.old }
-    requires step { IsStep F.ORDER O.cmp (polys_of lines.now) (get_or rest.old place (0, [])).0 (get_or rest.old place (0, [])).1
+    requires step { IsStep F.ORDER O.cmp (polys_of lines.now) (get_or rest.old place (0, [])).0
+        (get_or rest.old place (0, [])).1
         step.now.line (F.value step.now.coefficient) step.now.monomial }
-    ensures reduction { OnOk result ((poly : Terms) → IsReduction F.ORDER O.cmp (polys_of lines.now) poly rest.old parts.old.items
+    ensures reduction { OnOk result ((poly : Terms) → IsReduction F.ORDER O.cmp (polys_of lines.now) poly rest.old
+        parts.old.items
         → IsReduction F.ORDER O.cmp (polys_of lines.now) poly rest.new parts.new.items) }
     ensures first { OnOk result (SameFirst rest.old rest.new place) }
     ensures cancelled { OnOk result (IsCancelled F.ORDER O.cmp (polys_of lines.now) rest.old rest.new place) }
     ensures over { IfErr result (λ stop. stop ≢ PolyStop.Memory
-        → PassesLimit F.ORDER (polys_of lines.now) rest.old parts.old.items step.now.line (F.value step.now.coefficient) step.now.monomial) }
+        → PassesLimit F.ORDER (polys_of lines.now) rest.old parts.old.items step.now.line (F.value step.now.coefficient)
+        step.now.monomial) }
     ensures unchanged { OnErr result ((rest.new ≡ rest.old) × (parts.new.items ≡ parts.old.items)) }
 {
     let poly = &lines[step.line].poly;
@@ -243,9 +254,11 @@ pub fn reduce_by<F: Field, O: MonoOrder>(
     poly: &Poly<F, O>,
     meter: &mut Meter,
 ) -> Result<Reduced<F, O>, BasisStop>
-    ensures reduction { IfOk result (λ r. IsReduction F.ORDER O.cmp (polys_of lines.now) poly.now r.rest r.parts.items) }
+    ensures reduction { IfOk result (λ r. IsReduction F.ORDER O.cmp (polys_of lines.now) poly.now r.rest
+        r.parts.items) }
     ensures reduced { IfOk result (λ r. IfNone r.over (IsReduced F.ORDER O.cmp (polys_of lines.now) r.rest)) }
-    ensures over { IfOk result (λ r. IfSome r.over (λ t. IsStopped F.ORDER O.cmp (polys_of lines.now) r.rest r.parts.items t.0 t.1)) }
+    ensures over { IfOk result
+        (λ r. IfSome r.over (λ t. IsStopped F.ORDER O.cmp (polys_of lines.now) r.rest r.parts.items t.0 t.1)) }
     ensures spent { IsErrOf result stops.Spent → total meter.new ≡ meter.new.budget }
     ensures takes { TakesReductions meter.old meter.new }
     ensures bound { IsReductionBound F.ORDER O.cmp (polys_of lines.now) poly.now meter.old meter.new }

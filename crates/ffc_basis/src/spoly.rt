@@ -52,7 +52,8 @@ pub(crate) enum Outcome<F: Field, O: MonoOrder> {
 /// The least common multiple of two borrowed monomials.
 pub(crate) fn lcm_of(alloc: Global, m: MonoRef<'_>, n: MonoRef<'_>) -> Result<Mono, PolyStop>
     ensures value { IfOk result (λ l. l ≡ mono_lcm m.entry.powers.now n.entry.powers.now) }
-    ensures over { IfErr result (λ stop. stop ≢ PolyStop.Memory → 1024 < degree (mono_lcm m.entry.powers.now n.entry.powers.now)) }
+    ensures over { IfErr result (λ stop. stop ≢ PolyStop.Memory → 1024
+        < degree (mono_lcm m.entry.powers.now n.entry.powers.now)) }
 {
     match m.to_mono(alloc)?.lcm(&n.to_mono(alloc)?) {
         Ok(lcm) => Ok(lcm),
@@ -69,9 +70,11 @@ fn difference_of<F: Field, O: MonoOrder>(
     second: &Step<F>,
 ) -> Result<Poly<F, O>, PolyStop>
     ensures difference { IfOk result (λ s. SamePolynomial F.ORDER s (difference F.ORDER
-        (term_product (F.value first.now.coefficient) first.now.monomial a.now) (term_product (F.value second.now.coefficient) second.now.monomial b.now))) }
+        (term_product (F.value first.now.coefficient) first.now.monomial a.now)
+        (term_product (F.value second.now.coefficient) second.now.monomial b.now))) }
     ensures over { IfErr result (λ stop. stop ≢ PolyStop.Memory
-        → PassesDifference F.ORDER a.now (F.value first.now.coefficient) first.now.monomial b.now (F.value second.now.coefficient) second.now.monomial) }
+        → PassesDifference F.ORDER a.now (F.value first.now.coefficient) first.now.monomial b.now
+        (F.value second.now.coefficient) second.now.monomial) }
 {
     let raised = match a.times(first.coefficient, first.monomial.as_ref()) {
         Ok(raised) => raised,
@@ -160,7 +163,8 @@ fn record_anyway<F: Field, O: MonoOrder>(
     step: &Step<F>,
 ) -> Result<(), AllocError>
     ensures { OnOk result
-        (IsRecorded F.ORDER parts.old.items parts.new.items step.now.line (F.value step.now.coefficient) step.now.monomial) }
+        (IsRecorded F.ORDER parts.old.items parts.new.items step.now.line (F.value step.now.coefficient)
+        step.now.monomial) }
 {
     match record(parts, step) {
         Ok(()) => Ok(()),

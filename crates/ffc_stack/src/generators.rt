@@ -83,7 +83,8 @@ pub fn generators_among<F: Field, O: MonoOrder>(
     reached: &[bool],
 ) -> Result<Vec<LineId>, AllocError>
     requires { length reached.now ≡ length lines.now }
-    ensures { IfOk result (λ v. v.items ≡ filter (is_marked_generator lines.now reached.now) (range_with_len 0 (length lines.now))) }
+    ensures { IfOk result (λ v. v.items ≡ filter (is_marked_generator lines.now reached.now)
+        (range_with_len 0 (length lines.now))) }
 {
     let mut numbers = Vec::new(alloc);
     for place in 0..lines.len() {

@@ -1,5 +1,6 @@
 //! A basis in levels.
-ghost use Rattle.std.specs.Prelude.{◌≡◌, ℕ, ◌<◌, [], ◌∷◌, ◌++◌, length, IfOk, IfSome, IfNone, OnOk, OnErr, IsErrOf, List};
+ghost use Rattle.std.specs.Prelude.{◌≡◌, ℕ, ◌<◌, [], ◌∷◌, ◌++◌, length, IfOk, IfSome, IfNone, OnOk, OnErr, IsErrOf};
+ghost use Rattle.std.specs.Prelude.{List};
 ghost use Rattle.ffc_base.specs.Metering.{total};
 ghost use Rattle.ffc_ring.specs.Polynomial.{Terms, SamePolynomial, difference};
 ghost use Rattle.ffc_basis.specs.Completed.{IsCompletion, IsFront, IsProgress, HasTaken};
@@ -9,7 +10,8 @@ ghost use Rattle.ffc_basis.specs.Reduction.{ArePartsAtMost, IsReduced, IsStopped
 ghost use Rattle.ffc_basis.specs.Units.{Takes, TakesReductions, IsReductionBound, IsCompletionBound};
 ghost use Rattle.ffc_basis.specs.declared.stop.BasisStop.TheVariants as stops;
 ghost use Rattle.ffc_stack.specs.Generators.{AreGeneratorsOf};
-ghost use Rattle.ffc_stack.specs.Stacks.{stack_of, generators, levels, joined, LeadToLive, IsBegun, IsPushed, IsCompletedWith, IsStoppedWith, IsStoppedAfter, GoesOn, IsPopped};
+ghost use Rattle.ffc_stack.specs.Stacks.{stack_of, generators, levels, joined, LeadToLive, IsBegun, IsPushed};
+ghost use Rattle.ffc_stack.specs.Stacks.{IsCompletedWith, IsStoppedWith, IsStoppedAfter, GoesOn, IsPopped};
 
 use crate::generators::{generators_among, reached_from};
 use ffc_base::Meter;
@@ -67,7 +69,8 @@ impl<F: Field, O: MonoOrder> BasisStack<F, O> {
         ensures takes { Takes meter.old meter.new }
         ensures reductions { TakesReductions meter.old meter.new }
         ensures bound { OnOk result (IsCompletionBound F.ORDER O.cmp (polys_of self.new.lines) meter.old meter.new) }
-        ensures stopped { IsErrOf result stops.Spent → IsStoppedWith F.ORDER O.cmp self.old gens.now meter.old meter.new }
+        ensures stopped { IsErrOf result stops.Spent → IsStoppedWith F.ORDER O.cmp self.old gens.now meter.old
+            meter.new }
     {
         self.begin(gens)?;
         match self.basis.complete(meter) {
@@ -96,7 +99,8 @@ impl<F: Field, O: MonoOrder> BasisStack<F, O> {
         ensures takes { Takes meter.old meter.new }
         ensures reductions { TakesReductions meter.old meter.new }
         ensures bound { OnOk result (IsCompletionBound F.ORDER O.cmp (polys_of self.new.lines) meter.old meter.new) }
-        ensures stopped { IsErrOf result stops.Spent → IsStoppedWith F.ORDER O.cmp self.old gens.now meter.old meter.new }
+        ensures stopped { IsErrOf result stops.Spent → IsStoppedWith F.ORDER O.cmp self.old gens.now meter.old
+            meter.new }
     {
         self.begin(gens)?;
         match self.basis.complete_within(units, meter) {
@@ -170,7 +174,8 @@ impl<F: Field, O: MonoOrder> BasisStack<F, O> {
             (difference F.ORDER poly.now (combination (polys_of self.old.lines) r.parts.items))) }
         ensures lines_exist { IfOk result (λ r. AreBefore (length self.old.lines) r.parts.items) }
         ensures polynomials { IfOk result (λ r. ArePolynomials F.ORDER O.cmp r.parts.items) }
-        ensures at_most { IfOk result (λ r. ArePartsAtMost F.ORDER O.cmp (polys_of self.old.lines) poly.now r.parts.items) }
+        ensures at_most { IfOk result (λ r. ArePartsAtMost F.ORDER O.cmp (polys_of self.old.lines) poly.now
+            r.parts.items) }
         ensures zero { IfOk result (λ r. r.rest ≡ [] → ReducesToZero F.ORDER O.cmp (polys_of self.old.lines) poly.now) }
         ensures reduced { IfOk result (λ r. IfNone r.over (IsReduced F.ORDER O.cmp (polys_of self.old.lines) r.rest)) }
         ensures over { IfOk result (λ r. IfSome r.over (λ t.

@@ -1,4 +1,4 @@
-use Rattle.std.proofs.Common.{◌≡◌, Bool, true, false, not, IsTrue, [], get_or, sym, ap₂, ◌∙◌, subst, refl, arith}
+use Rattle.std.proofs.Common.{Bool, true, false, not, IsTrue, get_or, subst, arith}
 use Rattle.std.specs.Bool.{OnFalse}
 use Rattle.ffc_ring.specs.Polynomial.{Terms}
 use Rattle.ffc_basis.specs.Lines.{polys_of}

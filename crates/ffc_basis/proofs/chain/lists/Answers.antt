@@ -1,4 +1,4 @@
-use Rattle.std.proofs.Common.{◌≡◌, [], get_or, sym, subst, arith}
+use Rattle.std.proofs.Common.{get_or, sym, subst, arith}
 use Rattle.ffc_ring.specs.Polynomial.{AreTerms}
 use Rattle.ffc_mono.specs.declared.mono.TheConstants.{DEGREE_LIMIT}
 use Rattle.ffc_basis.specs.Lines.{polys_of}

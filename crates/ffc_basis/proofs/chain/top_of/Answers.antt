@@ -1,4 +1,4 @@
-use Rattle.std.proofs.Common.{[], get_or, sym, subst, IfSome}
+use Rattle.std.proofs.Common.{sym, subst, IfSome}
 use Rattle.ffc_ring.specs.Polynomial.{Terms}
 use Rattle.ffc_mono.specs.Leading.{IsLeading}
 use Rattle.ffc_mono.specs.declared.mono.TheConstants.{DEGREE_LIMIT}

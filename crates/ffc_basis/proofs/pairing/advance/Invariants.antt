@@ -1,12 +1,12 @@
-use Rattle.std.proofs.Common.{◌≡◌, ◌-◌}
+use Rattle.std.proofs.Common.{◌≡◌, ◌+◌, ◌-◌, length}
 use Rattle.ffc_basis.specs.Lines.{polys_of, AreLines}
 use Rattle.ffc_basis.specs.Completed.{IsFront}
 use Rattle.ffc_basis.specs.PairTable.{ArePairs, AreFew, seconds, settled_count}
 use Rattle.ffc_basis.specs.Units.{TakesReductions, IsPairsBound}
 use Rattle.ffc_basis.proofs.pairing.advance.Given as goal
 
-abbrev pub invariant-loop-alloc : goal.invariant-loop-alloc
-invariant-loop-alloc g l = record {
+abbrev pub invariant-loop-lines : goal.invariant-loop-lines
+invariant-loop-lines g l = record {
   front : IsFront g.F.Field.ORDER g.O.MonoOrder.cmp l.fn.lines.items l.lines.items;
   lines : AreLines g.F.Field.ORDER l.lines.items;
   pairs : ArePairs g.F.Field.ORDER g.O.MonoOrder.cmp (polys_of l.lines.items) l.pairing.records.items l.pairing.joined;
@@ -14,7 +14,9 @@ invariant-loop-alloc g l = record {
   bound : IsPairsBound g.F.Field.ORDER g.O.MonoOrder.cmp (polys_of l.lines.items) (settled_count l.pairing.records.items) l.fn.meter l.meter;
   takes : TakesReductions l.fn.meter l.meter;
   start : l.before ≡ l.fn.meter.reductions;
+  counted : l.meter.reductions ≡ l.before + l.taken;
+  joined : l.pairing.joined ≡ length l.lines.items;
 }
 
-abbrev pub decreases-loop-alloc : goal.decreases-loop-alloc
-decreases-loop-alloc g l = l.units - (l.meter.reductions - l.before)
+abbrev pub decreases-loop-lines : goal.decreases-loop-lines
+decreases-loop-lines g l = l.meter.budget - l.meter.reductions
