@@ -1,11 +1,10 @@
 -- Levels above a stack.
-use Rattle.std.proofs.Common.{◌≡◌, ℕ, zero, suc, ◌+◌, ◌-◌, ◌<◌, ◌≤◌, List, [], ◌∷◌, ◌++◌, length, take, refl, sym, ap, ap₂, ◌∙◌, subst, append_assoc, length-append, arith}
+use Rattle.std.proofs.Common.{◌≡◌, ℕ, ◌+◌, ◌-◌, ◌<◌, ◌≤◌, List, [], ◌∷◌, ◌++◌, length, take, refl, sym, ap, ap₂, ◌∙◌, subst, append_assoc, length-append, arith}
 use Rattle.std.specs.List.{AllByRecursion}
 use Rattle.std.proofs.lemmas.List.{append-nil}
 use Rattle.std.proofs.Math.Seq.{take-append-add}
 use Rattle.ffc_ring.specs.Polynomial.{Terms}
-use Rattle.ffc_basis.specs.declared.line.Line.{Line}
-use Rattle.ffc_stack.specs.Stacks.{Stack, stack_of, IsPushed, GoesOn, IsPopped}
+use Rattle.ffc_stack.specs.Stacks.{Stack, stack_of, IsPushed, IsPopped}
 use Rattle.ffc_search.specs.Above.{Begin, IsAbove, StaysAbove, ComesDown}
 
 all_last : {A : Type 0} (P : A → Type 0) (xs : List A) (x : A) → AllByRecursion P xs → P x → AllByRecursion P (xs ++ x ∷ [])
@@ -28,10 +27,6 @@ begin_more : {A : Type 0} (n : ℕ) (rest added : List A) (more : List ℕ) (k :
 begin_more n rest added [] k at begin = (omega (arith, at, ap length begin), tt)
 begin_more n rest added (m ∷ ms) k at begin = (begin.0, all_last (λ j. n ≤ j) ms k begin.1 (omega (arith, at)))
 
-begin_with : {A : Type 0} (n : ℕ) (rest added : List A) (more : List ℕ) → 0 < length more → Begin n rest more → Begin n added more
-begin_with n rest added [] some begin = absurd (omega (arith, some))
-begin_with n rest added (m ∷ ms) some begin = begin
-
 -- a level that is pushed is above
 pub above_pushed : {F O : Type 0} (base old new : Stack F O) (gens : List Terms) → IsAbove base old → IsPushed old new gens → IsAbove base new
 above_pushed base old new gens above pushed = record {
@@ -45,16 +40,6 @@ above_pushed base old new gens above pushed = record {
 -- there is a level above where there are more levels
 some_above : {F O : Type 0} (base now : Stack F O) (above : IsAbove base now) → length base.marks < length now.marks → 0 < length above.more
 some_above base now above deeper = omega (arith, deeper, ap length above.marks ∙ length-append base.marks above.more)
-
--- so are lines that are added to the newest level, which is above
-pub above_goes_on : {F O : Type 0} (base old new : Stack F O) → length base.marks < length old.marks → IsAbove base old → GoesOn old new → IsAbove base new
-above_goes_on base old new deeper above goes = record {
-  rest = above.rest ++ goes.0;
-  more = above.more;
-  lines = goes.1 ∙ (ap (λ ls. ls ++ goes.0) above.lines ∙ append_assoc base.lines above.rest goes.0);
-  marks = goes.3 ∙ above.marks;
-  begin = begin_with (length base.lines) above.rest (above.rest ++ goes.0) above.more (some_above base old above deeper) above.begin;
-}
 
 -- what is left of levels without the newest
 record IsShorter (front more left : List ℕ) (last : ℕ) : Type 0 where
@@ -129,9 +114,6 @@ stays_both floor a b c first second = λ base deep above. second base deep (firs
 
 pub stays_pushed : {F O : Type 0} (floor : ℕ) (old new : Stack F O) (gens : List Terms) → IsPushed old new gens → StaysAbove floor old new
 stays_pushed floor old new gens pushed = λ base deep above. above_pushed base old new gens above pushed
-
-pub stays_going_on : {F O : Type 0} (floor : ℕ) (old new : Stack F O) → floor < length old.marks → GoesOn old new → StaysAbove floor old new
-stays_going_on floor old new deeper goes = λ base deep above. above_goes_on base old new (omega (arith, deep, deeper)) above goes
 
 pub stays_popped : {F O : Type 0} (floor : ℕ) (old new : Stack F O) → floor < length old.marks → IsPopped old new → StaysAbove floor old new
 stays_popped floor old new deeper popped = λ base deep above. above_popped base old new (omega (arith, deep, deeper)) above popped

@@ -1,5 +1,5 @@
 -- Meters of which units were taken.
-use Rattle.std.proofs.Common.{◌≡◌, ◌+◌, refl, sym, ◌∙◌, arith}
+use Rattle.std.proofs.Common.{◌≡◌, ◌+◌, refl, ◌∙◌, arith}
 use Rattle.ffc_base.specs.Metering.{Spending, total}
 use Rattle.ffc_basis.specs.Units.{Takes}
 

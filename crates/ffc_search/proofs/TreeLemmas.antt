@@ -1,5 +1,5 @@
 -- Lines of a tree: generators as the checker has them, and ranges of what is written.
-use Rattle.std.proofs.Common.{◌≡◌, ◌≢◌, ℕ, zero, suc, ◌+◌, ◌<◌, ◌≤◌, ◌^◌, max, fold, List, [], ◌∷◌, ◌++◌, length, get_or, take, drop, refl, sym, ap, ap₂, ◌∙◌, subst, arith}
+use Rattle.std.proofs.Common.{◌≡◌, ℕ, ◌+◌, ◌<◌, ◌≤◌, max, fold, List, [], ◌∷◌, ◌++◌, length, get_or, take, refl, sym, ap, ap₂, ◌∙◌, subst, arith}
 use Rattle.std.specs.List.{AllByRecursion}
 use Rattle.std.proofs.Math.Seq.{take-length}
 use Rattle.std.proofs.lemmas.List.{append-nil, get_or_default}
@@ -15,7 +15,6 @@ use Rattle.ffc_trees.specs.Normal.{IsNormal, monomials_of, degree_of}
 use Rattle.ffc_trees.specs.Same.{IsSameLine, AreSameLines}
 use Rattle.ffc_trees.proofs.SameLemmas.{one_degree}
 use Rattle.ffc_ckpoly.specs.Flat.{as_written}
-use Rattle.ffc_cktree.specs.Lines.{AreLines}
 use Rattle.ffc_basis.specs.declared.line.Line.{Line}
 use Rattle.ffc_basis.specs.Lines.{Parts}
 use Rattle.ffc_stack.specs.Stacks.{own, generators}

@@ -1,5 +1,5 @@
 -- What a search finds: a common zero of polynomials, or a tree that refutes that there is one.
-use Rattle.std.specs.Prelude.{◌≡◌, ℕ, ◌&&◌, ◌||◌, ◌==◌, not, Bool, true, false, List, [], ◌∷◌, length, All, if◌then◌else◌}
+use Rattle.std.specs.Prelude.{◌≡◌, ℕ, ◌||◌, ◌==◌, not, Bool, true, false, List, [], ◌∷◌, length, All, if◌then◌else◌}
 use Rattle.ffc_cert.specs.declared.entries.CertLine.{CertLine}
 use Rattle.ffc_ring.specs.Polynomial.{Terms, poly_value}
 use Rattle.ffc_basis.specs.declared.line.Line.{Line}

@@ -8,15 +8,13 @@ ghost use Rattle.ffc_search.specs.declared.stop.SearchStop.TheVariants as stops;
 use crate::points::less_root;
 use crate::stop::SearchStop;
 use crate::tree::Tree;
+use crate::weights::Weights;
 use ffc_base::Meter;
 use ffc_basis::{LineId, Progress};
 use ffc_field::Field;
 use ffc_mono::MonoOrder;
 use ffc_stack::BasisStack;
-use std::alloc::Global;
-
-/// How many units the lines of a branch are completed with at first.
-pub const FIRST_SHARE: u64 = 256;
+use std::alloc::{AllocError, Global};
 
 /// Cases by the values of a variable, of which the first ones were opened.
 #[derive(Debug, Drop)]
@@ -27,6 +25,11 @@ pub struct Branching<F: Field> {
     opened: usize,
     /// How many lines of the tree there were before the cases.
     len: usize,
+    /// The line of the case that is open.
+    line: LineId,
+    /// How many lines were written when it was opened, and whether each branch before was closed.
+    written: usize,
+    proving: bool,
 }
 
 /// Where the search is: the cases that are open, the outermost first, and the tree that is written.
@@ -34,10 +37,13 @@ pub struct Branching<F: Field> {
 pub struct Walk<F: Field> {
     pub tree: Tree,
     waiting: Vec<Branching<F>>,
-    /// How many units the present branch is completed with next.
-    pub share: u64,
     /// Whether each branch so far was closed, so that the tree is written on.
     pub proving: bool,
+    /// How many units a branch is completed with.
+    share: u64,
+    /// How many lines of the tree there are before all cases.
+    len: usize,
+    pub weights: Weights,
 }
 
 /// Pops a level, where it is the second one or a later one above so many.
@@ -60,24 +66,61 @@ pub fn pop_to<F: Field, O: MonoOrder>(stack: &mut BasisStack<F, O>, floor: u64)
 
 impl<F: Field> Walk<F> {
     /// The walk with no case.
-    pub fn begin(alloc: Global, tree: Tree) -> Self {
+    pub fn begin(alloc: Global, tree: Tree, share: u64, weights: Weights) -> Self {
         Walk {
+            len: tree.len(),
             tree,
             waiting: Vec::new(alloc),
-            share: FIRST_SHARE,
             proving: true,
+            share,
+            weights,
         }
     }
 
+    /// Adds to the weights of the cases on which a closed branch rests, and leaves the innermost cases on which it does not
+    /// rest. Their levels, so many, are still on the stack.
+    fn leave_unneeded(&mut self, generators: &[LineId]) -> Result<usize, AllocError> {
+        for branching in self.waiting.as_slice() {
+            if generators.contains(&branching.line) {
+                self.weights.add(branching.variable)?;
+            }
+        }
+        let count = self.waiting.len();
+        while let Some(branching) = self.waiting.last() {
+            if generators.contains(&branching.line) {
+                break;
+            }
+            self.waiting.pop();
+        }
+        let left = count.saturating_sub(self.waiting.len());
+        if left > 0 {
+            self.go_back();
+        }
+        Ok(left)
+    }
+
+    /// Goes back in the tree to where the innermost case was opened.
+    fn go_back(&mut self) {
+        let (len, written, proving) = match self.waiting.last() {
+            Some(case) => (case.len.saturating_add(1), case.written, case.proving),
+            None => (self.len, 0, true),
+        };
+        self.tree.cut(len);
+        self.tree.take_back(written);
+        self.proving = proving;
+    }
+
     /// The tree that was written.
-    pub fn into_tree(self) -> Tree {
+    pub fn into_parts(self) -> (Tree, Weights) {
         let Walk {
             tree,
             waiting: _,
-            share: _,
             proving: _,
+            share: _,
+            len: _,
+            weights,
         } = self;
-        tree
+        (tree, weights)
     }
 }
 
@@ -97,13 +140,15 @@ fn open_case<F: Field, O: MonoOrder>(
     let value = branching.values[branching.opened];
     let poly = less_root(alloc, branching.variable, value)?;
     walk.tree.cut(branching.len);
+    branching.line = stack.lines().len() as LineId;
+    branching.written = walk.tree.written();
+    branching.proving = walk.proving;
     if walk.proving {
-        walk.tree.place(Some(stack.lines().len() as LineId))?;
+        walk.tree.place(Some(branching.line))?;
     }
-    walk.share = FIRST_SHARE;
     branching.opened += 1;
     walk.waiting.push(branching)?;
-    Ok(stack.push_within(&[poly], FIRST_SHARE, meter)?)
+    Ok(stack.push_within(&[poly], walk.share, meter)?)
 }
 
 /// Leaves the present branch and opens the case that waits next. None waits where the search has gone through all.
@@ -125,6 +170,31 @@ pub fn next_case<F: Field, O: MonoOrder>(
         }
     }
     Ok(None)
+}
+
+/// Leaves the cases on which a branch that is closed by these lines does not rest. Says how many levels of the stack these are.
+pub fn leave_unneeded<F: Field, O: MonoOrder>(
+    alloc: Global,
+    stack: &BasisStack<F, O>,
+    walk: &mut Walk<F>,
+    lines: &[LineId],
+) -> Result<usize, AllocError> {
+    let mut generators = Vec::new(alloc);
+    for line in lines {
+        for generator in stack.generators_of(*line)? {
+            generators.push(generator)?;
+        }
+    }
+    walk.leave_unneeded(generators.as_slice())
+}
+
+/// Pops so many levels, down to the first one above so many.
+pub fn pop_times<F: Field, O: MonoOrder>(stack: &mut BasisStack<F, O>, count: usize, floor: u64)
+    ensures { StaysAbove floor stack.old stack.new }
+{
+    for _ in 0..count {
+        pop_above(stack, floor);
+    }
 }
 
 /// Goes on by cases: those of these values of a variable. With no value the present branch is left.
@@ -149,6 +219,9 @@ pub fn branch_by<F: Field, O: MonoOrder>(
         values,
         opened: 0,
         len: walk.tree.len(),
+        line: 0,
+        written: 0,
+        proving: false,
     };
     Ok(Some(open_case(alloc, stack, walk, branching, meter)?))
 }

@@ -6,7 +6,8 @@ ghost use Rattle.ffc_search.specs.declared.stop.SearchStop.TheVariants as stops;
 
 use crate::reducing::reduced_within;
 use crate::stop::SearchStop;
-use crate::survey::leading_power;
+use crate::survey::{Linear, leading_power};
+use crate::weights::Weights;
 use ffc_base::Meter;
 use ffc_basis::{Line, LineId};
 use ffc_field::Field;
@@ -18,6 +19,9 @@ use ffc_uni::Uni;
 use std::alloc::{AllocError, Global};
 use std::collections::BTreeSet;
 use std::mem;
+
+/// Lines of so many terms replace a variable wherever it leads (`ffc_basis` does that before all else).
+const SHORT: usize = 2;
 
 /// A polynomial in one variable: a line less multiples of other lines.
 #[derive(Debug)]
@@ -70,6 +74,7 @@ fn candidate_of<F: Field, O: MonoOrder>(
     stack: &mut BasisStack<F, O>,
     place: usize,
     x: u32,
+    linear: &Linear,
     meter: &mut Meter,
 ) -> Result<Option<Candidate<F, O>>, SearchStop>
     ensures unchanged { stack.new ≡ stack.old }
@@ -86,6 +91,9 @@ fn candidate_of<F: Field, O: MonoOrder>(
             variable: x,
             poly,
         }));
+    }
+    if linear.contains_key(&x) {
+        return Ok(None);
     }
     let lead = leading_term(alloc, &line.poly)?;
     let Some(tail) = within(line.poly.sub(&lead))? else {
@@ -108,51 +116,65 @@ fn candidate_of<F: Field, O: MonoOrder>(
     }))
 }
 
-/// The variable of a line whose leading monomial is a power of it, where the exponent is 2 or more and below a limit, and
-/// reduction does not replace the variable.
-fn open_power<F: Field, O: MonoOrder>(
-    line: &Line<F, O>,
-    linear: &BTreeSet<u32>,
-    limit: usize,
-) -> Option<u32> {
+/// The variable and its exponent, where a line's leading monomial is a power of it, the exponent is 2 or more, and reduction
+/// does not replace the variable by less than the line has.
+fn open_power<F: Field, O: MonoOrder>(line: &Line<F, O>, linear: &Linear) -> Option<(u32, u32)> {
     let (x, exponent) = leading_power(&line.poly)?;
-    if exponent < 2 || exponent as usize >= limit || linear.contains(&x) {
+    if exponent < 2 {
         return None;
     }
-    Some(x)
-}
-
-/// The degree that a better candidate is below.
-fn degree_limit<F: Field, O: MonoOrder>(best: &Option<Candidate<F, O>>) -> usize {
-    match best {
-        Some(candidate) => candidate.poly.coefs().len().saturating_sub(1),
-        None => usize::MAX,
+    match linear.get(&x) {
+        Some((_, len)) if *len <= line.poly.len().max(SHORT) => None,
+        _ => Some((x, exponent)),
     }
 }
 
-/// The candidate of least degree, and among them the first one.
+/// The lines that lead by an open power, those of least degree first, then those whose variables have more weight, then those
+/// whose variables lead first.
+fn open_lines<F: Field, O: MonoOrder>(
+    alloc: Global,
+    lines: &[Line<F, O>],
+    linear: &Linear,
+    weights: &Weights,
+) -> Result<BTreeSet<(u32, u64, u32, usize)>, AllocError> {
+    let mut open = BTreeSet::new(alloc);
+    for (place, line) in lines.iter().enumerate() {
+        if let Some((x, exponent)) = open_power(line, linear) {
+            open.insert((exponent, u64::MAX - weights.of(x), x, place))?;
+        }
+    }
+    Ok(open)
+}
+
+/// The lines that a candidate is a sum of.
+pub fn lines_of<F: Field, O: MonoOrder>(
+    alloc: Global,
+    candidate: &Candidate<F, O>,
+) -> Result<Vec<LineId>, AllocError> {
+    let mut lines = Vec::new(alloc);
+    lines.push(candidate.line)?;
+    for part in &candidate.parts {
+        lines.push(part.0)?;
+    }
+    Ok(lines)
+}
+
+/// The candidate of least degree, and among them that of the greatest weight.
 pub fn best_candidate<F: Field, O: MonoOrder>(
     alloc: Global,
     stack: &mut BasisStack<F, O>,
-    linear: &BTreeSet<u32>,
+    linear: &Linear,
+    weights: &Weights,
     meter: &mut Meter,
 ) -> Result<Option<Candidate<F, O>>, SearchStop>
     ensures unchanged { stack.new ≡ stack.old }
     ensures spent { IsErrOf result stops.Spent → total meter.new ≡ meter.new.budget }
     ensures takes { Takes meter.old meter.new }
 {
-    let mut best = None;
-    for place in 0..stack.lines().len() {
-        let limit = degree_limit(&best);
-        let Some(line) = stack.lines().get(place) else {
-            continue;
-        };
-        let Some(x) = open_power(line, linear, limit) else {
-            continue;
-        };
-        if let Some(found) = candidate_of(alloc, stack, place, x, meter)? {
-            best = Some(found);
+    for (_, _, x, place) in open_lines(alloc, stack.lines(), linear, weights)? {
+        if let Some(found) = candidate_of(alloc, stack, place, x, linear, meter)? {
+            return Ok(Some(found));
         }
     }
-    Ok(best)
+    Ok(None)
 }

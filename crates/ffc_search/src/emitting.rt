@@ -1,4 +1,5 @@
 //! Writing the lines of a stack into a tree, each as the sum of its parts.
+use crate::sums::write_sum;
 use crate::tree::Tree;
 use crate::written::{scaled_line, terms_of};
 use ffc_basis::{Line, LineId};
@@ -80,7 +81,7 @@ pub fn write_lines<F: Field, O: MonoOrder>(
         let id = i as LineId;
         if is_marked(&needed, i) && tree.number_of(id).is_none() {
             let multiples = multiples_of(alloc, tree, &line.parts)?;
-            tree.write_sum(multiples, Some(id))?;
+            write_sum(alloc, tree, multiples, Some(id))?;
         }
     }
     Ok(())
@@ -98,7 +99,7 @@ pub fn write_close<F: Field, O: MonoOrder>(
         if let Some(number) = tree.number_of(constant) {
             let mut multiples = Vec::new(alloc);
             multiples.push(scaled_line(alloc, number, F::of(1))?)?;
-            tree.write_sum(multiples, None)?;
+            write_sum(alloc, tree, multiples, None)?;
         }
     }
     tree.write(CertLine::Close)?;

@@ -6,6 +6,7 @@ mod accepting;
 mod answers;
 mod branches;
 mod choosing;
+mod effort;
 mod emitting;
 mod fitting;
 mod points;
@@ -14,10 +15,12 @@ mod roots;
 mod rounds;
 mod searching;
 mod stop;
+mod sums;
 mod survey;
 #[cfg(test)]
 mod tests;
 mod tree;
+mod weights;
 mod written;
 
 pub use answers::Found;

@@ -1,25 +1,19 @@
 //! Points, and whether the generators vanish there.
-ghost use Rattle.std.specs.Prelude.{◌≡◌, ℕ, ◌<◌, ◌^◌, ◌==◌, if◌then◌else◌, length, vec_len, map, IfOk, OnOk, IsTrue, IsErrOf};
+ghost use Rattle.std.specs.Prelude.{◌≡◌, ℕ, ◌<◌, ◌^◌, ◌==◌, if◌then◌else◌, length, vec_len, map, IfOk, OnOk, IsTrue};
+ghost use Rattle.std.specs.Prelude.{IsErrOf};
 ghost use Rattle.std.specs.List.{list_all};
-ghost use Rattle.ffc_base.specs.Metering.{total};
 ghost use Rattle.ffc_poly.specs.Ordered.{point_of as dense_point};
-ghost use Rattle.ffc_basis.specs.Units.{Takes};
 ghost use Rattle.ffc_stack.specs.Stacks.{generators};
 ghost use Rattle.ffc_search.specs.Finding.{point_at, is_zero_line, IsCommonZero};
-ghost use Rattle.ffc_search.specs.declared.stop.SearchStop.TheVariants as stops;
 
-use crate::reducing::reduced_within;
-use crate::stop::SearchStop;
-use ffc_base::Meter;
+use crate::survey::Linear;
 use ffc_basis::Line;
 use ffc_field::Field;
 use ffc_mono::MonoOrder;
 use ffc_poly::Poly;
 use ffc_roots::from_univariate;
-use ffc_stack::BasisStack;
 use ffc_uni::Uni;
 use std::alloc::{AllocError, Global};
-use std::collections::BTreeSet;
 
 /// The polynomial x - root.
 pub fn less_root<F: Field, O: MonoOrder>(
@@ -33,42 +27,42 @@ pub fn less_root<F: Field, O: MonoOrder>(
     from_univariate(alloc, &Uni::from_coefs(alloc, &coefs)?, x).map_err(|_| AllocError)
 }
 
-/// The value of a variable after reduction, where each variable that is left is 0.
-fn value_of<F: Field, O: MonoOrder>(
+/// Gives each variable that reduction replaces the value that its line says, from the one that leads last on, where the others
+/// are 0.
+fn fill_in<F: Field, O: MonoOrder>(
     alloc: Global,
-    stack: &mut BasisStack<F, O>,
-    x: u32,
-    meter: &mut Meter,
-) -> Result<F, SearchStop>
-    ensures unchanged { stack.new ≡ stack.old }
-    ensures spent { IsErrOf result stops.Spent → total meter.new ≡ meter.new.budget }
-    ensures takes { Takes meter.old meter.new }
-{
-    let variable = less_root(alloc, x, F::of(0))?;
-    match reduced_within(stack, &variable, meter)? {
-        Some(reduced) => Ok(reduced.rest.eval(&[])),
-        None => Ok(F::of(0)),
+    lines: &[Line<F, O>],
+    linear: &Linear,
+) -> Result<Vec<F>, AllocError> {
+    let mut point = Vec::new(alloc);
+    for (x, (place, _)) in linear.iter().rev() {
+        if let Some(line) = lines.get(*place) {
+            let value = value_of(&line.poly, point.as_slice());
+            set_coordinate(&mut point, *x, value)?;
+        }
+    }
+    Ok(point)
+}
+
+/// The value of the leading variable with which a linear polynomial is 0, where the others have these values.
+fn value_of<F: Field, O: MonoOrder>(poly: &Poly<F, O>, point: &[F]) -> F {
+    let Some((c, _)) = poly.lead() else {
+        return F::of(0);
+    };
+    let rest = poly.eval(point).neg();
+    match c.inv() {
+        Some(inverse) => inverse.mul(rest),
+        None => F::of(0),
     }
 }
 
-/// A value for each variable: that of its reduction, where each variable that is left is 0.
-fn values_of<F: Field, O: MonoOrder>(
-    alloc: Global,
-    stack: &mut BasisStack<F, O>,
-    vars: &[u32],
-    linear: &BTreeSet<u32>,
-    meter: &mut Meter,
-) -> Result<Vec<F>, SearchStop>
-    ensures unchanged { stack.new ≡ stack.old }
-    ensures spent { IsErrOf result stops.Spent → total meter.new ≡ meter.new.budget }
-    ensures takes { Takes meter.old meter.new }
-{
+/// The values of these variables.
+fn values_of<F: Field>(alloc: Global, vars: &[u32], point: &[F]) -> Result<Vec<F>, AllocError> {
     let mut values = Vec::new(alloc);
     for x in vars {
-        let value = if linear.contains(x) {
-            value_of(alloc, stack, *x, meter)?
-        } else {
-            F::of(0)
+        let value = match point.get(*x as usize) {
+            Some(value) => *value,
+            None => F::of(0),
         };
         values.push(value)?;
     }
@@ -79,7 +73,8 @@ fn values_of<F: Field, O: MonoOrder>(
 fn fill_to<F: Field>(point: &mut Vec<F>, x: usize) -> Result<(), AllocError>
     requires { x < 2 ^ 32 }
     ensures long { OnOk result (x < vec_len point.new) }
-    ensures same { OnOk result ((y : ℕ) → dense_point F.value point.new.items y ≡ dense_point F.value point.old.items y) }
+    ensures same { OnOk result ((y : ℕ) → dense_point F.value point.new.items y
+        ≡ dense_point F.value point.old.items y) }
 {
     if point.len() <= x {
         point.resize(x + 1, F::of(0))?;
@@ -89,7 +84,8 @@ fn fill_to<F: Field>(point: &mut Vec<F>, x: usize) -> Result<(), AllocError>
 
 /// Gives a coordinate of a point a value.
 fn set_coordinate<F: Field>(point: &mut Vec<F>, x: u32, value: F) -> Result<(), AllocError>
-    ensures { OnOk result ((y : ℕ) → dense_point F.value point.new.items y ≡ (if y == x then F.value value else dense_point F.value point.old.items y)) }
+    ensures { OnOk result ((y : ℕ) → dense_point F.value point.new.items y
+        ≡ (if y == x then F.value value else dense_point F.value point.old.items y)) }
 {
     fill_to(point, x as usize)?;
     point[x as usize] = value;
@@ -99,7 +95,8 @@ fn set_coordinate<F: Field>(point: &mut Vec<F>, x: u32, value: F) -> Result<(), 
 /// The point that gives each of these variables its value, and every other variable 0.
 fn point_of<F: Field>(alloc: Global, vars: &[u32], values: &[F]) -> Result<Vec<F>, AllocError>
     requires { length values.now ≡ length vars.now }
-    ensures { IfOk result (λ v. (x : ℕ) → dense_point F.value v.items x ≡ point_at vars.now (map F.value values.now) x) }
+    ensures { IfOk result (λ v. (x : ℕ) → dense_point F.value v.items x ≡ point_at vars.now (map F.value values.now)
+        x) }
 {
     let mut point = Vec::new(alloc);
     for place in (0..vars.len()).rev() {
@@ -134,7 +131,8 @@ pub fn is_zero<F: Field, O: MonoOrder>(
     vars: &[u32],
     values: &[F],
 ) -> Result<bool, AllocError>
-    ensures { IfOk result (λ yes. IsTrue yes → IsCommonZero F.ORDER (generators lines.now) vars.now (map F.value values.now)) }
+    ensures { IfOk result (λ yes. IsTrue yes → IsCommonZero F.ORDER (generators lines.now) vars.now
+        (map F.value values.now)) }
 {
     if values.len() != vars.len() {
         return Ok(false);
@@ -143,20 +141,16 @@ pub fn is_zero<F: Field, O: MonoOrder>(
     Ok(vanish(lines, &point))
 }
 
-/// The values to which the variables reduce, where these are a common zero of the generators.
+/// The values that the linear lines say, where each variable that is left is 0, if these are a common zero of the generators.
 pub fn zero_at_hand<F: Field, O: MonoOrder>(
     alloc: Global,
-    stack: &mut BasisStack<F, O>,
+    lines: &[Line<F, O>],
     vars: &[u32],
-    linear: &BTreeSet<u32>,
-    meter: &mut Meter,
-) -> Result<Option<Vec<F>>, SearchStop>
-    ensures unchanged { stack.new ≡ stack.old }
-    ensures spent { IsErrOf result stops.Spent → total meter.new ≡ meter.new.budget }
-    ensures takes { Takes meter.old meter.new }
-{
-    let values = values_of(alloc, stack, vars, linear, meter)?;
-    if is_zero(alloc, stack.lines(), vars, &values)? {
+    linear: &Linear,
+) -> Result<Option<Vec<F>>, AllocError> {
+    let point = fill_in(alloc, lines, linear)?;
+    let values = values_of(alloc, vars, point.as_slice())?;
+    if is_zero(alloc, lines, vars, &values)? {
         return Ok(Some(values));
     }
     Ok(None)

@@ -1,6 +1,7 @@
 //! Writing cases by the roots of a polynomial in one variable.
-use crate::choosing::Candidate;
+use crate::choosing::{Candidate, lines_of};
 use crate::emitting::{multiples_of, write_lines};
+use crate::sums::write_sum;
 use crate::tree::Tree;
 use crate::written::{residues, scaled_line, terms_in};
 use ffc_basis::{Line, LineId};
@@ -27,19 +28,6 @@ fn negated<F: Field, O: MonoOrder>(
     Ok(negated)
 }
 
-/// The lines that a candidate is a sum of.
-fn lines_of<F: Field, O: MonoOrder>(
-    alloc: Global,
-    candidate: &Candidate<F, O>,
-) -> Result<Vec<LineId>, AllocError> {
-    let mut lines = Vec::new(alloc);
-    lines.push(candidate.line)?;
-    for part in &candidate.parts {
-        lines.push(part.0)?;
-    }
-    Ok(lines)
-}
-
 /// Writes a candidate as a line, and answers its number.
 fn write_candidate<F: Field, O: MonoOrder>(
     alloc: Global,
@@ -57,7 +45,7 @@ fn write_candidate<F: Field, O: MonoOrder>(
     let parts = negated(alloc, &candidate.parts)?;
     let mut multiples = multiples_of(alloc, tree, &parts)?;
     multiples.push(scaled_line(alloc, number, F::of(1))?)?;
-    tree.write_sum(multiples, None)
+    write_sum(alloc, tree, multiples, None)
 }
 
 /// Writes the chain of a line in x, and answers the number of its power less x.
@@ -99,7 +87,7 @@ fn write_monic<F: Field>(
     };
     let mut multiples = Vec::new(alloc);
     multiples.push(scaled_line(alloc, number, inverse)?)?;
-    tree.write_sum(multiples, None)
+    write_sum(alloc, tree, multiples, None)
 }
 
 /// Writes the product of the x - root from a line in x, and answers its number.
@@ -118,7 +106,7 @@ fn write_product<F: Field>(
     let mut multiples = Vec::new(alloc);
     multiples.push((number, terms_in(alloc, &roots.a, x)?))?;
     multiples.push((power, terms_in(alloc, &roots.b, x)?))?;
-    tree.write_sum(multiples, None)
+    write_sum(alloc, tree, multiples, None)
 }
 
 /// Writes the cases of a candidate's roots. Where it has none, the branch is closed.

@@ -5,15 +5,17 @@ ghost use Rattle.ffc_basis.specs.Units.{Takes};
 ghost use Rattle.ffc_search.specs.declared.stop.SearchStop.TheVariants as stops;
 ghost use Rattle.ffc_search.specs.Above.{StaysAbove};
 
-use crate::branches::{FIRST_SHARE, Walk, branch_by, next_case};
-use crate::choosing::{Candidate, best_candidate};
+use crate::branches::{Walk, branch_by, leave_unneeded, next_case, pop_times};
+use crate::choosing::{Candidate, best_candidate, lines_of};
+use crate::effort::Effort;
 use crate::emitting::write_close;
 use crate::points::zero_at_hand;
 use crate::reducing::units_taken;
 use crate::roots::write_split;
 use crate::stop::SearchStop;
-use crate::survey::{linear_variables, most_used};
+use crate::survey::{Linear, earliest, linear_lines, most_used};
 use crate::tree::Tree;
+use crate::weights::Weights;
 use ffc_base::{Meter, Unit};
 use ffc_basis::{Completion, Progress};
 use ffc_cert::CertLine;
@@ -22,43 +24,9 @@ use ffc_mono::MonoOrder;
 use ffc_roots::roots;
 use ffc_stack::BasisStack;
 use std::alloc::{AllocError, Global};
-use std::collections::BTreeSet;
 
 /// The greatest order whose values are listed in a tree.
 const MOST_VALUES: u64 = 17;
-
-/// How many values of a variable are guessed at first.
-const FIRST_GUESSES: u64 = 4;
-
-/// How many times the share of a branch the guesses of a round may take.
-const GUESS_FACTOR: u64 = 8;
-
-/// How much a round does before it gives up a branch.
-#[derive(Clone, Copy, Debug)]
-pub struct Effort {
-    /// How many units a branch is completed with at most at once.
-    share: u64,
-    /// How many values of a variable are guessed.
-    guesses: u64,
-}
-
-impl Effort {
-    /// The effort of the first round.
-    pub fn first() -> Self {
-        Effort {
-            share: FIRST_SHARE,
-            guesses: FIRST_GUESSES,
-        }
-    }
-
-    /// The effort of the round after one with this effort.
-    pub fn doubled(self) -> Self {
-        Effort {
-            share: self.share.saturating_mul(2),
-            guesses: self.guesses.saturating_mul(2),
-        }
-    }
-}
 
 /// What a round comes to.
 #[derive(Debug, Drop)]
@@ -88,10 +56,12 @@ struct Task {
     floor: u64,
 }
 
-/// Whether and why a branch was given up.
+/// Where a round ends, and whether it was cut short.
 #[derive(Clone, Copy, Debug)]
 struct Limits {
-    /// How many units are taken where guessing ends.
+    /// How many units are taken where the round ends.
+    end: u64,
+    /// How many are taken where guessing ends.
     deadline: Option<u64>,
     /// Whether more effort may help.
     reached: bool,
@@ -122,6 +92,15 @@ fn by_roots<F: Field, O: MonoOrder>(
         return Err(SearchStop::Memory);
     }
     let found = roots(alloc, &candidate.poly, meter)?;
+    if found.zeros.as_slice().is_empty() {
+        let lines = lines_of(alloc, candidate)?;
+        let left = leave_unneeded(alloc, stack, walk, lines.as_slice())?;
+        if walk.proving {
+            write_split(alloc, &mut walk.tree, stack.lines(), candidate, &found)?;
+        }
+        pop_times(stack, left, floor);
+        return Ok(turn_of(next_case(alloc, stack, walk, floor, meter)?));
+    }
     if walk.proving {
         write_split(alloc, &mut walk.tree, stack.lines(), candidate, &found)?;
     }
@@ -159,13 +138,13 @@ fn values_to_try<F: Field, O: MonoOrder>(
     let taken = units_taken(meter);
     let deadline = match limits.deadline {
         Some(deadline) => deadline,
-        None => taken.saturating_add(effort.share.saturating_mul(GUESS_FACTOR)),
+        None => taken.saturating_add(effort.for_guesses()),
     };
     limits.deadline = Some(deadline);
     if taken > deadline {
         return Ok(0);
     }
-    Ok(effort.guesses.min(F::ORDER))
+    Ok(effort.guesses().min(F::ORDER))
 }
 
 /// Goes on by the values of a variable. Where none is left to choose, the branch is given up.
@@ -174,7 +153,7 @@ fn by_values<F: Field, O: MonoOrder>(
     stack: &mut BasisStack<F, O>,
     walk: &mut Walk<F>,
     limits: &mut Limits,
-    linear: &BTreeSet<u32>,
+    linear: &Linear,
     task: Task,
     meter: &mut Meter,
 ) -> Result<Turn<F>, SearchStop>
@@ -182,7 +161,12 @@ fn by_values<F: Field, O: MonoOrder>(
     ensures spent { IsErrOf result stops.Spent → total meter.new ≡ meter.new.budget }
     ensures takes { Takes meter.old meter.new }
 {
-    let Some(x) = most_used(alloc, stack.lines(), linear)? else {
+    let chosen = if task.effort.guesses_by_use() {
+        most_used(alloc, stack.lines(), linear)?
+    } else {
+        earliest(alloc, stack.lines(), linear)?
+    };
+    let Some(x) = chosen else {
         walk.proving = false;
         return Ok(turn_of(next_case(alloc, stack, walk, task.floor, meter)?));
     };
@@ -207,16 +191,12 @@ fn advance<F: Field, O: MonoOrder>(
     ensures spent { IsErrOf result stops.Spent → total meter.new ≡ meter.new.budget }
     ensures takes { Takes meter.old meter.new }
 {
-    let linear = linear_variables(alloc, stack.lines())?;
-    if let Some(candidate) = best_candidate(alloc, stack, &linear, meter)? {
+    let linear = linear_lines(alloc, stack.lines())?;
+    if let Some(candidate) = best_candidate(alloc, stack, &linear, &walk.weights, meter)? {
         return by_roots(alloc, stack, walk, &candidate, task.floor, meter);
     }
-    if let Some(values) = zero_at_hand(alloc, stack, vars, &linear, meter)? {
+    if let Some(values) = zero_at_hand(alloc, stack.lines(), vars, &linear)? {
         return Ok(Turn::Values(values));
-    }
-    if left && walk.share < task.effort.share && stack.depth() > task.floor {
-        walk.share = walk.share.saturating_mul(2);
-        return Ok(Turn::On(stack.go_on(walk.share, meter)?));
     }
     if left {
         limits.reached = true;
@@ -241,9 +221,11 @@ fn take_turn<F: Field, O: MonoOrder>(
 {
     match progress {
         Progress::Done(Completion::Constant(line)) => {
+            let left = leave_unneeded(alloc, stack, walk, &[line])?;
             if walk.proving {
                 write_close(alloc, &mut walk.tree, stack.lines(), line)?;
             }
+            pop_times(stack, left, task.floor);
             Ok(turn_of(next_case(alloc, stack, walk, task.floor, meter)?))
         }
         Progress::Done(_) => advance(alloc, stack, walk, limits, vars, task, false, meter),
@@ -251,54 +233,90 @@ fn take_turn<F: Field, O: MonoOrder>(
     }
 }
 
-/// What a round comes to where no case waits.
-fn outcome_of<F: Field>(walk: Walk<F>, limits: Limits) -> Outcome<F> {
-    if walk.proving {
-        return Outcome::Closed(walk.into_tree().into_lines());
+/// Takes turns until there is a common zero, no case waits, or the round's units are taken. Each turn takes a unit.
+fn take_turns<F: Field, O: MonoOrder>(
+    alloc: Global,
+    stack: &mut BasisStack<F, O>,
+    walk: &mut Walk<F>,
+    limits: &mut Limits,
+    vars: &[u32],
+    task: Task,
+    first: Progress,
+    meter: &mut Meter,
+) -> Result<Option<Vec<F>>, SearchStop>
+    ensures above { StaysAbove task.floor stack.old stack.new }
+    ensures spent { IsErrOf result stops.Spent → total meter.new ≡ meter.new.budget }
+    ensures takes { Takes meter.old meter.new }
+{
+    let mut progress = first;
+    loop {
+        meter.take(Unit::Trial)?;
+        if units_taken(meter) > limits.end {
+            walk.proving = false;
+            limits.reached = true;
+            return Ok(None);
+        }
+        match take_turn(alloc, stack, walk, limits, vars, task, progress, meter)? {
+            Turn::On(next) => progress = next,
+            Turn::Values(values) => return Ok(Some(values)),
+            Turn::Over => return Ok(None),
+        }
     }
-    if limits.reached {
+}
+
+/// What a round comes to.
+fn outcome_of<F: Field>(
+    values: Option<Vec<F>>,
+    proving: bool,
+    reached: bool,
+    tree: Tree,
+) -> Outcome<F> {
+    if let Some(values) = values {
+        Outcome::Values(values)
+    } else if proving {
+        Outcome::Closed(tree.into_lines())
+    } else if reached {
         Outcome::GivenUp
     } else {
         Outcome::Stuck
     }
 }
 
-/// One round, on levels above those that are there. Each turn takes a unit.
+/// One round, on levels above those that are there, with weights that it learns from and adds to.
 pub fn round<F: Field, O: MonoOrder>(
     alloc: Global,
     stack: &mut BasisStack<F, O>,
     vars: &[u32],
     effort: Effort,
+    weights: Weights,
     floor: u64,
     meter: &mut Meter,
-) -> Result<Outcome<F>, SearchStop>
+) -> Result<(Outcome<F>, Weights), SearchStop>
     ensures above { StaysAbove floor stack.old stack.new }
     ensures spent { IsErrOf result stops.Spent → total meter.new ≡ meter.new.budget }
     ensures takes { Takes meter.old meter.new }
 {
     let task = Task { effort, floor };
-    let mut walk = Walk::begin(alloc, Tree::begin(alloc, stack.lines())?);
+    let tree = Tree::begin(alloc, stack.lines())?;
+    let mut walk = Walk::begin(alloc, tree, effort.in_branch(), weights);
     let mut limits = Limits {
+        end: units_taken(meter).saturating_add(effort.allowance()),
         deadline: None,
         reached: false,
     };
     let no_generators = Vec::new(alloc);
-    let mut progress = stack.push_within(no_generators.as_slice(), FIRST_SHARE, meter)?;
-    loop {
-        meter.take(Unit::Trial)?;
-        match take_turn(
-            alloc,
-            stack,
-            &mut walk,
-            &mut limits,
-            vars,
-            task,
-            progress,
-            meter,
-        )? {
-            Turn::On(next) => progress = next,
-            Turn::Values(values) => return Ok(Outcome::Values(values)),
-            Turn::Over => return Ok(outcome_of(walk, limits)),
-        }
-    }
+    let progress = stack.push_within(no_generators.as_slice(), effort.at_root(), meter)?;
+    let values = take_turns(
+        alloc,
+        stack,
+        &mut walk,
+        &mut limits,
+        vars,
+        task,
+        progress,
+        meter,
+    )?;
+    let proving = walk.proving;
+    let (tree, weights) = walk.into_parts();
+    Ok((outcome_of(values, proving, limits.reached, tree), weights))
 }

@@ -13,10 +13,12 @@ ghost use Rattle.ffc_search.specs.Finding.{OnValues, OnClosed, IsCommonZero};
 use crate::accepting::is_accepted;
 use crate::answers::Found;
 use crate::branches::pop_to;
+use crate::effort::Effort;
 use crate::points::is_zero;
 use crate::reducing::spend;
-use crate::rounds::{Effort, Outcome, round};
+use crate::rounds::{Outcome, round};
 use crate::stop::SearchStop;
+use crate::weights::Weights;
 use ffc_base::{Meter, Unit};
 use ffc_basis::Line;
 use ffc_field::Field;
@@ -39,12 +41,15 @@ fn attempt<F: Field, O: MonoOrder>(
     ensures takes { Takes meter.old meter.new }
 {
     let mut effort = Effort::first();
+    let mut weights = Weights::new(alloc);
     loop {
         meter.take(Unit::Trial)?;
-        match round(alloc, stack, vars, effort, floor, meter)? {
+        let (outcome, learned) = round(alloc, stack, vars, effort, weights, floor, meter)?;
+        weights = learned;
+        match outcome {
             Outcome::Values(values) => return Ok(Found::Values(Elements::new(values))),
             Outcome::Closed(lines) => return Ok(Found::Closed(lines)),
-            Outcome::GivenUp => effort = effort.doubled(),
+            Outcome::GivenUp => effort = effort.next(),
             Outcome::Stuck => {
                 spend(meter);
                 return Err(SearchStop::Spent);
@@ -61,8 +66,11 @@ fn is_right<F: Field, O: MonoOrder>(
     vars: &[u32],
     found: &Found<F>,
 ) -> Result<bool, AllocError>
-    ensures values { IfOk result (λ yes. IsTrue yes → OnValues found.now (IsCommonZero F.ORDER (generators lines.now) vars.now)) }
-    ensures closed { IfOk result (λ yes. IsTrue yes → OnClosed found.now (λ tree. tree_read limits F.ORDER (generators lines.now) tree ≡ Ok [])) }
+    ensures values { IfOk result
+        (λ yes. IsTrue yes → OnValues found.now (IsCommonZero F.ORDER (generators lines.now) vars.now)) }
+    ensures closed { IfOk result
+        (λ yes. IsTrue yes → OnClosed found.now (λ tree. tree_read limits F.ORDER (generators lines.now) tree
+        ≡ Ok [])) }
 {
     match found {
         Found::Values(values) => is_zero(alloc, lines, vars, values.as_slice()),
@@ -83,9 +91,12 @@ pub fn search<F: Field, O: MonoOrder>(
     vars: &[u32],
     meter: &mut Meter,
 ) -> Result<Found<F>, SearchStop>
-    ensures values { IfOk result (λ found. OnValues found (IsCommonZero F.ORDER (generators stack.old.lines) vars.now)) }
-    ensures closed { IfOk result (λ found. OnClosed found (λ tree. tree_read limits F.ORDER (generators stack.old.lines) tree ≡ Ok [])) }
-    ensures closes { IfOk result (λ found. OnClosed found (λ tree. Closes limits F.ORDER (generators stack.old.lines) tree [])) }
+    ensures values { IfOk result
+        (λ found. OnValues found (IsCommonZero F.ORDER (generators stack.old.lines) vars.now)) }
+    ensures closed { IfOk result
+        (λ found. OnClosed found (λ tree. tree_read limits F.ORDER (generators stack.old.lines) tree ≡ Ok [])) }
+    ensures closes { IfOk result
+        (λ found. OnClosed found (λ tree. Closes limits F.ORDER (generators stack.old.lines) tree [])) }
     ensures unchanged { stack.new ≡ stack.old }
     ensures spent { IsErrOf result stops.Spent → total meter.new ≡ meter.new.budget }
     ensures takes { Takes meter.old meter.new }

@@ -4,7 +4,7 @@ use ffc_field::Field;
 use ffc_mono::{MonoOrder, MonoRef};
 use ffc_poly::Poly;
 use std::alloc::{AllocError, Global};
-use std::collections::{BTreeMap, BTreeSet};
+use std::collections::BTreeMap;
 
 /// How many terms a short line has at most.
 const SHORT: usize = 8;
@@ -23,18 +23,34 @@ pub fn leading_power<F: Field, O: MonoOrder>(poly: &Poly<F, O>) -> Option<(u32, 
     }
 }
 
-/// The variables that are leading monomials of lines: reduction replaces them by others.
-pub fn linear_variables<F: Field, O: MonoOrder>(
+/// The variables that are leading monomials of lines, each with the place and the length of its shortest line: reduction
+/// replaces them.
+pub type Linear = BTreeMap<u32, (usize, usize)>;
+
+/// The variables that reduction replaces, with their lines.
+pub fn linear_lines<F: Field, O: MonoOrder>(
     alloc: Global,
     lines: &[Line<F, O>],
-) -> Result<BTreeSet<u32>, AllocError> {
-    let mut linear = BTreeSet::new(alloc);
-    for line in lines {
+) -> Result<Linear, AllocError> {
+    let mut linear = BTreeMap::new(alloc);
+    for (place, line) in lines.iter().enumerate() {
         if let Some((x, 1)) = leading_power(&line.poly) {
-            linear.insert(x)?;
+            let len = line.poly.len();
+            let known = linear.get(&x).copied();
+            if is_shorter(len, known) {
+                linear.insert(x, (place, len))?;
+            }
         }
     }
     Ok(linear)
+}
+
+/// Whether a line is shorter than a known one, if there is one.
+fn is_shorter(len: usize, known: Option<(usize, usize)>) -> bool {
+    match known {
+        Some((_, shortest)) => len < shortest,
+        None => true,
+    }
 }
 
 /// How often variables occur, with weights.
@@ -64,10 +80,10 @@ fn count_polynomial<F: Field, O: MonoOrder>(
 
 /// The variable of the greatest use among those that are not linear, the highest of them: in an order that is graded by
 /// reverse lexicographic comparison it leads last, and lines rather say what others are by it.
-fn greatest_use(uses: &Uses, linear: &BTreeSet<u32>) -> Option<u32> {
+fn greatest_use(uses: &Uses, linear: &Linear) -> Option<u32> {
     let mut best: Option<(u32, u64)> = None;
     for (x, count) in uses.iter() {
-        if linear.contains(x) {
+        if linear.contains_key(x) {
             continue;
         }
         let more = match best {
@@ -85,11 +101,35 @@ fn greatest_use(uses: &Uses, linear: &BTreeSet<u32>) -> Option<u32> {
 pub fn most_used<F: Field, O: MonoOrder>(
     alloc: Global,
     lines: &[Line<F, O>],
-    linear: &BTreeSet<u32>,
+    linear: &Linear,
 ) -> Result<Option<u32>, AllocError> {
     let mut uses = BTreeMap::new(alloc);
     for line in lines {
         count_polynomial(&mut uses, &line.poly)?;
     }
     Ok(greatest_use(&uses, linear))
+}
+
+/// The variable that leads last among those that occur in products, and that reduction does not replace: what a circuit is
+/// given comes before what it computes.
+pub fn earliest<F: Field, O: MonoOrder>(
+    alloc: Global,
+    lines: &[Line<F, O>],
+    linear: &Linear,
+) -> Result<Option<u32>, AllocError> {
+    let mut uses = BTreeMap::new(alloc);
+    for line in lines {
+        count_polynomial(&mut uses, &line.poly)?;
+    }
+    let mut last = None;
+    let mut free = None;
+    for (x, count) in uses.iter() {
+        if !linear.contains_key(x) {
+            free = Some(*x);
+            if *count > 0 {
+                last = Some(*x);
+            }
+        }
+    }
+    Ok(last.or(free))
 }

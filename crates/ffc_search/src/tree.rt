@@ -1,6 +1,6 @@
 //! The tree that is written, and the numbers that lines have in it.
 use ffc_basis::{Line, LineId};
-use ffc_cert::{CertLine, Multiple, Sequence};
+use ffc_cert::CertLine;
 use ffc_field::Field;
 use ffc_mono::MonoOrder;
 use std::alloc::{AllocError, Global};
@@ -100,19 +100,19 @@ impl Tree {
         }
     }
 
+    /// How many lines were written.
+    pub fn written(&self) -> usize {
+        self.written.len()
+    }
+
+    /// Takes back what was written after so many lines.
+    pub fn take_back(&mut self, written: usize) {
+        self.written.truncate(written);
+    }
+
     /// Writes a line that adds nothing to the branch.
     pub fn write(&mut self, line: CertLine) -> Result<(), AllocError> {
         self.written.push(line)?;
         Ok(())
-    }
-
-    /// Writes a sum of multiples, and answers its number.
-    pub fn write_sum(
-        &mut self,
-        multiples: Vec<Multiple>,
-        line: Option<LineId>,
-    ) -> Result<u32, AllocError> {
-        self.write(CertLine::Combine(Sequence::from_vec(multiples)))?;
-        self.place(line)
     }
 }

@@ -1,4 +1,4 @@
-use Rattle.std.proofs.Common.{◌≡◌, ◌<◌, ◌++◌, length, sym, ap, ◌∙◌, subst, arith}
+use Rattle.std.proofs.Common.{◌≡◌, ◌++◌, sym, ap, ◌∙◌, subst, arith}
 use Rattle.ffc_ring.specs.Polynomial.{AreTerms}
 use Rattle.ffc_ckpoly.specs.Flat.{as_written}
 use Rattle.ffc_search.proofs.TreeLemmas.{written_whole, term_written, ordered_terms, same_line, low_line}

@@ -2,8 +2,8 @@ use Rattle.std.proofs.Common.{◌≡◌}
 use Rattle.ffc_basis.specs.Units.{Takes}
 use Rattle.ffc_search.proofs.choosing.best_candidate.Given as goal
 
-abbrev pub invariant-loop-place : goal.invariant-loop-place
-invariant-loop-place g l = record {
+abbrev pub invariant-loop-x : goal.invariant-loop-x
+invariant-loop-x g l = record {
   same : l.stack ≡ l.fn.stack;
   takes : Takes l.fn.meter l.meter;
 }

@@ -1,4 +1,4 @@
-use Rattle.std.proofs.Common.{◌≡◌, length, map, sym, ap, ◌∙◌, arith}
+use Rattle.std.proofs.Common.{map, sym, ap, ◌∙◌, arith}
 use Rattle.ffc_poly.specs.Ordered.{point_of}
 use Rattle.ffc_roots.proofs.Lists.{length-residues}
 use Rattle.ffc_stack.specs.Stacks.{generators}

@@ -4,11 +4,11 @@ use Rattle.ffc_basis.specs.Units.{Takes}
 use Rattle.ffc_search.specs.Above.{StaysAbove}
 use Rattle.ffc_search.proofs.searching.attempt.Given as goal
 
-abbrev pub invariant-loop-stack : goal.invariant-loop-stack
-invariant-loop-stack g l = record {
+abbrev pub invariant-loop-weights : goal.invariant-loop-weights
+invariant-loop-weights g l = record {
   above : StaysAbove l.floor l.fn.stack l.stack;
   takes : Takes l.fn.meter l.meter;
 }
 
-abbrev pub decreases-loop-stack : goal.decreases-loop-stack
-decreases-loop-stack g l = l.meter.budget - total l.meter
+abbrev pub decreases-loop-weights : goal.decreases-loop-weights
+decreases-loop-weights g l = l.meter.budget - total l.meter

@@ -2,11 +2,11 @@ use Rattle.std.proofs.Common.{◌-◌}
 use Rattle.ffc_base.specs.Metering.{total}
 use Rattle.ffc_basis.specs.Units.{Takes}
 use Rattle.ffc_search.specs.Above.{StaysAbove}
-use Rattle.ffc_search.proofs.rounds.round.Given as goal
+use Rattle.ffc_search.proofs.rounds.take_turns.Given as goal
 
 abbrev pub invariant-loop-progress : goal.invariant-loop-progress
 invariant-loop-progress g l = record {
-  above : StaysAbove l.floor l.fn.stack l.stack;
+  above : StaysAbove l.task.floor l.fn.stack l.stack;
   takes : Takes l.fn.meter l.meter;
 }
 

@@ -1,9 +1,0 @@
-use Rattle.std.proofs.Common.{◌≡◌}
-use Rattle.ffc_basis.specs.Units.{Takes}
-use Rattle.ffc_search.proofs.points.values_of.Given as goal
-
-abbrev pub invariant-loop-x : goal.invariant-loop-x
-invariant-loop-x g l = record {
-  same : l.stack ≡ l.fn.stack;
-  takes : Takes l.fn.meter l.meter;
-}
