@@ -13,3 +13,8 @@ of_cdcl cdcl.Memory = Memory
 abbrev pub of_basis : BasisStop → EngineStop
 of_basis basis.Spent = Spent
 of_basis basis.Memory = Memory
+
+-- why a search stops in whose theory the engine stops
+abbrev pub in_search : EngineStop → CdclStop
+in_search Spent = cdcl.Spent
+in_search Memory = cdcl.Memory

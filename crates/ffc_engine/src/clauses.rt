@@ -1,51 +1,23 @@
 //! The clauses of a check, with the line of a certificate that each one is.
-ghost use Rattle.std.specs.Prelude.{◌≡◌, [], IsErrOf};
+ghost use Rattle.std.specs.Prelude.{◌≡◌, IsErrOf};
 ghost use Rattle.ffc_base.specs.Metering.{total};
 ghost use Rattle.ffc_basis.specs.Units.{Takes};
 ghost use Rattle.ffc_term.specs.Checks.{IsValidCheck};
+ghost use Rattle.ffc_cdcl.specs.State.{AreListed};
 ghost use Rattle.ffc_cdcl.specs.declared.theory.CdclStop.TheVariants as stops;
+ghost use Rattle.ffc_engine.specs.declared.stop.EngineStop.TheVariants as engine;
 
 use crate::entry::is_proved;
 use crate::lemma::Lemma;
-use crate::theory::Agreeing;
+use crate::origin::{Origin, Origins};
+use crate::stop::EngineStop;
+use crate::theory::FieldTheory;
 use ffc_base::Meter;
 use ffc_cdcl::{CdclStop, HintedClause, Lit, Literals, Outcome, Solver};
-use ffc_cert::CertLine;
+use ffc_cert::Entry;
 use ffc_encode::{NodeClause, clauses_of};
 use ffc_term::{Check, NodeId};
 use std::alloc::{AllocError, Global};
-
-/// Where a clause is from.
-#[derive(Drop)]
-pub enum Origin {
-    /// The assertion of this number.
-    Assertion(u32),
-    /// A node's scheme: the node, the scheme, the index.
-    Scheme(NodeId, u32, u32),
-    Lemma(Lemma),
-    /// Equalities that were set aside undecided: the clause keeps the search from them, and nothing may rest on it.
-    SetAside,
-}
-
-impl Origin {
-    /// Whether a refutation may rest on the clause.
-    pub fn is_proved(&self) -> bool {
-        !matches!(self, Origin::SetAside)
-    }
-
-    /// Appends the lines of the clause, if it has some.
-    pub fn append_to(self, alloc: Global, lines: &mut Vec<CertLine>) -> Result<(), AllocError> {
-        match self {
-            Origin::Assertion(number) => lines.push(CertLine::Assume(number))?,
-            Origin::Scheme(node, scheme, index) => {
-                lines.push(CertLine::Scheme(node, scheme, index))?
-            }
-            Origin::Lemma(lemma) => lemma.append_to(alloc, lines)?,
-            Origin::SetAside => {}
-        }
-        Ok(())
-    }
-}
 
 /// What is known once the clauses are refuted.
 #[derive(Clone, Copy, Debug, PartialEq, Eq)]
@@ -58,27 +30,28 @@ pub enum Standing {
     Open,
 }
 
-/// A solver with where each of its clauses is from, by the clause's number.
+/// A solver with a theory, and where each of its clauses is from, by the clause's number.
 #[derive(Drop)]
-pub struct Clauses {
+pub struct Clauses<'a> {
     alloc: Global,
     solver: Solver,
     origins: Vec<Origin>,
-    /// Whether something was set aside that more units may decide.
-    unfinished: bool,
-    ghost no_lemmas: { solver.lemmas ≡ [] },
+    theory: FieldTheory<'a>,
+    ghost listed: { AreListed theory.clauses.items solver.lemmas },
 }
 
-impl Clauses {
-    /// The clauses of a check: each assertion, and the schemes of all its nodes.
-    pub fn of(alloc: Global, check: &Check) -> Result<Self, AllocError>
-        requires valid { IsValidCheck check.now.table.now check.now.declared.now check.now.in_force.now check.now.first_order }
+impl<'a> Clauses<'a> {
+    /// The clauses of a check: each assertion, and the schemes of all its nodes. The equalities of one field on one trail may
+    /// take a share of units.
+    pub fn of(alloc: Global, check: &Check<'a>, share: u64) -> Result<Clauses<'a>, AllocError>
+        requires valid { IsValidCheck check.now.table.now check.now.declared.now check.now.in_force.now
+            check.now.first_order }
     {
         let mut clauses = Clauses {
             alloc,
             solver: Solver::new(alloc, check.table.len())?,
             origins: Vec::new(alloc),
-            unfinished: false,
+            theory: FieldTheory::new(alloc, check, share)?,
         };
         clauses.add_assertions(check.in_force)?;
         let nodes = check.table.nodes_of(check.in_force)?;
@@ -123,29 +96,14 @@ impl Clauses {
     }
 
     /// Adds a lemma.
-    pub fn add_lemma(&mut self, lemma: Lemma) -> Result<(), AllocError> {
+    fn add_lemma(&mut self, lemma: Lemma) -> Result<(), AllocError> {
         let lits = Literals::copied(self.alloc, lemma.lits.as_slice())?;
         self.add(lits.as_slice(), Origin::Lemma(lemma))
     }
 
-    /// Keeps the search from equalities that were not decided. With `unfinished` more units may decide them.
-    pub fn set_aside(&mut self, equalities: &[Lit], unfinished: bool) -> Result<(), AllocError> {
-        let mut lits = Literals::new(self.alloc);
-        for equality in equalities {
-            lits.push(equality.negated())?;
-        }
-        self.add(lits.as_slice(), Origin::SetAside)?;
-        self.unfinished = self.unfinished || unfinished;
-        Ok(())
-    }
-
-    /// Forgets what was set aside. Lemmas are kept.
-    pub fn renew(&mut self, check: &Check) -> Result<(), AllocError>
-        requires valid { IsValidCheck check.now.table.now check.now.declared.now check.now.in_force.now check.now.first_order }
-    {
-        let fresh = Clauses::of(self.alloc, check)?;
-        let old = std::mem::replace(self, fresh);
-        for origin in old.into_origins() {
+    /// Adds those clauses that are lemmas.
+    fn add_lemmas(&mut self, origins: Vec<Origin>) -> Result<(), AllocError> {
+        for origin in origins {
             if let Origin::Lemma(lemma) = origin {
                 self.add_lemma(lemma)?;
             }
@@ -153,34 +111,64 @@ impl Clauses {
         Ok(())
     }
 
+    /// Forgets what was set aside, and doubles the share. Lemmas are kept.
+    pub fn renew(&mut self, check: &Check<'a>) -> Result<(), AllocError>
+        requires valid { IsValidCheck check.now.table.now check.now.declared.now check.now.in_force.now
+            check.now.first_order }
+    {
+        let share = self.theory.share().saturating_mul(2);
+        let fresh = Clauses::of(self.alloc, check, share)?;
+        let old = std::mem::replace(self, fresh);
+        let Origins { added, lemmas } = old.into_origins();
+        self.add_lemmas(added)?;
+        self.add_lemmas(lemmas)
+    }
+
     /// What is known where these steps refute the clauses.
     pub fn standing(&self, steps: &[HintedClause]) -> Result<Standing, AllocError> {
-        if is_proved(self.alloc, self.origins.as_slice(), steps)? {
+        let lemmas = self.theory.origins();
+        if is_proved(self.alloc, self.origins.as_slice(), lemmas, steps)? {
             return Ok(Standing::Proved);
         }
-        if self.unfinished {
+        if self.theory.is_unfinished() {
             Ok(Standing::Unfinished)
         } else {
             Ok(Standing::Open)
         }
     }
 
-    /// A trail that makes all clauses true, or a refutation.
+    /// A trail that makes all clauses true and on which the theory agreed, or a refutation.
     pub fn solve(&mut self, meter: &mut Meter) -> Result<Outcome, CdclStop>
         ensures spent { IsErrOf result stops.Spent → total meter.new ≡ meter.new.budget }
         ensures takes { Takes meter.old meter.new }
     {
-        self.solver.solve(&mut Agreeing, meter)
+        self.solver.solve(&mut self.theory, meter)
     }
 
-    /// Where the clauses are from, by number.
-    pub fn into_origins(self) -> Vec<Origin> {
+    /// The model that the theory found, if it did.
+    pub fn take_model(&mut self) -> Option<Entry> {
+        self.theory.take_model()
+    }
+
+    /// The model that the trail leads to that makes all clauses true, where the theory has not judged it.
+    pub fn judge_last(&mut self, meter: &mut Meter) -> Result<Option<Entry>, EngineStop>
+        ensures spent { IsErrOf result engine.Spent → total meter.new ≡ meter.new.budget }
+        ensures takes { Takes meter.old meter.new }
+    {
+        self.theory.judge_last(meter)
+    }
+
+    /// Where the clauses are from.
+    pub fn into_origins(self) -> Origins {
         let Clauses {
             alloc: _,
             solver: _,
             origins,
-            unfinished: _,
+            theory,
         } = self;
-        origins
+        Origins {
+            added: origins,
+            lemmas: theory.into_origins(),
+        }
     }
 }

@@ -1,6 +1,6 @@
 //! Refutations as entries of a certificate.
-use crate::clauses::Origin;
 use crate::lemma::listed;
+use crate::origin::{Origin, Origins};
 use ffc_cdcl::{Hint, HintedClause};
 use ffc_cert::{CertLine, Entry, Sequence};
 use std::alloc::{AllocError, Global};
@@ -9,6 +9,7 @@ use std::alloc::{AllocError, Global};
 #[derive(Drop)]
 struct Used {
     added: Vec<bool>,
+    lemmas: Vec<bool>,
     steps: Vec<bool>,
 }
 
@@ -28,9 +29,16 @@ fn is_marked(marks: &Vec<bool>, place: usize) -> bool {
 }
 
 impl Used {
-    fn of(alloc: Global, added: usize, steps: &[HintedClause]) -> Result<Self, AllocError> {
+    /// Of so many added clauses and lemmas.
+    fn of(
+        alloc: Global,
+        added: usize,
+        lemmas: usize,
+        steps: &[HintedClause],
+    ) -> Result<Self, AllocError> {
         let mut used = Used {
             added: vec![in alloc; false; added]?,
+            lemmas: vec![in alloc; false; lemmas]?,
             steps: vec![in alloc; false; steps.len()]?,
         };
         if let Some(last) = used.steps.last_mut() {
@@ -48,26 +56,32 @@ impl Used {
         for hint in hints {
             match hint {
                 Hint::Added(k) => mark(&mut self.added, *k),
+                Hint::Lemma(k) => mark(&mut self.lemmas, *k),
                 Hint::Step(k) => mark(&mut self.steps, *k),
-                Hint::Lemma(_) => {}
             }
         }
     }
 }
 
-/// Whether the last of these steps rests on proved clauses alone.
-pub fn is_proved(
-    alloc: Global,
-    origins: &[Origin],
-    steps: &[HintedClause],
-) -> Result<bool, AllocError> {
-    let used = Used::of(alloc, origins.len(), steps)?;
+/// Whether marked clauses are proved.
+fn are_proved(origins: &[Origin], marks: &Vec<bool>) -> bool {
     for (k, origin) in origins.iter().enumerate() {
-        if is_marked(&used.added, k) && !origin.is_proved() {
-            return Ok(false);
+        if is_marked(marks, k) && !origin.is_proved() {
+            return false;
         }
     }
-    Ok(true)
+    true
+}
+
+/// Whether the last of these steps rests on proved clauses alone, where these are the added ones and the lemmas.
+pub fn is_proved(
+    alloc: Global,
+    added: &[Origin],
+    lemmas: &[Origin],
+    steps: &[HintedClause],
+) -> Result<bool, AllocError> {
+    let used = Used::of(alloc, added.len(), lemmas.len(), steps)?;
+    Ok(are_proved(added, &used.added) && are_proved(lemmas, &used.lemmas))
 }
 
 /// The lines of an entry so far, and the numbers of its clauses.
@@ -78,6 +92,8 @@ struct Writer {
     clauses: u32,
     /// Of each added clause so far, its number in the entry.
     added: Vec<Option<u32>>,
+    /// Of each lemma so far.
+    lemmas: Vec<Option<u32>>,
     /// Of each step so far.
     steps: Vec<Option<u32>>,
 }
@@ -97,6 +113,7 @@ impl Writer {
             lines: Vec::new(alloc),
             clauses: 0,
             added: Vec::new(alloc),
+            lemmas: Vec::new(alloc),
             steps: Vec::new(alloc),
         }
     }
@@ -108,13 +125,30 @@ impl Writer {
         number
     }
 
-    fn add_origin(&mut self, used: &Used, origin: Origin) -> Result<(), AllocError> {
-        let mut number = None;
-        if is_marked(&used.added, self.added.len()) {
-            number = Some(self.next_number());
-            origin.append_to(self.alloc, &mut self.lines)?;
+    /// Writes the lines of a clause, where it is used, and gives its number.
+    fn write(&mut self, is_used: bool, origin: Origin) -> Result<Option<u32>, AllocError> {
+        if !is_used {
+            return Ok(None);
         }
-        self.added.push(number)?;
+        origin.append_to(self.alloc, &mut self.lines)?;
+        Ok(Some(self.next_number()))
+    }
+
+    fn add_clauses(&mut self, used: &Used, origins: Vec<Origin>) -> Result<(), AllocError> {
+        for origin in origins {
+            let is_used = is_marked(&used.added, self.added.len());
+            let number = self.write(is_used, origin)?;
+            self.added.push(number)?;
+        }
+        Ok(())
+    }
+
+    fn add_lemmas(&mut self, used: &Used, origins: Vec<Origin>) -> Result<(), AllocError> {
+        for origin in origins {
+            let is_used = is_marked(&used.lemmas, self.lemmas.len());
+            let number = self.write(is_used, origin)?;
+            self.lemmas.push(number)?;
+        }
         Ok(())
     }
 
@@ -124,8 +158,8 @@ impl Writer {
         for hint in hints {
             let number = match hint {
                 Hint::Added(k) => number_at(&self.added, *k),
+                Hint::Lemma(k) => number_at(&self.lemmas, *k),
                 Hint::Step(k) => number_at(&self.steps, *k),
-                Hint::Lemma(_) => None,
             };
             match number {
                 Some(number) => numbers.push(number)?,
@@ -151,18 +185,18 @@ impl Writer {
     }
 }
 
-/// The entry of a refutation, with those of the added clauses and of the steps that its last step rests on. None where a hint
-/// names no clause.
+/// The entry of a refutation, with those of the added clauses, of the lemmas and of the steps that its last step rests on. None
+/// where a hint names no clause.
 pub fn refutation(
     alloc: Global,
-    origins: Vec<Origin>,
+    origins: Origins,
     steps: &[HintedClause],
 ) -> Result<Option<Entry>, AllocError> {
-    let used = Used::of(alloc, origins.len(), steps)?;
+    let Origins { added, lemmas } = origins;
+    let used = Used::of(alloc, added.len(), lemmas.len(), steps)?;
     let mut writer = Writer::new(alloc);
-    for origin in origins {
-        writer.add_origin(&used, origin)?;
-    }
+    writer.add_clauses(&used, added)?;
+    writer.add_lemmas(&used, lemmas)?;
     for step in steps {
         if !writer.add_step(&used, step)? {
             return Ok(None);
@@ -173,6 +207,7 @@ pub fn refutation(
         lines,
         clauses: _,
         added: _,
+        lemmas: _,
         steps: _,
     } = writer;
     Ok(Some(Entry::UnsatSteps(Sequence::from_vec(lines))))

@@ -5,6 +5,7 @@ ghost use Rattle.ffc_basis.specs.Units.{Takes};
 ghost use Rattle.ffc_engine.specs.declared.stop.EngineStop.TheVariants as stops;
 
 use crate::generators::{Generator, GeneratorStop, differences, with_inverse};
+use crate::groups::{Group, groups_of};
 use crate::ranking::Ranking;
 use crate::stop::EngineStop;
 use ffc_base::{Meter, Spent, Unit};
@@ -19,8 +20,8 @@ use ffc_term::NodeTable;
 use std::alloc::{AllocError, Global};
 
 /// Of the units that are left, the equalities that hold are completed with at most one part in each of these, one after the
-/// other.
-const PARTS: [u64; 3] = [64, 16, 4];
+/// other; with none at first, which does what simplifies them.
+const PARTS: [u64; 3] = [0, 64, 16];
 
 /// Of the units that are left, the other equalities are completed with at most one part in this many.
 const LAST_PARTS: u64 = 4;
@@ -123,6 +124,9 @@ fn settle<F: Field>(
 ) -> Result<Finding, GeneratorStop> {
     stack.push_within(equal, 0, meter)?;
     let mut found = Finding::Open(Vec::new(alloc));
+    if unequal.is_empty() {
+        return Ok(found);
+    }
     for parts in PARTS {
         let progress = stack.go_on(part_of_left(meter, parts), meter)?;
         if let Progress::Done(Completion::Constant(_)) = progress {
@@ -184,19 +188,33 @@ impl Problem<'_> {
         }
         Ok(gens)
     }
-    /// Pushes the generators of those equalities that say that sides with these differences are not equal.
-    fn push_unequal<F: Field>(
+    /// The stack to search, where `stack` has the lines of the equalities that hold, completed as far as they were looked at,
+    /// and `found` is what these say of the others. Nothing is kept of that completion but where two sides are equal: a search
+    /// by cases is better off without long lines.
+    fn prepared<F: Field>(
         self,
-        stack: &mut BasisStack<F, GradedReverseLex>,
-        unequal: &[Generator<F>],
-        places: &[usize],
+        mut stack: BasisStack<F, GradedReverseLex>,
+        sides: (&[Generator<F>], &[Generator<F>]),
+        found: Finding,
         ranking: &Ranking,
         chosen: &mut Vec<Lit>,
         meter: &mut Meter,
-    ) -> Result<(), GeneratorStop> {
-        let gens = self.append_unequal(unequal, places, ranking, chosen)?;
-        stack.push_within(gens.as_slice(), part_of_left(meter, LAST_PARTS), meter)?;
-        Ok(())
+    ) -> Result<BasisStack<F, GradedReverseLex>, GeneratorStop> {
+        let (equal, unequal) = sides;
+        match found {
+            Finding::Refuted => {}
+            Finding::Equal(place) => {
+                let gens = self.append_unequal(unequal, &[place], ranking, chosen)?;
+                stack.push_within(gens.as_slice(), part_of_left(meter, LAST_PARTS), meter)?;
+            }
+            Finding::Open(places) => {
+                let gens = self.append_unequal(unequal, places.as_slice(), ranking, chosen)?;
+                stack = BasisStack::new(self.alloc);
+                stack.push_within(equal, 0, meter)?;
+                stack.push_within(gens.as_slice(), 0, meter)?;
+            }
+        }
+        Ok(stack)
     }
 
     /// Searches for values, where these are the differences of the equalities' sides in ranks.
@@ -213,16 +231,9 @@ impl Problem<'_> {
         }
         let (equal, unequal) = polys.split_at(count);
         let mut stack = BasisStack::new(self.alloc);
-        match settle(self.alloc, &mut stack, equal, unequal, meter)? {
-            Finding::Refuted => {}
-            Finding::Equal(place) => {
-                self.push_unequal(&mut stack, unequal, &[place], &ranking, &mut chosen, meter)?
-            }
-            Finding::Open(places) => {
-                let places = places.as_slice();
-                self.push_unequal(&mut stack, unequal, places, &ranking, &mut chosen, meter)?
-            }
-        }
+        let found = settle(self.alloc, &mut stack, equal, unequal, meter)?;
+        let sides = (equal, unequal);
+        let mut stack = self.prepared(stack, sides, found, &ranking, &mut chosen, meter)?;
         let ranks = ranking.ranks(self.alloc)?;
         match search(self.alloc, &mut stack, ranks.as_slice(), meter)? {
             Found::Values(values) => {
@@ -233,17 +244,65 @@ impl Problem<'_> {
         }
     }
 
-    /// The answer over the field `F`, on its own units.
-    fn searched<F: Field>(self, meter: &mut Meter) -> Result<Answer, GeneratorStop> {
-        let polys = differences::<F>(self.alloc, self.table, self.equalities)?;
+    /// The answer for equalities with these differences.
+    fn answer_group<F: Field>(
+        self,
+        polys: &[Generator<F>],
+        meter: &mut Meter,
+    ) -> Result<Answer, GeneratorStop> {
         let holding = holding(self.alloc, self.equalities)?.len();
         let Some(first) = inverse_of(self.table.len(), holding) else {
             return Err(GeneratorStop::Over);
         };
         let inverses = polys.len().saturating_sub(holding);
-        let ranking = Ranking::of(self.alloc, polys.as_slice(), first, inverses)?;
-        let ranked = ranking.ranked(self.alloc, polys.as_slice())?;
+        let ranking = Ranking::of(self.alloc, polys, first, inverses)?;
+        let ranked = ranking.ranked(self.alloc, polys)?;
         self.answer(ranked.as_slice(), ranking, meter)
+    }
+
+    /// The answer for one group, within these units.
+    fn answer_within<F: Field>(
+        self,
+        group: &Group<F>,
+        units: u64,
+        meter: &mut Meter,
+    ) -> Result<Answer, GeneratorStop> {
+        let mut own = Meter::new(units.min(units_left(meter)));
+        let problem = Problem {
+            equalities: group.equalities.as_slice(),
+            ..self
+        };
+        let answer = problem.answer_group(group.polys.as_slice(), &mut own);
+        charge(meter, &own)?;
+        match answer {
+            Err(GeneratorStop::Spent) => Ok(Answer::Unfinished),
+            Err(GeneratorStop::Over) => Ok(Answer::Over),
+            answer => answer,
+        }
+    }
+
+    /// The answer over the field `F`, on its own units: group by group. Each group but the last one takes at most half of the
+    /// units that are left.
+    fn searched<F: Field>(self, meter: &mut Meter) -> Result<Answer, GeneratorStop> {
+        let polys = differences::<F>(self.alloc, self.table, self.equalities)?;
+        let groups = groups_of(self.alloc, self.equalities, polys)?;
+        let mut values = Vec::new(self.alloc);
+        let mut undecided = None;
+        for (k, group) in groups.iter().enumerate() {
+            let is_last = k.saturating_add(1) >= groups.len();
+            let units = part_of_left(meter, if is_last { 1 } else { 2 });
+            match self.answer_within(group, units, meter)? {
+                Answer::Values(pairs) => values.extend_from_slice(pairs.as_slice())?,
+                Answer::Closed(chosen, ranking, tree) => {
+                    return Ok(Answer::Closed(chosen, ranking, tree));
+                }
+                other => undecided = Some(other),
+            }
+        }
+        match undecided {
+            Some(answer) => Ok(answer),
+            None => Ok(Answer::Values(values)),
+        }
     }
 
     /// The answer over the field `F`.

@@ -1,8 +1,11 @@
 //! What equalities say as polynomials that are zero.
+ghost use Rattle.std.specs.Prelude.{◌≡◌};
+
 use crate::equalities::{is_of_order, sides};
+use ffc_base::Spent;
 use ffc_basis::BasisStop;
 use ffc_cdcl::Lit;
-use ffc_encode::{EncodeStop, poly_of};
+use ffc_encode::{EncodeStop, Polynomials};
 use ffc_field::Field;
 use ffc_mono::{GradedReverseLex, Mono, MonoStop};
 use ffc_poly::{Poly, PolyStop};
@@ -63,6 +66,12 @@ impl From<MonoStop> for GeneratorStop {
     }
 }
 
+impl From<Spent> for GeneratorStop {
+    fn from(_: Spent) -> GeneratorStop {
+        GeneratorStop::Spent
+    }
+}
+
 impl From<BasisStop> for GeneratorStop {
     fn from(stop: BasisStop) -> GeneratorStop {
         match stop {
@@ -82,30 +91,27 @@ impl From<SearchStop> for GeneratorStop {
     }
 }
 
-/// The polynomial of a field node.
-fn node_poly<F: Field>(
-    alloc: Global,
-    table: &NodeTable,
-    id: NodeId,
-) -> Result<Generator<F>, GeneratorStop> {
-    if !is_of_order(table, F::ORDER, id) {
-        return Err(GeneratorStop::Over);
-    }
-    Ok(poly_of::<F, GradedReverseLex>(alloc, table, id)?)
-}
-
-/// One side of an equality minus the other.
+/// One side of an equality minus the other. Polynomials of nodes that were made before are not made again.
 fn difference<F: Field>(
-    alloc: Global,
+    polys: &mut Polynomials<'_, F, GradedReverseLex>,
     table: &NodeTable,
     id: NodeId,
-) -> Result<Generator<F>, GeneratorStop> {
+) -> Result<Generator<F>, GeneratorStop>
+    requires of_table { polys.old ≡ table.now }
+    ensures of_table { polys.new ≡ polys.old }
+{
     let Some((left, right)) = sides(table, id) else {
         return Err(GeneratorStop::Over);
     };
-    let left = node_poly::<F>(alloc, table, left)?;
-    let right = node_poly::<F>(alloc, table, right)?;
-    Ok(left.sub(&right)?)
+    if !is_of_order(table, F::ORDER, left) || !is_of_order(table, F::ORDER, right) {
+        return Err(GeneratorStop::Over);
+    }
+    polys.learn(left)?;
+    polys.learn(right)?;
+    match (polys.known(left), polys.known(right)) {
+        (Some(left), Some(right)) => Ok(left.sub(right)?),
+        _ => Err(GeneratorStop::Memory),
+    }
 }
 
 /// The polynomial that is a constant.
@@ -132,9 +138,10 @@ pub fn differences<F: Field>(
     table: &NodeTable,
     equalities: &[Lit],
 ) -> Result<Vec<Generator<F>>, GeneratorStop> {
+    let mut polys = Polynomials::new(alloc, table);
     let mut made = Vec::new(alloc);
     for equality in equalities {
-        made.push(difference::<F>(alloc, table, equality.node)?)?;
+        made.push(difference::<F>(&mut polys, table, equality.node)?)?;
     }
     Ok(made)
 }

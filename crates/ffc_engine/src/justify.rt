@@ -2,7 +2,7 @@
 use crate::equalities::{is_equality, size_of};
 use crate::truths::Truths;
 use ffc_cdcl::Lit;
-use ffc_term::{Check, Node, NodeId, NodeTable};
+use ffc_term::{Node, NodeId, NodeTable, Sort};
 use std::alloc::{AllocError, Global};
 
 /// How well a child serves as the one that makes its node true or false. The least is the best.
@@ -37,35 +37,56 @@ impl Cost {
     }
 }
 
-/// A walk from assertions down to what their truth rests on.
+/// A walk from assertions down to what their truth rests on. It waits at the first node on the way that has no value, and goes on
+/// from there once the trail has grown.
 #[derive(Drop)]
-struct Walk<'a> {
+pub struct Walk<'a> {
+    alloc: Global,
     table: &'a NodeTable,
-    truths: &'a Truths,
+    truths: Truths,
     /// Of each node, whether it is needed.
     needed: Vec<bool>,
     /// Needed nodes to look at.
     open: Vec<NodeId>,
     /// Needed nodes for which one child is enough, to look at when nothing else is open.
     choices: Vec<NodeId>,
-    /// Whether a needed node has no value.
-    stuck: bool,
+    /// Whether it waits for a value.
+    waits: bool,
 }
 
 impl<'a> Walk<'a> {
-    fn new(
-        alloc: Global,
-        table: &'a NodeTable,
-        truths: &'a Truths,
-    ) -> Result<Walk<'a>, AllocError> {
+    /// A walk that has not begun.
+    pub fn new(alloc: Global, table: &'a NodeTable) -> Result<Walk<'a>, AllocError> {
         Ok(Walk {
+            alloc,
             table,
-            truths,
+            truths: Truths::new(alloc, table.len())?,
             needed: vec![in alloc; false; table.len() as usize]?,
             open: Vec::new(alloc),
             choices: Vec::new(alloc),
-            stuck: false,
+            waits: false,
         })
+    }
+
+    /// Begins at assertions, with no values.
+    pub fn begin(&mut self, assertions: &[NodeId]) -> Result<(), AllocError> {
+        self.truths.clear();
+        for mark in self.needed.as_mut_slice() {
+            *mark = false;
+        }
+        self.open.clear();
+        self.choices.clear();
+        self.want_all(assertions)
+    }
+
+    /// Takes over the values of further literals of the trail.
+    pub fn follow(&mut self, literals: &[Lit]) {
+        self.truths.set_all(literals);
+    }
+
+    /// The values so far.
+    pub fn truths(&self) -> &Truths {
+        &self.truths
     }
 
     /// Marks a node as needed, and says whether it is newly so.
@@ -101,9 +122,22 @@ impl<'a> Walk<'a> {
         Ok(())
     }
 
-    /// Wants a condition and the branch that it takes; both branches where the condition has no value.
+    /// Waits for a value before it goes on with a node.
+    fn wait_at(&mut self, id: NodeId) -> Result<(), AllocError> {
+        self.waits = true;
+        self.open.push(id)?;
+        Ok(())
+    }
+
+    fn has_value(&self, id: NodeId) -> bool {
+        self.truths.get(id).is_some()
+    }
+
+    /// Wants the condition of a node and the branch that it takes. Where the condition has no value, both branches are needed, and
+    /// it waits until they have values: another literal may give the condition one before.
     fn want_branch(
         &mut self,
+        id: NodeId,
         condition: NodeId,
         then: NodeId,
         otherwise: NodeId,
@@ -111,26 +145,27 @@ impl<'a> Walk<'a> {
         match self.truths.get(condition) {
             Some(true) => self.want_all(&[condition, then]),
             Some(false) => self.want_all(&[condition, otherwise]),
-            None => self.want_all(&[then, otherwise]),
+            None => {
+                if self.has_value(then) && self.has_value(otherwise) {
+                    self.want_all(&[then, otherwise])
+                } else {
+                    self.wait_at(id)
+                }
+            }
         }
     }
 
-    /// Wants all children of a gate that has the value for which all count, and else puts the choice of one off.
+    /// Wants all children of a gate with the value for which all count, and else puts the choice of one off.
     fn want_children(
         &mut self,
         id: NodeId,
         children: &[NodeId],
         all: bool,
     ) -> Result<(), AllocError> {
-        match self.truths.get(id) {
-            Some(value) => {
-                if value == all {
-                    return self.want_all(children);
-                }
-                self.choices.push(id)?;
-            }
-            None => self.stuck = true,
+        if self.truths.get(id) == Some(all) {
+            return self.want_all(children);
         }
+        self.choices.push(id)?;
         Ok(())
     }
 
@@ -140,15 +175,18 @@ impl<'a> Walk<'a> {
         if id >= table.len() {
             return Ok(());
         }
+        if matches!(table.sort_of(id), Sort::Bool) && !self.has_value(id) {
+            return self.wait_at(id);
+        }
         match table.node(id) {
             Node::True | Node::False | Node::BoolConst(_) | Node::FieldConst(..) | Node::Num(..) =>
                 Ok(()),
             Node::Not(a) | Node::Neg(a) => self.want(*a),
             Node::Iff(a, b) | Node::Xor(a, b) | Node::Eq(a, b) => self.want_all(&[*a, *b]),
-            Node::IteBool(c, a, b) => self.want_branch(*c, *a, *b),
+            Node::IteBool(c, a, b) => self.want_branch(id, *c, *a, *b),
             Node::IteField(c, _, _) => {
                 let (first, second) = table.branches(id);
-                self.want_branch(*c, first, second)
+                self.want_branch(id, *c, first, second)
             }
             Node::And(ids) => self.want_children(id, ids.as_slice(), true),
             Node::Or(ids) => self.want_children(id, ids.as_slice(), false),
@@ -212,15 +250,20 @@ impl<'a> Walk<'a> {
         match found {
             Some(child) => self.want(child),
             None => {
-                self.stuck = true;
+                self.waits = true;
+                self.choices.push(id)?;
                 Ok(())
             }
         }
     }
 
-    /// Goes on until nothing is open. Each node is looked at once, and has its choice at most once.
-    fn run(&mut self) -> Result<(), AllocError> {
+    /// Goes on until nothing is open, or a value is missing. Each node is looked at once, and has its choice at most once.
+    pub fn go_on(&mut self) -> Result<(), AllocError> {
+        self.waits = false;
         for _ in 0..2 * u64::from(self.table.len()) {
+            if self.waits {
+                break;
+            }
             if let Some(id) = self.open.pop() {
                 self.visit(id)?;
             } else if let Some(id) = self.choices.pop() {
@@ -232,11 +275,17 @@ impl<'a> Walk<'a> {
         Ok(())
     }
 
-    /// The equalities that are needed and have a value, in the order of their nodes.
-    fn equalities(&self, alloc: Global) -> Result<Vec<Lit>, AllocError> {
-        let mut found = Vec::new(alloc);
+    /// Whether a value is missing.
+    pub fn waits(&self) -> bool {
+        self.waits
+    }
+
+    /// The equalities on which the truth of the assertions rests, with their values, in the order of their nodes; all that have a
+    /// value where one is missing.
+    pub fn equalities(&self) -> Result<Vec<Lit>, AllocError> {
+        let mut found = Vec::new(self.alloc);
         for node in 0..self.table.len() {
-            if (self.stuck || self.is_needed(node)) && is_equality(self.table, node) {
+            if (self.waits || self.is_needed(node)) && is_equality(self.table, node) {
                 if let Some(positive) = self.truths.get(node) {
                     found.push(Lit { node, positive })?;
                 }
@@ -269,17 +318,4 @@ fn negated(table: &NodeTable, id: NodeId) -> Option<NodeId> {
         Node::Not(a) => Some(*a),
         _ => None,
     }
-}
-
-/// The equalities, with their values on a trail, on which the truth of the assertions rests; all of the trail's where the
-/// trail has no value for a node that is needed.
-pub fn needed_equalities(
-    alloc: Global,
-    check: &Check,
-    truths: &Truths,
-) -> Result<Vec<Lit>, AllocError> {
-    let mut walk = Walk::new(alloc, check.table, truths)?;
-    walk.want_all(check.in_force)?;
-    walk.run()?;
-    walk.equalities(alloc)
 }

@@ -1,7 +1,7 @@
 //! Proposes an entry of a certificate for a check: values of its constants, or a refutation.
 //!
-//! A solver of clauses gives a trail, which says which equalities hold. Those on which the truth of the assertions rests are
-//! searched for values, one field at a time. Where there are none, a case tree shows it, and the solver is given the clause
+//! A solver of clauses asks about its trails, which say which equalities hold. Those on which the truth of the assertions rests
+//! are searched for values, one field at a time. Where there are none, a case tree shows it, and the solver is given the clause
 //! that says so (Nieuwenhuis, Oliveras and Tinelli 2006: DPLL modulo theories; Ozdemir, Kremer, Tinelli and Barrett 2023: the
 //! theory of finite fields). What is proposed is tested by the caller, so nothing is promised of it here.
 #![tactic(auto)]
@@ -11,9 +11,12 @@ mod entry;
 mod equalities;
 mod fields;
 mod generators;
+mod groups;
+mod judging;
 mod justify;
 mod lemma;
 mod models;
+mod origin;
 mod proposing;
 mod ranking;
 mod renumber;

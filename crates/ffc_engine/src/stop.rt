@@ -60,6 +60,20 @@ impl From<CdclStop> for EngineStop {
     }
 }
 
+impl From<EngineStop> for CdclStop {
+    ghost use Rattle.std.specs.Prelude.{◌≡◌};
+    ghost use Rattle.ffc_engine.specs.Stops.{in_search};
+
+    ghost from_gives = { λ stop made. made ≡ in_search stop };
+
+    fn from(stop: EngineStop) -> CdclStop {
+        match stop {
+            EngineStop::Spent => CdclStop::Spent,
+            EngineStop::Memory => CdclStop::Memory,
+        }
+    }
+}
+
 impl From<BasisStop> for EngineStop {
     ghost use Rattle.std.specs.Prelude.{◌≡◌};
     ghost use Rattle.ffc_engine.specs.Stops.{of_basis};

@@ -1,6 +1,6 @@
-use crate::clauses::Origin;
 use crate::entry::{is_proved, refutation};
 use crate::lemma::Lemma;
+use crate::origin::{Origin, Origins};
 use crate::ranking::Ranking;
 use ffc_cdcl::{Hint, HintedClause, Lit, Literals};
 use ffc_cert::{CertLine, Entry, Multiple, Sequence};
@@ -101,29 +101,29 @@ fn step(alloc: Global, lits: &[Lit], hints: Vec<Hint>) -> Result<HintedClause, A
 fn refutations_have_what_they_rest_on(rt: HostRuntime) -> Result<(), Fail> {
     let alloc = rt.alloc();
     let found = lemma(alloc)?.ok_or("none")?;
-    let origins = vec![in alloc;
+    let added = vec![in alloc;
         Origin::Assertion(0),
         Origin::Scheme(4, 1, 2),
-        Origin::Lemma(found),
         Origin::Assertion(3),
     ]?;
+    let lemmas = vec![in alloc; Origin::SetAside, Origin::Lemma(found)]?;
     let first = step(alloc, &[literal(1, true)], vec![in alloc; Hint::Added(0)]?)?;
     let second = step(
         alloc,
         &[literal(2, true)],
-        vec![in alloc; Hint::Added(2), Hint::Added(3)]?,
+        vec![in alloc; Hint::Lemma(1), Hint::Added(2)]?,
     )?;
-    let last = step(alloc, &[], vec![in alloc; Hint::Added(3), Hint::Step(1)]?)?;
+    let last = step(alloc, &[], vec![in alloc; Hint::Added(2), Hint::Step(1)]?)?;
     let steps = vec![in alloc; first, second, last]?;
-    assert!(rt; is_proved(alloc, origins.as_slice(), steps.as_slice())?);
-    let entry = refutation(alloc, origins, steps.as_slice())?.ok_or("none")?;
+    assert!(rt; is_proved(alloc, added.as_slice(), lemmas.as_slice(), steps.as_slice())?);
+    let entry = refutation(alloc, Origins { added, lemmas }, steps.as_slice())?.ok_or("none")?;
     let Entry::UnsatSteps(lines) = entry else {
         return Err(Fail::from("no refutation"));
     };
     let text = spelled(alloc, lines.as_slice())?;
     assert_eq!(rt;
         text.as_str(),
-        "f false 8 true 9;c 0 101;s 2 5;z;a 3;r 0 1;r 1 2;"
+        "a 3;f false 8 true 9;c 0 101;s 2 5;z;r 1 0;r 0 2;"
     );
     Ok(())
 }

@@ -1,19 +1,240 @@
-//! The theory of a solver that is asked about clauses alone.
-use ffc_base::Meter;
-use ffc_cdcl::{CdclStop, Lit, Theory, TheoryAnswer};
+//! The theory of finite fields over the nodes of a check.
+ghost use Rattle.std.specs.Prelude.{◌≡◌, ◌++◌, ◌∷◌, [], IfOk, IfErr, OnOk, OnErr, IsErrOf};
+ghost use Rattle.ffc_base.specs.Metering.{total};
+ghost use Rattle.ffc_basis.specs.Units.{Takes};
+ghost use Rattle.ffc_cdcl.specs.Theories.{KeepsLemmas, NamesLemma, IsFalseOn};
+ghost use Rattle.ffc_engine.specs.declared.stop.EngineStop.TheVariants as stops;
 
-/// A theory without lemmas that agrees to every trail: equalities are judged once all clauses are true.
-#[derive(Clone, Copy, Debug)]
-pub struct Agreeing;
+use crate::judging::{Judgement, judge};
+use crate::justify::Walk;
+use crate::models::{Residues, model};
+use crate::origin::Origin;
+use crate::stop::EngineStop;
+use crate::truths::Truths;
+use ffc_base::{Meter, Unit};
+use ffc_cdcl::{CdclStop, Lit, Literals, Theory, TheoryAnswer};
+use ffc_cert::Entry;
+use ffc_term::Check;
+use std::alloc::{AllocError, Global};
 
-impl Theory for Agreeing {
-    ghost use Rattle.std.specs.Prelude.{[]};
+/// Judges trails by the equalities on which the truth of the assertions rests. It agrees as long as one of them has no value,
+/// since more of the trail decides them. Once it has values of the constants with which they hold, those are a model whatever
+/// the other nodes are, and it agrees to everything.
+#[derive(Drop)]
+pub struct FieldTheory<'a> {
+    alloc: Global,
+    check: Check<'a>,
+    /// How many units the equalities of one field on one trail may take.
+    share: u64,
+    walk: Walk<'a>,
+    /// How many literals the walk has followed, and how many units had been taken for literals then.
+    followed: usize,
+    taken: u64,
+    /// Its lemmas, by number.
+    clauses: Vec<Literals>,
+    /// Where they are from.
+    origins: Vec<Origin>,
+    /// Whether something was set aside that more units may decide.
+    unfinished: bool,
+    found: Option<Entry>,
+}
 
-    ghost lemmas = { λ _. [] };
+impl<'a> FieldTheory<'a> {
+    /// The theory for a check, with no lemmas yet.
+    pub fn new(alloc: Global, check: &Check<'a>, share: u64) -> Result<FieldTheory<'a>, AllocError>
+        ensures { IfOk result (λ t. t.clauses.items ≡ []) }
+    {
+        let mut walk = Walk::new(alloc, check.table)?;
+        walk.begin(check.in_force)?;
+        Ok(FieldTheory {
+            alloc,
+            check: *check,
+            share,
+            walk,
+            followed: 0,
+            taken: 0,
+            clauses: Vec::new(alloc),
+            origins: Vec::new(alloc),
+            unfinished: false,
+            found: None,
+        })
+    }
+
+    pub fn share(&self) -> u64 {
+        self.share
+    }
+
+    /// Whether something was set aside that more units may decide.
+    pub fn is_unfinished(&self) -> bool {
+        self.unfinished
+    }
+
+    /// Where its lemmas are from, by number.
+    pub fn origins(&self) -> &[Origin] {
+        self.origins.as_slice()
+    }
+
+    pub fn into_origins(self) -> Vec<Origin> {
+        let FieldTheory {
+            alloc: _,
+            check: _,
+            share: _,
+            walk: _,
+            followed: _,
+            taken: _,
+            clauses: _,
+            origins,
+            unfinished: _,
+            found: _,
+        } = self;
+        origins
+    }
+
+    /// The model, if one was found.
+    pub fn take_model(&mut self) -> Option<Entry>
+        ensures { self.new.clauses ≡ self.old.clauses }
+    {
+        self.found.take()
+    }
+
+    /// Walks on with a trail. Where just as many units were taken for literals since the last walk as the trail is longer, no
+    /// literal has left it; else the walk begins anew.
+    fn follow(&mut self, trail: &[Lit], meter: &Meter) -> Result<(), AllocError>
+        ensures { self.new.clauses ≡ self.old.clauses }
+    {
+        let taken = meter.count(Unit::Assignment);
+        let units = taken.wrapping_sub(self.taken);
+        let before = self.followed;
+        if before <= trail.len() && (trail.len() - before) as u64 == units {
+            self.walk.follow(&trail[before..]);
+        } else {
+            self.walk.begin(self.check.in_force)?;
+            self.walk.follow(trail);
+        }
+        self.taken = taken;
+        self.followed = trail.len();
+        self.walk.go_on()
+    }
+
+    /// Judges the equalities that the walk has found. It is one Trial, besides what the searches take.
+    fn judged(&self, meter: &mut Meter) -> Result<Judgement, EngineStop>
+        ensures spent { IsErrOf result stops.Spent → total meter.new ≡ meter.new.budget }
+        ensures takes { Takes meter.old meter.new }
+    {
+        meter.take(Unit::Trial)?;
+        let equalities = self.walk.equalities()?;
+        judge(
+            self.alloc,
+            &self.check,
+            equalities.as_slice(),
+            self.share,
+            meter,
+        )
+    }
+
+    /// Keeps a lemma.
+    fn keep(&mut self, clause: &[Lit], origin: Origin) -> Result<(), AllocError>
+        ensures ok { OnOk result (self.new.clauses.items ≡ self.old.clauses.items ++ clause.now ∷ []) }
+        ensures err { OnErr result (self.new.clauses.items ≡ self.old.clauses.items) }
+    {
+        let copy = Literals::copied(self.alloc, clause)?;
+        self.origins.push(origin)?;
+        self.clauses.push(copy)?;
+        Ok(())
+    }
+
+    /// Makes a clause that is false on a trail a lemma, and answers with it.
+    #[tactic(auto, using(crate::proofs::TrailValues::falsified))]
+    fn object(
+        &mut self,
+        trail: &[Lit],
+        clause: Literals,
+        origin: Origin,
+    ) -> Result<TheoryAnswer, CdclStop>
+        ensures kept { KeepsLemmas self.old.clauses.items self.new.clauses.items }
+        ensures lemma { IfOk result (NamesLemma self.new.clauses.items) }
+        ensures refuted { IfOk result (IsFalseOn trail.now) }
+        ensures stop { IfErr result (λ stop. stop ≡ CdclStop.Memory) }
+    {
+        let truths = Truths::of(self.alloc, self.check.table.len(), trail)?;
+        if !truths.falsify(clause.as_slice()) {
+            // Its equalities are on the trail: this would be a fault of the walk.
+            return Err(CdclStop::Memory);
+        }
+        let number = self.clauses.len() as u64;
+        self.keep(clause.as_slice(), origin)?;
+        Ok(TheoryAnswer::Conflict(clause, number))
+    }
+
+    /// Keeps the model of values with which the equalities hold.
+    fn keep_model(&mut self, residues: &Residues) -> Result<(), AllocError>
+        ensures { self.new.clauses ≡ self.old.clauses }
+    {
+        let entry = model(self.alloc, &self.check, self.walk.truths(), residues)?;
+        self.found = Some(entry);
+        Ok(())
+    }
+
+    /// Judges the last trail by all its equalities, and gives the model that they lead to.
+    pub fn judge_last(&mut self, meter: &mut Meter) -> Result<Option<Entry>, EngineStop>
+        ensures same { self.new.clauses ≡ self.old.clauses }
+        ensures spent { IsErrOf result stops.Spent → total meter.new ≡ meter.new.budget }
+        ensures takes { Takes meter.old meter.new }
+    {
+        if let Judgement::Values(residues) = self.judged(meter)? {
+            self.keep_model(&residues)?;
+        }
+        Ok(self.take_model())
+    }
+
+    /// Answers by what was found of the equalities of a trail.
+    fn answer(&mut self, trail: &[Lit], judgement: Judgement) -> Result<TheoryAnswer, CdclStop>
+        ensures kept { KeepsLemmas self.old.clauses.items self.new.clauses.items }
+        ensures lemma { IfOk result (NamesLemma self.new.clauses.items) }
+        ensures refuted { IfOk result (IsFalseOn trail.now) }
+        ensures stop { IfErr result (λ stop. stop ≡ CdclStop.Memory) }
+    {
+        match judgement {
+            Judgement::Values(residues) => {
+                self.keep_model(&residues)?;
+                Ok(TheoryAnswer::Agreed)
+            }
+            Judgement::Refuted(lemma) => {
+                let clause = Literals::copied(self.alloc, lemma.lits.as_slice())?;
+                self.object(trail, clause, Origin::Lemma(lemma))
+            }
+            Judgement::Undecided(equalities, unfinished) => {
+                self.unfinished = self.unfinished || unfinished;
+                let clause = negations(self.alloc, equalities.as_slice())?;
+                self.object(trail, clause, Origin::SetAside)
+            }
+        }
+    }
+}
+
+/// The negations of literals.
+fn negations(alloc: Global, literals: &[Lit]) -> Result<Literals, AllocError> {
+    let mut negated = Literals::new(alloc);
+    for literal in literals {
+        negated.push(literal.negated())?;
+    }
+    Ok(negated)
+}
+
+impl Theory for FieldTheory<'_> {
+    ghost lemmas = { λ t. t.clauses.items };
 
     ghost fits = { λ _ _. Unit {0} };
 
-    fn check(&mut self, _trail: &[Lit], _meter: &mut Meter) -> Result<TheoryAnswer, CdclStop> {
-        Ok(TheoryAnswer::Agreed)
+    fn check(&mut self, trail: &[Lit], meter: &mut Meter) -> Result<TheoryAnswer, CdclStop> {
+        if self.found.is_some() {
+            return Ok(TheoryAnswer::Agreed);
+        }
+        self.follow(trail, meter)?;
+        if self.walk.waits() {
+            return Ok(TheoryAnswer::Agreed);
+        }
+        let judgement = self.judged(meter)?;
+        self.answer(trail, judgement)
     }
 }
