@@ -3,10 +3,12 @@
 //! `bench lex KIB PIECE` reads a generated script, `bench cert KIB PIECE` a generated certificate, each of so many KiB
 //! in pieces of so many bytes; `bench elab KIB PIECE` also takes the forms of such a script. `bench term COUNT` makes,
 //! measures and evaluates a chain of so many nodes. `bench poly CASE TERMS TIMES` computes with polynomials of so many
-//! terms so many times. `bench roots CASE DEGREE` finds all roots of a polynomial of this degree. `bench check CASE SIZE
-//! COUNT` judges a generated entry. Without arguments each runs on a small input.
+//! terms so many times. `bench roots CASE DEGREE` finds all roots of a polynomial of this degree. `bench check CASE
+//! SIZE COUNT` judges a generated entry. `bench bases CASE SIZE UNITS` completes the basis of a system of this size
+//! with so many units. Without arguments each runs on a small input.
 #![tactic(auto)]
 
+mod bases;
 mod certificates;
 mod chains;
 mod checks;
@@ -16,6 +18,7 @@ mod polynomials;
 mod refutations;
 mod roots;
 mod scripts;
+mod systems;
 
 use std::alloc::Global;
 use std::{env, io};
@@ -32,6 +35,10 @@ const TERMS: u32 = 60;
 const DEGREE: u32 = 16;
 
 const DEPTH: u32 = 4;
+
+const EQUATIONS: u32 = 3;
+
+const UNITS: u32 = 1_000_000;
 
 /// So many pieces of so many bytes.
 #[derive(Clone, Copy)]
@@ -78,8 +85,15 @@ fn run<R: Print>(
             second.unwrap_or(DEPTH),
             third.unwrap_or(1),
         ),
+        "bases" => bases::run(
+            rt,
+            alloc,
+            first.unwrap_or(0),
+            second.unwrap_or(EQUATIONS),
+            third.unwrap_or(UNITS),
+        ),
         _ => println!(rt;
-            "bench lex KIB PIECE | elab KIB PIECE | cert KIB PIECE | term COUNT | poly CASE TERMS TIMES | roots CASE DEGREE | check CASE SIZE COUNT"
+            "bench lex KIB PIECE | elab KIB PIECE | cert KIB PIECE | term COUNT | poly CASE TERMS TIMES | roots CASE DEGREE | check CASE SIZE COUNT | bases CASE SIZE UNITS"
         ),
     }
 }
@@ -88,7 +102,9 @@ fn main(rt: HostRuntime) -> io::Result<()> {
     let mut arguments = env::args(&rt)?;
     let _program = arguments.next();
     let Some(name) = arguments.next() else {
-        for name in ["lex", "elab", "cert", "term", "poly", "roots", "check"] {
+        for name in [
+            "lex", "elab", "cert", "term", "poly", "roots", "check", "bases",
+        ] {
             run(&rt, rt.alloc(), name, None, None, None)?;
         }
         return Ok(());
