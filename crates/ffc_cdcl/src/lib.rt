@@ -19,8 +19,6 @@ mod settled;
 mod solve;
 mod solver;
 mod steering;
-#[cfg(test)]
-mod tests;
 mod theory;
 mod trail;
 mod walk;

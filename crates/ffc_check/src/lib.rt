@@ -13,8 +13,6 @@ mod hints;
 mod lemmas;
 mod schemes;
 mod stop;
-#[cfg(test)]
-mod tests;
 mod values;
 mod walk;
 

@@ -9,8 +9,6 @@ mod poly;
 mod powers;
 mod products;
 mod reading;
-#[cfg(test)]
-mod tests;
 mod univariate;
 mod uses;
 

@@ -8,8 +8,6 @@ mod rows;
 pub mod rules;
 mod stop;
 mod sums;
-#[cfg(test)]
-mod tests;
 mod walk;
 
 pub use lemma::{Kept, lemma_tree};

@@ -4,8 +4,6 @@
 mod checking;
 mod cores;
 mod marks;
-#[cfg(test)]
-mod tests;
 
 pub use checking::{CoreStop, check_core};
 pub use cores::core_of;

@@ -31,8 +31,6 @@ mod sort_names;
 mod sorted_terms;
 mod store;
 mod taken;
-#[cfg(test)]
-mod tests;
 
 pub use answers::{Asked, Command, Declared, Effect};
 pub use context::Context;

@@ -8,8 +8,6 @@ mod polynomials;
 mod products;
 mod stop;
 mod sums;
-#[cfg(test)]
-mod tests;
 
 pub use clauses::{NodeClause, clauses_of};
 pub use polynomials::{Polynomials, poly_of};

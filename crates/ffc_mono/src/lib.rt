@@ -13,6 +13,3 @@ pub use laws::{divisors, graded_orders, leading_terms};
 pub use mono::{DEGREE_LIMIT, Mono, MonoStop};
 pub use order::{GradedReverseLex, Lex, MonoOrder, graded_reverse_lex_order, lex_order};
 pub use row::MonoRow;
-
-#[cfg(test)]
-mod tests;

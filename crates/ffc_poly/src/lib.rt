@@ -11,8 +11,6 @@ mod sums;
 mod tail;
 mod tails;
 mod terms;
-#[cfg(test)]
-mod tests;
 mod values;
 
 pub use accumulator::Accumulator;

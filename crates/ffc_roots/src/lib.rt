@@ -9,8 +9,6 @@ mod ordered;
 mod sparse;
 mod split;
 mod stop;
-#[cfg(test)]
-mod tests;
 
 pub use elements::Elements;
 pub use finding::roots;

@@ -167,7 +167,17 @@ const CLAUSES: [Judged; 6] = [
 ];
 
 /// Whole certificates.
-const WHOLE: [Judged; 8] = [
+const WHOLE: [Judged; 11] = [
+    // A script of no check has no entry.
+    ("", "ffcert 1\n", CheckStatus::Accepted, "accepted 0 0 0\n"),
+    ("", "ffcert 2\n", CheckStatus::Accepted, "accepted 0 0 0\n"),
+    // A byte after the last entry, whose line has no end.
+    (
+        "",
+        "ffcert 1\nx",
+        CheckStatus::Refused,
+        "refused 1 2 format 2\n",
+    ),
     (
         SQUARE,
         "ffcert 3\nunsat e\n",
@@ -226,6 +236,8 @@ const CORES: [Judged; 2] = [
     ),
 ];
 
+const CORES_FIRST: &[&str] = &["ffcheck", "--cores", "c"];
+
 /// Whether an entry is judged so where its certificate begins with this line.
 fn is_judged_in(
     alloc: Global,
@@ -277,6 +289,10 @@ fn whole_certificates(rt: HostRuntime) -> Result<(), Fail> {
 fn cores(rt: HostRuntime) -> Result<(), Fail> {
     for (i, row) in CORES.iter().enumerate() {
         assert!(rt; is_judged_so(rt.alloc(), CHECK_CORES, *row)?, "row {i}");
+        assert!(rt;
+            is_judged_so(rt.alloc(), CORES_FIRST, *row)?,
+            "row {i} with the flag first"
+        );
     }
     Ok(())
 }

@@ -1,4 +1,5 @@
-//! Circuits and equations over wide fields, which no enumeration decides, and limits and budgets at which none is decided.
+//! Circuits and equations over wide fields, which no enumeration decides, and limits and budgets at which none is
+//! decided.
 use crate::runs::{Answered, CHECK, SOLVE, is_answered, is_judged};
 use crate::texts::SEVEN;
 use ffc_base::{SureSink, SureSource};
@@ -7,7 +8,7 @@ use ffc_verify::CheckStatus;
 use std::alloc::{AllocError, Global};
 use std::test::Fail;
 
-const DECIDED: [Answered; 10] = [
+const DECIDED: [Answered; 13] = [
     // Seven is no square modulo the order of Goldilocks.
     (
         SolveStatus::Done,
@@ -178,6 +179,97 @@ const DECIDED: [Answered; 10] = [
         None,
         "accepted 0 1 0\n",
     ),
+    // An inequality of two sides that are equal, after an equality that a refutation does not use.
+    (
+        SolveStatus::Done,
+        "(set-logic QF_FF)
+(define-sort F () (_ FiniteField 18446744069414584321))
+(declare-const y F)
+(declare-const x F)
+(declare-const z F)
+(assert (= y (as ff1 F)))
+(assert (= x z))
+(assert (= z (as ff1 F)))
+(assert (not (= x (as ff1 F))))
+(check-sat)
+",
+        "unsat\n",
+        None,
+        "accepted 0 1 0\n",
+    ),
+    // Two rounds of exponent 7, which has no factor in common with the order less 1, answer differently for different inputs.
+    (
+        SolveStatus::Done,
+        "(set-logic QF_FF)
+(define-sort F () (_ FiniteField 18446744069414584321))
+(define-fun power ((u F)) F (ff.mul u u u u u u u))
+(declare-const x F)
+(declare-const y F)
+(declare-const s F)
+(declare-const t F)
+(assert (= s (power (ff.add x (as ff1 F)))))
+(assert (= t (power (ff.add y (as ff1 F)))))
+(assert (not (= (power (ff.add s (as ff2 F))) (power (ff.add t (as ff2 F))))))
+(check-sat)
+",
+        "sat\n",
+        None,
+        "accepted 1 0 0\n",
+    ),
+    // The digits of 699050 are 0 and 1 in turn.
+    (
+        SolveStatus::Done,
+        "(set-logic QF_FF)
+(define-sort F () (_ FiniteField 18446744069414584321))
+(define-fun bit ((b F)) Bool (= (ff.mul b b) b))
+(declare-const b0 F)
+(assert (bit b0))
+(declare-const b1 F)
+(assert (bit b1))
+(declare-const b2 F)
+(assert (bit b2))
+(declare-const b3 F)
+(assert (bit b3))
+(declare-const b4 F)
+(assert (bit b4))
+(declare-const b5 F)
+(assert (bit b5))
+(declare-const b6 F)
+(assert (bit b6))
+(declare-const b7 F)
+(assert (bit b7))
+(declare-const b8 F)
+(assert (bit b8))
+(declare-const b9 F)
+(assert (bit b9))
+(declare-const b10 F)
+(assert (bit b10))
+(declare-const b11 F)
+(assert (bit b11))
+(declare-const b12 F)
+(assert (bit b12))
+(declare-const b13 F)
+(assert (bit b13))
+(declare-const b14 F)
+(assert (bit b14))
+(declare-const b15 F)
+(assert (bit b15))
+(declare-const b16 F)
+(assert (bit b16))
+(declare-const b17 F)
+(assert (bit b17))
+(declare-const b18 F)
+(assert (bit b18))
+(declare-const b19 F)
+(assert (bit b19))
+(assert (= (ff.bitsum b0 b1 b2 b3 b4 b5 b6 b7 b8 b9 b10 b11 b12 b13 b14 b15 b16 b17 b18 b19) (as ff699050 F)))
+(check-sat)
+(get-value (b0 b1 b18 b19))
+",
+        "sat\n((b0 (as ff0 (_ FiniteField 18446744069414584321))) (b1 (as ff1 (_ FiniteField 18446744069414584321))) (b18 (as ff0 (_ FiniteField 18446744069414584321))) (b19 (as ff1 (_ FiniteField 18446744069414584321))))\n",
+        None,
+        "accepted 1 0 0\n",
+    ),
     // Roots in two constants.
     (
         SolveStatus::Done,
@@ -201,6 +293,53 @@ fn wide_fields_are_decided(rt: HostRuntime) -> Result<(), Fail> {
     for (i, row) in DECIDED.iter().enumerate() {
         assert!(rt; is_answered(rt.alloc(), SOLVE, *row)?, "row {i}");
     }
+    Ok(())
+}
+
+/// What a refutation does not use comes before what it uses, two values of x: the value of y, and that b and not d
+/// follow, so that whichever value is tried first, a clause is learned. The nodes are 0 b, 1 c, 2 d, 3 e, 4 y, 5 x, 6
+/// to 12 the choices with their negations, 13 the number 1, 14 and 15 the equalities of y and x with it, 16 the number
+/// 2 and 17 its equality.
+const UNUSED: &str = "(set-logic QF_FF)
+(define-sort F () (_ FiniteField 18446744069414584321))
+(declare-const b Bool)
+(declare-const c Bool)
+(declare-const d Bool)
+(declare-const e Bool)
+(declare-const y F)
+(declare-const x F)
+(assert (or b c))
+(assert (or b (not c)))
+(assert (or (not d) e))
+(assert (or (not d) (not e)))
+(assert (= y (as ff1 F)))
+(assert (= x (as ff1 F)))
+(assert (= x (as ff2 F)))
+(check-sat)
+";
+
+/// A refutation that has nothing else: (x - 1) - (x - 2) = 1.
+const UNUSED_CERT: &str = "ffcert 2
+unsat 4
+a 5
+a 6
+f 18446744069414584321 2 -15 -17
+c 2 0 1 1 0 1 1 18446744069414584320 0
+z
+r 0 3 0 1 2
+";
+
+/// What a refutation does not use is left out of its assertions, its schemes, its lemma and its steps.
+#[test]
+fn refutations_have_only_what_they_use(rt: HostRuntime) -> Result<(), Fail> {
+    let row = (
+        SolveStatus::Done,
+        UNUSED,
+        "unsat\n",
+        Some(UNUSED_CERT),
+        "accepted 0 1 0\n",
+    );
+    assert!(rt; is_answered(rt.alloc(), SOLVE, row)?);
     Ok(())
 }
 
@@ -255,7 +394,8 @@ fn one_step_is_spent(rt: HostRuntime) -> Result<(), Fail> {
     Ok(())
 }
 
-/// A generated script: its first and its last check have the orbit as their model, and the second asks for another end of it.
+/// A generated script: its first and its last check have the orbit as their model, and the second asks for another end
+/// of it.
 #[test]
 fn generated_scripts_are_decided(rt: HostRuntime) -> Result<(), Fail> {
     let alloc = rt.alloc();

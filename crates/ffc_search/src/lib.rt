@@ -17,8 +17,6 @@ mod searching;
 mod stop;
 mod sums;
 mod survey;
-#[cfg(test)]
-mod tests;
 mod tree;
 mod weights;
 mod written;

@@ -4,7 +4,5 @@
 mod generators;
 pub mod laws;
 mod stack;
-#[cfg(test)]
-mod tests;
 
 pub use stack::BasisStack;

@@ -11,8 +11,6 @@ mod named_words;
 mod scope;
 mod sorts;
 mod terms;
-#[cfg(test)]
-mod tests;
 mod values;
 mod walk;
 

@@ -7,8 +7,6 @@ pub mod laws;
 mod power;
 mod row;
 mod stop;
-#[cfg(test)]
-mod tests;
 mod uni;
 
 pub use chain::{Chain, Steps, pow_mod_chain};

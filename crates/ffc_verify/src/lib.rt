@@ -7,8 +7,6 @@ mod judge;
 mod lines;
 mod script;
 mod stop;
-#[cfg(test)]
-mod tests;
 mod verdicts;
 mod verify;
 
