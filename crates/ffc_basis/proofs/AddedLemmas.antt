@@ -12,7 +12,7 @@ use Rattle.ffc_mono.specs.MonomialOrder.{IsMonomialOrder}
 use Rattle.ffc_mono.specs.Leading.{IsLeading}
 use Rattle.ffc_mono.proofs.LeadingLemmas.{one_leading}
 use Rattle.ffc_basis.specs.declared.line.Line.{Line}
-use Rattle.ffc_basis.specs.Lines.{Parts, polys_of, combination, AreBefore, IsLine, AreLinesFrom, AreLines, IsAddedTo}
+use Rattle.ffc_basis.specs.Lines.{Parts, polys_of, combination, AreBefore, IsLine, AreLinesFrom, AreLines, AreLists, IsAddedTo}
 use Rattle.ffc_basis.specs.Reduction.{IsIrreducible, IsReduced, IsAtMostLead, ArePartsAtMost, IsReduction}
 use Rattle.ffc_basis.specs.Completion.{IsSPolynomial, ReducesToZero, IsPairClosed, IsPairOver}
 use Rattle.ffc_basis.specs.Completed.{IsAddedLine, AreAdded, IsFront}
@@ -22,7 +22,7 @@ use Rattle.ffc_basis.specs.declared.pair.PairRecord.{PairRecord}
 use Rattle.ffc_basis.specs.declared.pair.PairState.TheVariants.{Closed, Over}
 use Rattle.ffc_basis.proofs.OrderedTerms.{coefficient-none, coefficient-other, lists_of_polynomials}
 use Rattle.ffc_basis.proofs.LineLemmas.{AreLinesFrom-alike, polys-append, take_front}
-use Rattle.ffc_basis.proofs.Lists.{length-polys}
+use Rattle.ffc_basis.proofs.Lists.{length-polys, lists_push}
 use Rattle.ffc_basis.proofs.PairLemmas.{whole_times, combination-grown, AreBefore-grown, part_is_before, leading_of_scaled, leading_same, one_s_polynomial_closes, symmetric_pairs_close}
 use Rattle.ffc_basis.proofs.PairTableLemmas.{pairs_grown, pairs_cut, pairs_set, record_is, state_by_all, over_by_all}
 use Rattle.ffc_basis.proofs.SPolynomialLemmas.{scaled_combination, scaled_before}
@@ -75,21 +75,29 @@ front_dropped p cmp old new left n (more, is, _) all cut = cut ∙ ap (take n) i
 
 -- ---- pairs of lists of lines
 
-pub pairs_none : (p : ℕ) (cmp : Monomial → Monomial → Ordering) (gs : List Terms) (rs : List PairRecord) (joined : ℕ) → rs ≡ [] → joined ≡ 0 → ArePairs p cmp gs rs joined
-pairs_none p cmp gs rs joined none first =
+pub pairs_none : (p : ℕ) (cmp : Monomial → Monomial → Ordering) (gs : List Terms) (rs : List PairRecord) (joined : ℕ) → rs ≡ [] → joined ≡ 0 → AreLists gs → ArePairs p cmp gs rs joined
+pairs_none p cmp gs rs joined none first lists =
     subst (λ l. ArePairs p cmp gs l joined) (sym none) (subst (ArePairs p cmp gs []) (sym first) record {
       joined_within = omega arith;
+      lists = lists;
       records = tt;
       covered = λ i j h low. absurd (omega arith);
     })
 
-pub pairs_added : {F O : Type 0} (p : ℕ) (cmp : Monomial → Monomial → Ordering) (old new : List (Line F O)) (gens : List Terms) (rs : List PairRecord) (joined : ℕ) → IsAddedTo old new gens → ArePairs p cmp (polys_of old) rs joined → ArePairs p cmp (polys_of new) rs joined
-pairs_added p cmp old new gens rs joined (more, is, _) v =
-    subst (λ hs. ArePairs p cmp hs rs joined) (sym (ap polys_of is ∙ polys-append_all old more)) (pairs_grown p cmp (polys_of old) (polys_of more) rs joined v)
+pub pairs_added : {F O : Type 0} (p : ℕ) (cmp : Monomial → Monomial → Ordering) (old new : List (Line F O)) (gens : List Terms) (rs : List PairRecord) (joined : ℕ) → IsAddedTo old new gens → AreLists (polys_of new) → ArePairs p cmp (polys_of old) rs joined → ArePairs p cmp (polys_of new) rs joined
+pairs_added p cmp old new gens rs joined (more, is, _) lists v =
+    let all : polys_of new ≡ polys_of old ++ polys_of more = ap polys_of is ∙ polys-append_all old more in
+    subst (λ hs. ArePairs p cmp hs rs joined) (sym all) (pairs_grown p cmp (polys_of old) (polys_of more) rs joined (subst AreLists all lists) v)
 
-pub pairs_more : {F O : Type 0} (p : ℕ) (cmp : Monomial → Monomial → Ordering) (old new : List (Line F O)) (l : Line F O) (rs : List PairRecord) (joined : ℕ) → new ≡ old ++ l ∷ [] → ArePairs p cmp (polys_of old) rs joined → ArePairs p cmp (polys_of new) rs joined
-pairs_more p cmp old new l rs joined is v =
-    subst (λ hs. ArePairs p cmp hs rs joined) (sym (ap polys_of is ∙ polys-append_all old (l ∷ []))) (pairs_grown p cmp (polys_of old) (polys_of (l ∷ [])) rs joined v)
+pub pairs_more : {F O : Type 0} (p : ℕ) (cmp : Monomial → Monomial → Ordering) (old new : List (Line F O)) (l : Line F O) (rs : List PairRecord) (joined : ℕ) → new ≡ old ++ l ∷ [] → AreTerms l.poly → ArePairs p cmp (polys_of old) rs joined → ArePairs p cmp (polys_of new) rs joined
+pairs_more p cmp old new l rs joined is terms v =
+    subst (λ hs. ArePairs p cmp hs rs joined) (sym (ap polys_of is ∙ polys-append_all old (l ∷ [])))
+    (pairs_grown p cmp (polys_of old) (polys_of (l ∷ [])) rs joined (lists_push (polys_of old) l.poly v.lists terms) v)
+
+-- the lines with one more are lists of terms
+pub lists_more : {F O : Type 0} (old new : List (Line F O)) (l : Line F O) → new ≡ old ++ l ∷ [] → AreLists (polys_of old) → AreTerms l.poly → AreLists (polys_of new)
+lists_more old new l is v w =
+    subst AreLists (sym (ap polys_of is ∙ polys-append_all old (l ∷ []))) (lists_push (polys_of old) l.poly v w)
 
 pub polys-take : {F O : Type 0} (n : ℕ) (ls : List (Line F O)) → polys_of (take n ls) ≡ take n (polys_of ls)
 polys-take zero ls = refl
@@ -123,11 +131,11 @@ settled_over p cmp ls rs joined place pair count all h is over v =
     (subst (λ n. IsState p cmp gs pair.first pair.second (Over n)) (length-polys ls ∙ all) (over_by_all p cmp gs pair.first pair.second r.within over)) v
 
 pub settled_added : {F O : Type 0} (p : ℕ) (cmp : Monomial → Monomial → Ordering) (ls ks : List (Line F O)) (l : Line F O) (rs : List PairRecord) (joined place : ℕ) (pair : PairRecord) (count : ℕ) → ks ≡ ls ++ l ∷ [] → length ls ≡ count → place < length rs → get_or rs place pair ≡ pair
-    → AreBothClosed p cmp (polys_of ls ++ l.poly ∷ []) pair.first pair.second → ArePairs p cmp (polys_of ls) rs joined → ArePairs p cmp (polys_of ks) (set rs place (with_state pair (Closed (count + 1)))) joined
-settled_added p cmp ls ks l rs joined place pair count is all h there both v =
+    → AreTerms l.poly → AreBothClosed p cmp (polys_of ls ++ l.poly ∷ []) pair.first pair.second → ArePairs p cmp (polys_of ls) rs joined → ArePairs p cmp (polys_of ks) (set rs place (with_state pair (Closed (count + 1)))) joined
+settled_added p cmp ls ks l rs joined place pair count is all h there terms both v =
     settled_closed p cmp ks rs joined place pair (count + 1) (ap length is ∙ length-append ls (l ∷ []) ∙ ap (λ n. n + 1) all) h there
     (subst (λ hs. AreBothClosed p cmp hs pair.first pair.second) (sym (ap polys_of is ∙ polys-append_all ls (l ∷ []))) both)
-    (pairs_more p cmp ls ks l rs joined is v)
+    (pairs_more p cmp ls ks l rs joined is terms v)
 
 pub line_added : {F O : Type 0} (p : ℕ) (ls ks : List (Line F O)) (l : Line F O) → ks ≡ ls ++ l ∷ [] → AreLines p ls → IsLine p (polys_of ls) (length (polys_of ls)) l → AreLines p ks
 line_added p ls ks l is v w = subst (AreLines p) (sym is) (lines_push p ls l v w)

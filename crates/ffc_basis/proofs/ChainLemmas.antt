@@ -1,30 +1,33 @@
--- Buchberger's second criterion by leading monomials. Where the leading monomial of line k divides the least common multiple of
--- those of lines i and j, S(i, j) is u*S(i, k) + w*S(k, j) for monomials u and w; so it reduces to zero as both do, where its
--- leading monomial is not below those of the two multiples.
-use Rattle.std.proofs.Common.{◌≡◌, ◌≢◌, ◌⊎◌, ℕ, zero, suc, ◌+◌, ◌-◌, ◌*◌, ◌%◌, ◌<◌, ◌≤◌, List, [], ◌∷◌, ◌++◌, length, get_or, refl, sym, ap, ap₂, ◌∙◌, subst, inl, inr, arith, one-mul, Option, Some, None, IfSome, IfNone}
+-- Buchberger's second criterion. Where the leading monomial of line k divides the least common multiple of those of
+-- lines i and j, S(i, j) is u*S(i, k) + w*S(k, j) for monomials u and w; so it reduces to zero as both do, where no
+-- leading monomial of the multiples is above its own. That is so where no monomial of the three lines but their leading
+-- ones is, each line times what makes its leading monomial the least common multiple.
+use Rattle.std.proofs.Common.{◌≡◌, ◌≢◌, ◌⊎◌, ℕ, ◌+◌, ◌-◌, ◌*◌, ◌%◌, ◌<◌, List, [], ◌∷◌, ◌++◌, length, get_or, refl, sym, ap, ap₂, ◌∙◌, subst, inl, inr, arith, mod-lt, one-mul, Option, Some, None, IfSome, IfNone}
 use Rattle.std.proofs.Math.Nat.{mul-mod_right, zero-mod}
-use Rattle.std.proofs.lemmas.Bool.{cases_eq, cases_order}
 use Rattle.std.proofs.lemmas.Nat.{mul-mod_second}
 use Rattle.std.specs.declared.cmp.Ordering.{Ordering}
-use Rattle.std.specs.declared.cmp.Ordering.TheVariants.{Less, Equal, Greater}
-use Rattle.ffc_field.specs.Modular.{IsPrime, mul_mod}
-use Rattle.ffc_ring.specs.Monomial.{Monomial, IsMonomial, exponent, mono_mul, mono_lcm, mono_quotient, Divides}
+use Rattle.std.specs.declared.cmp.Ordering.TheVariants.{Greater}
+use Rattle.ffc_field.specs.Modular.{IsPrime, mul_mod, pow_mod}
+use Rattle.ffc_field.proofs.ModularLaws.{mul_mod-comm}
+use Rattle.ffc_field.proofs.Primes.{inverse_residue}
+use Rattle.ffc_ring.specs.Monomial.{Monomial, IsMonomial, mono_mul, mono_lcm, mono_quotient, Divides}
 use Rattle.ffc_ring.specs.Polynomial.{Terms, AreTerms, coefficient, SamePolynomial, product, term_product, scaled, difference}
-use Rattle.ffc_ring.proofs.MonomialLemmas.{one_monomial, IsMonomial-mono_mul, exponent-mono_mul, IsMonomial-mono_lcm, mono_mul_comm, mono_mul_assoc, IsMonomialFrom-mono_quotient, exponent-mono_quotient, first_divides_lcm, second_divides_lcm}
+use Rattle.ffc_ring.proofs.MonomialLemmas.{IsMonomial-mono_mul, IsMonomial-mono_lcm, mono_mul_comm, mono_mul_assoc, mono_mul-mono_quotient, IsMonomialFrom-mono_quotient, first_divides_lcm, second_divides_lcm, lcm_divides}
 use Rattle.ffc_ring.proofs.PolynomialLemmas.{weighted, weighted-append, weighted-term_product, weighted-product, weighted-alike, SamePolynomial-from_weighted, sum_alike, times_alike, same_sums, same_term_products, shifted_monomial, monomial_of_coefficient}
 use Rattle.ffc_mono.specs.MonomialOrder.{IsMonomialOrder}
 use Rattle.ffc_mono.specs.Leading.{IsLeading}
-use Rattle.ffc_mono.proofs.LeadingLemmas.{turned, greater_trans, one_leading}
+use Rattle.ffc_mono.proofs.LeadingLemmas.{one_leading}
 use Rattle.ffc_basis.specs.declared.chain.Top.{Top}
-use Rattle.ffc_basis.specs.Chains.{AreLists, IsTop, IsRaised}
+use Rattle.ffc_basis.specs.declared.leads.Whole.{Whole}
+use Rattle.ffc_basis.specs.Chains.{IsUnder, IsTop, IsWhole, IsNoHigher}
 use Rattle.ffc_basis.specs.Completion.{IsSPolynomial, ReducesToZero, IsPairClosed}
-use Rattle.ffc_basis.specs.declared.line.Line.{Line}
-use Rattle.ffc_basis.specs.Lines.{Parts, polys_of, combination, AreBefore, AreTermLists, HasMonomial}
+use Rattle.ffc_basis.specs.Lines.{Parts, AreLists, combination, AreBefore, AreTermLists, HasMonomial}
 use Rattle.ffc_basis.specs.PairTable.{AreBothClosed}
 use Rattle.ffc_basis.specs.Reduction.{ArePartsAtMost}
-use Rattle.ffc_basis.proofs.Lists.{length-polys}
+use Rattle.ffc_basis.proofs.OrderedTerms.{AreTerms-scaled}
 use Rattle.ffc_basis.proofs.PartLemmas.{combination-append}
 use Rattle.ffc_basis.proofs.PairLemmas.{whole_times, inverse_only, nothing_leads_none, one_s_polynomial_closes, symmetric_pairs_close}
+use Rattle.ffc_basis.proofs.RaisedLemmas.{raised_quotient, lead_monomial, no_greater_trans, s_polynomial_under}
 
 -- ---- parts times a monomial
 
@@ -80,6 +83,16 @@ HasMonomial-raised p u (t ∷ ts) i m v w (inl (here, some)) =
 HasMonomial-raised p u (t ∷ ts) i m v w (inr there) =
     let found = HasMonomial-raised p u ts i m v w.1 there in (found.0, found.1, found.2, inr found.3)
 
+AreTerms-append : (a b : Terms) → AreTerms a → AreTerms b → AreTerms (a ++ b)
+AreTerms-append [] b v w = w
+AreTerms-append (t ∷ a) b v w = (v.0, AreTerms-append a b v.1 w)
+
+-- so is a difference of multiples
+AreTerms-difference : (p k l : ℕ) (u w : Monomial) (a b : Terms) → IsMonomial u → IsMonomial w → AreTerms a → AreTerms b → AreTerms (difference p (term_product k u a) (term_product l w b))
+AreTerms-difference p k l u w a b v z x y =
+    AreTerms-append (term_product k u a) (scaled (p - 1) (term_product l w b)) (AreTerms-raised k u a v x)
+    (AreTerms-scaled (p - 1) (term_product l w b) (AreTerms-raised l w b z y))
+
 -- ---- parts one after another
 
 AreBefore-append : (n : ℕ) (xs ys : Parts) → AreBefore n xs → AreBefore n ys → AreBefore n (xs ++ ys)
@@ -95,16 +108,6 @@ HasMonomial-append p [] ys i m has = inr has
 HasMonomial-append p (x ∷ xs) ys i m (inl here) = inl (inl here)
 HasMonomial-append p (x ∷ xs) ys i m (inr there) =
     elim (HasMonomial-append p xs ys i m there) [ inl first ↦ inl (inr first) | inr second ↦ inr second ]
-
--- ---- monomials
-
--- a quotient of a multiple
-raised_quotient : (low top m u : Monomial) → IsMonomial low → IsMonomial top → IsMonomial m → IsMonomial u → Divides m low → mono_mul low u ≡ top → mono_mul u (mono_quotient low m) ≡ mono_quotient top m
-raised_quotient low top m u v w x y divides is =
-    let q = mono_quotient low m in
-    let z : IsMonomial q = IsMonomialFrom-mono_quotient 0 low m v in
-    one_monomial 0 (mono_mul u q) (mono_quotient top m) (IsMonomial-mono_mul u q y z) (IsMonomialFrom-mono_quotient 0 top m w)
-    (λ i. omega (arith, exponent-mono_mul u q y z i, exponent-mono_quotient 0 low m i v, exponent-mono_quotient 0 top m i w, exponent-mono_mul low u v y i, ap (λ k. exponent k i) is, divides i))
 
 -- ---- numbers modulo p
 
@@ -152,18 +155,6 @@ weighted-raised_difference p g u q t q_top t_top k l a b v w x y z is also =
 -- ---- the criterion
 
 module _ (p : ℕ) (prime : IsPrime p) (cmp : Monomial → Monomial → Ordering) (laws : IsMonomialOrder cmp) where
-  no_greater_by : (x y : Monomial) (o : Ordering) → cmp x y ≡ o → o ≢ Greater → (x ≡ y) ⊎ (cmp y x ≡ Greater)
-  no_greater_by x y Less e ne = inr (turned cmp laws x y e)
-  no_greater_by x y Equal e ne = inl (laws.exact x y e)
-  no_greater_by x y Greater e ne = absurd (ne refl)
-
-  no_greater_trans : (x y z : Monomial) → cmp x y ≢ Greater → cmp y z ≢ Greater → cmp x z ≢ Greater
-  no_greater_trans x y z f g = λ above.
-      elim (no_greater_by x y (cmp x y) refl f) [
-        | inl same ↦ g (ap (λ k. cmp k z) (sym same) ∙ above)
-        | inr below ↦ g (greater_trans cmp laws y x z below above)
-      ]
-
   -- an S-polynomial by given leading terms
   made_of : (a b s : Terms) (c : ℕ) (m : Monomial) (d : ℕ) (n : Monomial) → IsLeading p cmp a c m → IsLeading p cmp b d n → IsSPolynomial p cmp a b s
       → (k : ℕ) × (l : ℕ) × (mul_mod p k c ≡ 1) × (mul_mod p l d ≡ 1) × SamePolynomial p s (difference p (term_product k (mono_quotient (mono_lcm m n) m) a) (term_product l (mono_quotient (mono_lcm m n) n) b))
@@ -233,14 +224,7 @@ module _ (p : ℕ) (prime : IsPrime p) (cmp : Monomial → Monomial → Ordering
       ∙ same_sums p (term_product 1 u left_list) (term_product 1 u s1) (term_product 1 w right_list) (term_product 1 w s2)
       (same_term_products p 1 u left_list s1 (λ j. sym (s1_made.4 j))) (same_term_products p 1 w right_list s2 (λ j. sym (s2_made.4 j))) i
 
-  -- a raised S-polynomial has no leading monomial above
-  below_lead : (o : Option Monomial) (s : Terms) (u lead : Monomial) → IfNone o (s ≡ []) → IfSome o (λ k. (e : ℕ) × IsLeading p cmp s e k) → IfSome o (λ k. cmp (mono_mul u k) lead ≢ Greater)
-      → (d : ℕ) (k : Monomial) → IsLeading p cmp s d k → cmp (mono_mul u k) lead ≢ Greater
-  below_lead None s u lead none some low d k is = absurd (nothing_leads_none p cmp s none d k is)
-  below_lead (Some x) s u lead none some low d k is = λ above.
-      low (ap (λ y. cmp (mono_mul u y) lead) (one_leading cmp laws p s some.0 d x k some.1 is).1 ∙ above)
-
-  -- nor has one of its parts times its line
+  -- Where no monomial of a raised polynomial is above this one, no multiple of a line in its raised parts is.
   raised_at_most : (gs : List Terms) → AreLists gs → (s : Terms) → AreTerms s → (parts : Parts) → AreTermLists parts → ArePartsAtMost p cmp gs s parts → (u lead : Monomial) → IsMonomial u
       → ((d : ℕ) (k : Monomial) → IsLeading p cmp s d k → cmp (mono_mul u k) lead ≢ Greater)
       → (i : ℕ) (m : Monomial) → HasMonomial p (raised u parts) i m → (c : ℕ) × (n : Monomial) × IsLeading p cmp (get_or gs i []) c n × (cmp (mono_mul m n) lead ≢ Greater)
@@ -261,13 +245,106 @@ module _ (p : ℕ) (prime : IsPrime p) (cmp : Monomial → Monomial → Ordering
         there.0,
         n,
         there.2,
-        (λ above. no_greater_trans (mono_mul u qn) (mono_mul u k) lead (λ more. under.3 (sym kept ∙ more)) (low under.0 k under.2) (ap (λ z. cmp z lead) (sym same) ∙ above)),
+        (λ above. no_greater_trans p prime cmp laws (mono_mul u qn) (mono_mul u k) lead (λ more. under.3 (sym kept ∙ more)) (low under.0 k under.2) (ap (λ z. cmp z lead) (sym same) ∙ above)),
       )
 
+  -- an inverse of a leading coefficient
+  inverse_of : (ts : Terms) (c : ℕ) (m : Monomial) → IsLeading p cmp ts c m → (k : ℕ) × (mul_mod p k c ≡ 1)
+  inverse_of ts c m lead =
+      let low : c < p = subst (λ x. x < p) lead.0 (mod-lt _ (omega (arith, prime.least))) in
+      let k = pow_mod p c (p - 2) in
+      (k, mul_mod-comm p k c ∙ inverse_residue p c prime low lead.1)
+
   -- the S-polynomial of two lines reduces to zero as those of both with a third one do
-  pub chain_closes : (gs : List Terms) → AreLists gs → (i j k : ℕ) (whole first second : Top) (lead : Monomial) → IsTop p cmp gs i j whole → IsTop p cmp gs i k first → IsTop p cmp gs k j second → whole.lead ≡ Some lead
-      → IsRaised cmp first whole.lcm lead → IsRaised cmp second whole.lcm lead → IsPairClosed p cmp gs i k → IsPairClosed p cmp gs k j → AreBothClosed p cmp gs i j
-  chain_closes gs lists i j k whole first second lead is one two leads (u, v, up, below) (w, t, also, under) one_closed two_closed =
+  pub chain_closes : (gs : List Terms) → AreLists gs → (i j k : ℕ) (t : Top) → IsTop p cmp (get_or gs i []) (get_or gs j []) t → IsUnder p cmp (get_or gs k []) t.lcm t.lead → IsPairClosed p cmp gs i k → IsPairClosed p cmp gs k j → AreBothClosed p cmp gs i j
+  chain_closes gs lists i j k t is third one_closed two_closed =
+      let h : 0 < p = omega (arith, prime.least) in
+      let a = get_or gs i [] in
+      let b = get_or gs j [] in
+      let e = get_or gs k [] in
+      let lead = t.lead in
+      let (c, m, d, n, a_leads, b_leads, multiple) = is.multiple in
+      let f = third.coefficient_first in
+      let r = third.first in
+      let mm : IsMonomial m = lead_monomial p cmp a c m (lists i) a_leads in
+      let nm : IsMonomial n = lead_monomial p cmp b d n (lists j) b_leads in
+      let rm : IsMonomial r = lead_monomial p cmp e f r (lists k) third.leads in
+      let top = mono_lcm m n in
+      let left = mono_lcm m r in
+      let right = mono_lcm r n in
+      let tm : IsMonomial top = IsMonomial-mono_lcm m n mm nm in
+      let lm : IsMonomial left = IsMonomial-mono_lcm m r mm rm in
+      let gm : IsMonomial right = IsMonomial-mono_lcm r n rm nm in
+      let a_under : IsUnder p cmp a top lead = subst (λ z. IsUnder p cmp a z lead) multiple is.first in
+      let b_under : IsUnder p cmp b top lead = subst (λ z. IsUnder p cmp b z lead) multiple is.second in
+      let e_under : IsUnder p cmp e top lead = subst (λ z. IsUnder p cmp e z lead) multiple third in
+      let r_divides : Divides r top = subst (Divides r) multiple third.divides in
+      let u = mono_quotient top left in
+      let w = mono_quotient top right in
+      let um : IsMonomial u = IsMonomialFrom-mono_quotient 0 top left tm in
+      let wm : IsMonomial w = IsMonomialFrom-mono_quotient 0 top right tm in
+      let left_up : mono_mul left u ≡ top = mono_mul-mono_quotient top left tm lm (lcm_divides m r top mm rm (first_divides_lcm m n mm nm) r_divides) in
+      let right_up : mono_mul right w ≡ top = mono_mul-mono_quotient top right tm gm (lcm_divides r n top rm nm r_divides (second_divides_lcm m n mm nm)) in
+      let x = inverse_of a c m a_leads in
+      let y = inverse_of b d n b_leads in
+      let z = inverse_of e f r third.leads in
+      let s = difference p (term_product x.0 (mono_quotient top m) a) (term_product y.0 (mono_quotient top n) b) in
+      let s1 = difference p (term_product x.0 (mono_quotient left m) a) (term_product z.0 (mono_quotient left r) e) in
+      let s2 = difference p (term_product z.0 (mono_quotient right r) e) (term_product y.0 (mono_quotient right n) b) in
+      let s_is : IsSPolynomial p cmp a b s = (c, m, d, n, a_leads, b_leads, x.0, y.0, x.1, y.1, λ _. refl) in
+      let s1_is : IsSPolynomial p cmp a e s1 = (c, m, f, r, a_leads, third.leads, x.0, z.0, x.1, z.1, λ _. refl) in
+      let s2_is : IsSPolynomial p cmp e b s2 = (f, r, d, n, third.leads, b_leads, z.0, y.0, z.1, y.1, λ _. refl) in
+      let s1_terms : AreTerms s1 =
+      AreTerms-difference p x.0 z.0 (mono_quotient left m) (mono_quotient left r) a e (IsMonomialFrom-mono_quotient 0 left m lm) (IsMonomialFrom-mono_quotient 0 left r lm) (lists i) (lists k) in
+      let s2_terms : AreTerms s2 =
+      AreTerms-difference p z.0 y.0 (mono_quotient right r) (mono_quotient right n) e b (IsMonomialFrom-mono_quotient 0 right r gm) (IsMonomialFrom-mono_quotient 0 right n gm) (lists k) (lists j) in
+      let s_leads = is.leading s s_is in
+      let sum : SamePolynomial p s (term_product 1 u s1 ++ term_product 1 w s2) =
+      chain_sum a b e s s1 s2 c d f m n r u w (lists i) (lists j) (lists k) a_leads b_leads third.leads um wm left_up right_up s_is s1_is s2_is in
+      let v1 : ReducesToZero p cmp gs s1 = one_closed s1 s1_is in
+      let v2 : ReducesToZero p cmp gs s2 = two_closed s2 s2_is in
+      let xs = raised u v1.0 in
+      let ys = raised w v2.0 in
+      let reduces : ReducesToZero p cmp gs s = (
+        xs ++ ys,
+        AreBefore-append (length gs) xs ys (AreBefore-raised (length gs) u v1.0 v1.1) (AreBefore-raised (length gs) w v2.0 v2.1),
+        (λ l q has.
+            let there : (o : ℕ) × (g : Monomial) × IsLeading p cmp (get_or gs l []) o g × (cmp (mono_mul q g) lead ≢ Greater) =
+            elim (HasMonomial-append p xs ys l q has) [
+              | inl here ↦
+                  raised_at_most gs lists s1 s1_terms v1.0 v1.4 v1.2 u lead um
+                  (λ o g leads.
+                  s_polynomial_under p prime cmp laws a e (lists i) (lists k) c f m r a_leads third.leads x.0 z.0 x.1 z.1 u top lead um tm left_up a_under e_under g (λ none. leads.1 (sym leads.0 ∙ none)))
+                  l q here
+              | inr here ↦
+                  raised_at_most gs lists s2 s2_terms v2.0 v2.4 v2.2 w lead wm
+                  (λ o g leads.
+                  s_polynomial_under p prime cmp laws e b (lists k) (lists j) f d r n third.leads b_leads z.0 y.0 z.1 y.1 w top lead wm tm right_up e_under b_under g (λ none. leads.1 (sym leads.0 ∙ none)))
+                  l q here
+            ] in
+            (there.0, there.1, there.2, (s_leads.0, lead, s_leads.1, there.3))),
+        (λ q.
+            sum q
+            ∙ same_sums p (term_product 1 u s1) (combination gs xs) (term_product 1 w s2) (combination gs ys)
+            (λ l. same_term_products p 1 u s1 (combination gs v1.0) v1.3 l ∙ sym (combination-raised p u gs v1.0 um lists v1.4 l))
+            (λ l. same_term_products p 1 w s2 (combination gs v2.0) v2.3 l ∙ sym (combination-raised p w gs v2.0 wm lists v2.4 l)) q
+            ∙ ap (λ ts. coefficient p ts q) (sym (combination-append gs xs ys))),
+        AreTermLists-append xs ys (AreTermLists-raised u v1.0 um v1.4) (AreTermLists-raised w v2.0 wm v2.4),
+      ) in
+      let closed : IsPairClosed p cmp gs i j = one_s_polynomial_closes p cmp laws gs i j s s_is reduces in
+      (closed, symmetric_pairs_close p cmp h gs i j (lists i) (lists j) closed)
+
+  -- a raised S-polynomial has no leading monomial above
+  below_lead : (o : Option Monomial) (s : Terms) (u lead : Monomial) → IfNone o (s ≡ []) → IfSome o (λ k. (e : ℕ) × IsLeading p cmp s e k) → IfSome o (λ k. cmp (mono_mul u k) lead ≢ Greater)
+      → (d : ℕ) (k : Monomial) → IsLeading p cmp s d k → cmp (mono_mul u k) lead ≢ Greater
+  below_lead None s u lead none some low d k is = absurd (nothing_leads_none p cmp s none d k is)
+  below_lead (Some x) s u lead none some low d k is = λ above.
+      low (ap (λ y. cmp (mono_mul u y) lead) (one_leading cmp laws p s some.0 d x k some.1 is).1 ∙ above)
+
+  -- the same by the leading monomials of the S-polynomials
+  pub whole_chain_closes : (gs : List Terms) → AreLists gs → (i j k : ℕ) (whole first second : Whole) (lead : Monomial) → IsWhole p cmp gs i j whole → IsWhole p cmp gs i k first → IsWhole p cmp gs k j second → whole.lead ≡ Some lead
+      → IsNoHigher cmp first whole.lcm lead → IsNoHigher cmp second whole.lcm lead → IsPairClosed p cmp gs i k → IsPairClosed p cmp gs k j → AreBothClosed p cmp gs i j
+  whole_chain_closes gs lists i j k whole first second lead is one two leads (u, v, up, below) (w, t, also, under) one_closed two_closed =
       let a = get_or gs i [] in
       let b = get_or gs j [] in
       let e = get_or gs k [] in
@@ -313,25 +390,3 @@ module _ (p : ℕ) (prime : IsPrime p) (cmp : Monomial → Monomial → Ordering
       ) in
       let closed : IsPairClosed p cmp gs i j = one_s_polynomial_closes p cmp laws gs i j s is.s_polynomial reduces in
       (closed, symmetric_pairs_close p cmp (omega (arith, prime.least)) gs i j (lists i) (lists j) closed)
-
--- ---- lines that are lists of terms
-
-pub lists_more : (gs : List Terms) (n : ℕ) → ((i : ℕ) → i < n → AreTerms (get_or gs i [])) → AreTerms (get_or gs n []) → (i : ℕ) → i < n + 1 → AreTerms (get_or gs i [])
-lists_more gs n v w i h =
-    elim (cases_eq i n) [ inl same ↦ subst (λ k. AreTerms (get_or gs k [])) (sym same) w | inr other ↦ v i (omega arith) ]
-
-past_end : {A : Type 0} (xs : List A) (i : ℕ) (d : A) → length xs ≤ i → get_or xs i d ≡ d
-past_end [] i d h = refl
-past_end (x ∷ xs) zero d h = absurd (omega arith)
-past_end (x ∷ xs) (suc i) d h = past_end xs i d (omega arith)
-
-pub lists_all : {F O : Type 0} (ls : List (Line F O)) (n : ℕ) → length ls ≤ n → ((i : ℕ) → i < n → AreTerms (get_or (polys_of ls) i [])) → AreLists (polys_of ls)
-lists_all ls n h v i =
-    elim (cases_order i n) [
-      | inl same ↦ none i (omega (arith, h))
-      | inr (inl less) ↦ v i less
-      | inr (inr more) ↦ none i (omega (arith, h))
-    ]
-  where
-    none : (k : ℕ) → length ls ≤ k → AreTerms (get_or (polys_of ls) k [])
-    none k low = subst AreTerms (sym (past_end (polys_of ls) k [] (omega (arith, length-polys ls)))) tt

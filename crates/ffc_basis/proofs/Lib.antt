@@ -11,6 +11,7 @@ pub mod OrderedTerms
 pub mod PairLemmas
 pub mod PairTableLemmas
 pub mod PartLemmas
+pub mod RaisedLemmas
 pub mod ReductionLemmas
 pub mod SPolynomialLemmas
 pub mod UnitLemmas

@@ -1,9 +1,10 @@
 -- Lists of lines and of terms, by their places.
-use Rattle.std.proofs.Common.{◌≡◌, ◌≢◌, ◌⊎◌, ℕ, zero, suc, ◌<◌, List, [], ◌∷◌, length, get_or, refl, ap, inl, inr, arith, Result, Ok, Err, OnOk, IfOk}
+use Rattle.std.proofs.Common.{◌≡◌, ◌≢◌, ◌⊎◌, ℕ, zero, suc, ◌<◌, List, [], ◌∷◌, ◌++◌, length, get_or, take, refl, ap, inl, inr, arith, Result, Ok, Err, OnOk, IfOk}
 use Rattle.ffc_poly.specs.declared.stop.PolyStop.{PolyStop}
 use Rattle.ffc_poly.specs.declared.stop.PolyStop.TheVariants.{DegreeOver, TermsOver, Memory}
 use Rattle.ffc_basis.specs.declared.line.Line.{Line}
-use Rattle.ffc_basis.specs.Lines.{polys_of}
+use Rattle.ffc_ring.specs.Polynomial.{Terms, AreTerms}
+use Rattle.ffc_basis.specs.Lines.{polys_of, AreLists}
 
 -- within the list the default does not matter
 pub any_default : {A : Type 0} (xs : List A) (i : ℕ) (d e : A) → i < length xs → get_or xs i d ≡ get_or xs i e
@@ -20,6 +21,23 @@ pub poly_at : {F O : Type 0} (ls : List (Line F O)) (i : ℕ) (l : Line F O) →
 poly_at [] i l h = absurd (omega arith)
 poly_at (k ∷ ls) zero l h = refl
 poly_at (k ∷ ls) (suc i) l h = poly_at ls i l (omega arith)
+
+-- ---- lists of terms
+
+pub lists_none : AreLists []
+lists_none i = tt
+
+pub lists_push : (gs : List Terms) (g : Terms) → AreLists gs → AreTerms g → AreLists (gs ++ g ∷ [])
+lists_push [] g v w zero = w
+lists_push [] g v w (suc i) = tt
+lists_push (f ∷ gs) g v w zero = v zero
+lists_push (f ∷ gs) g v w (suc i) = lists_push gs g (λ j. v (suc j)) w i
+
+pub lists_take : (n : ℕ) (gs : List Terms) → AreLists gs → AreLists (take n gs)
+lists_take zero gs v i = tt
+lists_take (suc n) [] v i = tt
+lists_take (suc n) (g ∷ gs) v zero = v zero
+lists_take (suc n) (g ∷ gs) v (suc i) = lists_take n gs (λ j. v (suc j)) i
 
 -- which limit was passed
 pub limits : {A B : Type 0} (stop : PolyStop) → (stop ≡ DegreeOver → A) → (stop ≡ TermsOver → B) → stop ≢ Memory → A ⊎ B

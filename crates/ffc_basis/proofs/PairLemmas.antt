@@ -213,7 +213,7 @@ second_zero_line_closes p cmp gs i j none s is = absurd (none is.2 is.3 is.5)
 pub nothing_leads_none : (p : ℕ) (cmp : Monomial → Monomial → Ordering) (ts : Terms) → ts ≡ [] → (c : ℕ) (m : Monomial) → IsLeading p cmp ts c m → ⊥
 nothing_leads_none p cmp ts none c m lead = lead.1 (sym lead.0 ∙ ap (λ l. coefficient p l m) none ∙ zero-mod p)
 
-lcm_commutes : (m n : Monomial) → IsMonomial m → IsMonomial n → mono_lcm m n ≡ mono_lcm n m
+pub lcm_commutes : (m n : Monomial) → IsMonomial m → IsMonomial n → mono_lcm m n ≡ mono_lcm n m
 lcm_commutes m n v w =
     one_monomial 0 (mono_lcm m n) (mono_lcm n m) (IsMonomial-mono_lcm m n v w) (IsMonomial-mono_lcm n m w v)
     (λ x. omega (arith, exponent-mono_lcm m n v w x, exponent-mono_lcm n m w v x))

@@ -13,9 +13,10 @@ use Rattle.ffc_basis.specs.declared.pair.PairState.{PairState}
 use Rattle.ffc_basis.specs.declared.pair.PairState.TheVariants.{Pending, Closed, Over}
 use Rattle.ffc_basis.specs.Completion.{IsPairClosed, IsPairOver, AreOver, IsListed}
 use Rattle.ffc_basis.specs.Completed.{IsCompletion}
+use Rattle.ffc_basis.specs.Lines.{AreLists}
 use Rattle.ffc_basis.specs.PairTable.{AreBothClosed, AreNeedless, IsState, IsRecord, AreRecords, HasRecord, ArePairs, AreSettled, known_by, forgotten, with_over, over_of, answer_of}
 use Rattle.ffc_basis.proofs.LineLemmas.{taken_more}
-use Rattle.ffc_basis.proofs.Lists.{any_default}
+use Rattle.ffc_basis.proofs.Lists.{any_default, lists_take}
 use Rattle.ffc_basis.proofs.PairLemmas.{grown_pairs_close, same_line_closes}
 
 -- ---- lists
@@ -82,8 +83,9 @@ module _ (p : ℕ) (cmp : Monomial → Monomial → Ordering) where
   needless_alike : (a b c d : Terms) → a ≡ c → b ≡ d → AreNeedless p cmp a b → AreNeedless p cmp c d
   needless_alike a b c d e f v = subst (λ x. AreNeedless p cmp x d) e (subst (AreNeedless p cmp a) f v)
 
-  pub pairs_grown : (gs more : List Terms) (rs : List PairRecord) (joined : ℕ) → ArePairs p cmp gs rs joined → ArePairs p cmp (gs ++ more) rs joined
-  pairs_grown gs more rs joined v = record {
+  pub pairs_grown : (gs more : List Terms) (rs : List PairRecord) (joined : ℕ) → AreLists (gs ++ more) → ArePairs p cmp gs rs joined → ArePairs p cmp (gs ++ more) rs joined
+  pairs_grown gs more rs joined lists v = record {
+    lists = lists;
     joined_within = omega (arith, v.joined_within, length-append gs more);
     records = records_grown gs more rs v.records;
     covered = λ i j h g.
@@ -153,6 +155,7 @@ module _ (p : ℕ) (cmp : Monomial → Monomial → Ordering) where
   pub pairs_cut : (gs : List Terms) (rs : List PairRecord) (joined len : ℕ) → len ≤ length gs → ArePairs p cmp gs rs joined → ArePairs p cmp (take len gs) (map (forgotten len) (filter (λ r. nat_lt r.second len) rs)) (min joined len)
   pairs_cut gs rs joined len h v = record {
     joined_within = omega (arith, length-take-le len gs h);
+    lists = lists_take len gs v.lists;
     records = records_cut gs len rs h v.records;
     covered = λ i j low below.
         elim (v.covered i j low (omega arith)) [
@@ -181,6 +184,7 @@ module _ (p : ℕ) (cmp : Monomial → Monomial → Ordering) where
   -- a pending pair more
   pub pairs_push : (gs : List Terms) (rs : List PairRecord) (joined : ℕ) (r : PairRecord) → r.first < r.second → r.second < length gs → r.state ≡ Pending → ArePairs p cmp gs rs joined → ArePairs p cmp gs (rs ++ r ∷ []) joined
   pairs_push gs rs joined r h g is v = record {
+    lists = v.lists;
     joined_within = v.joined_within;
     records = records_push gs rs r v.records record { ordered = h; within = g; state = subst (IsState p cmp gs r.first r.second) (sym is) tt };
     covered = λ i j low below.
@@ -210,6 +214,7 @@ module _ (p : ℕ) (cmp : Monomial → Monomial → Ordering) where
   -- so each pair of one line more is
   pub pairs_joined : (gs : List Terms) (rs : List PairRecord) (second : ℕ) → second < length gs → ArePairs p cmp gs rs second → IsColumn gs rs second second → ArePairs p cmp gs rs (second + 1)
   pairs_joined gs rs second h v column = record {
+    lists = v.lists;
     joined_within = omega (arith, h);
     records = v.records;
     covered = λ i j low below.
@@ -246,6 +251,7 @@ module _ (p : ℕ) (cmp : Monomial → Monomial → Ordering) where
   pairs_set gs rs joined place x r h is e f state v =
       let old = record_is gs rs joined place x v h is in
       record {
+        lists = v.lists;
         joined_within = v.joined_within;
         records = records_set gs rs place r v.records record {
           ordered = omega (arith, old.ordered, e, f);

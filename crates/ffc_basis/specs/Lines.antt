@@ -17,6 +17,10 @@ Parts = List (ℕ × Terms)
 abbrev pub polys_of : {F O : Type 0} → List (Line F O) → List Terms
 polys_of ls = map (λ l. l.poly) ls
 
+-- each line is a list of terms
+abbrev pub AreLists : List Terms → Type 0
+AreLists gs = (i : ℕ) → AreTerms (get_or gs i [])
+
 -- the sum of the parts' multiples of the lines
 abbrev pub combination : List Terms → Parts → Terms
 combination gs [] = []

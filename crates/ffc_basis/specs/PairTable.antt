@@ -9,6 +9,7 @@ use Rattle.ffc_basis.specs.declared.pair.PairRecord.{PairRecord}
 use Rattle.ffc_basis.specs.declared.pair.PairState.{PairState}
 use Rattle.ffc_basis.specs.declared.pair.PairState.TheVariants.{Pending, Closed, Over}
 use Rattle.ffc_basis.specs.Completion.{IsPairClosed, IsPairOver}
+use Rattle.ffc_basis.specs.Lines.{AreLists}
 
 -- both S-polynomials of two lines reduce to zero
 abbrev pub AreBothClosed : ℕ → (Monomial → Monomial → Ordering) → List Terms → ℕ → ℕ → Type 0
@@ -47,6 +48,7 @@ IsCovered p cmp gs rs joined =
 
 pub record ArePairs (p : ℕ) (cmp : Monomial → Monomial → Ordering) (gs : List Terms) (rs : List PairRecord) (joined : ℕ) : Type 0 where
   pub joined_within : joined ≤ length gs
+  pub lists : AreLists gs
   pub records : AreRecords p cmp gs rs
   pub covered : IsCovered p cmp gs rs joined
 

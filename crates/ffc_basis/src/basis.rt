@@ -6,7 +6,7 @@ ghost use Rattle.ffc_basis.specs.Completion.{ReducesToZero};
 ghost use Rattle.ffc_basis.specs.Completed.{IsFront, IsCompletion, IsProgress, HasTaken};
 ghost use Rattle.ffc_basis.specs.Units.{Takes, TakesReductions, IsReductionBound, IsCompletionBound};
 ghost use Rattle.ffc_basis.specs.Lines.{polys_of, combination, AreBefore, AreLines, ArePolynomials, AreGenerators};
-ghost use Rattle.ffc_basis.specs.Lines.{IsAddedTo};
+ghost use Rattle.ffc_basis.specs.Lines.{AreLists, IsAddedTo};
 ghost use Rattle.ffc_basis.specs.Reduction.{ArePartsAtMost, IsReduced, IsStopped};
 ghost use Rattle.ffc_basis.specs.declared.stop.BasisStop.TheVariants as stops;
 
@@ -204,9 +204,11 @@ fn append_generators<F: Field, O: MonoOrder>(
     gens: &[Poly<F, O>],
 ) -> Result<(), AllocError>
     ensures added { OnOk result (IsAddedTo lines.old.items lines.new.items gens.now) }
+    ensures lists { AreLists (polys_of lines.old.items) → AreLists (polys_of lines.new.items) }
     ensures kept { take (vec_len lines.old) lines.new.items ≡ lines.old.items }
 {
     for poly in gens {
+        let _length = poly.len();
         let line = generator(*lines.allocator(), poly)?;
         lines.push(line)?;
     }

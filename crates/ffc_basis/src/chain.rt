@@ -1,157 +1,178 @@
-//! Buchberger's second criterion (Buchberger 1979; Cox, Little and O'Shea, chapter 2, section 10): a pair of lines needs no
-//! reduction where a third line's leading monomial divides the least common multiple of theirs, and its pairs with both are
-//! done. Here that is tested as a basis is completed: the S-polynomial of the two lines is the sum of multiples of the other
-//! two S-polynomials, and reduces to zero as they do where its leading monomial is not below that of a multiple. So only the
-//! leading monomials are compared.
-ghost use Rattle.std.specs.Prelude.{◌≡◌, ℕ, ◌<◌, [], length, IsTrue, IfOk, IfSome, IfNone};
-ghost use Rattle.ffc_mono.specs.Leading.{IsLeading};
-ghost use Rattle.ffc_basis.specs.Chains.{AreLists, IsTop, IsRaised};
-ghost use Rattle.ffc_basis.specs.Completion.{IsPairClosed};
-ghost use Rattle.ffc_basis.specs.Lines.{polys_of};
+//! Buchberger's second criterion (Buchberger 1979; Cox, Little and O'Shea, chapter 2, section 10): a pair of lines
+//! needs no reduction where a third line's leading monomial divides the least common multiple of theirs, and its pairs
+//! with both are done. Here that is tested as a basis is completed: the S-polynomial of the two lines is the sum of
+//! multiples of the other two S-polynomials, and reduces to zero as they do where no monomial of these multiples is
+//! above its leading one.
+//!
+//! Mostly no S-polynomial is made for that. In each the leading terms of the lines cancel, so its monomials are at most
+//! the second monomials of the lines, each multiplied as its line is. The greater one of these leads, unless both
+//! cancel as well: then the S-polynomials are made after all (leads.rt).
+ghost use Rattle.std.specs.Prelude.{◌<◌, [], length, get_or, IsTrue, IfOk, IfSome};
+ghost use Rattle.std.specs.Bool.{OnFalse};
+ghost use Rattle.ffc_basis.specs.Chains.{IsRaised, AreApart, IsUnder, IsLeadLcm, IsTop};
+ghost use Rattle.ffc_basis.specs.Lines.{polys_of, AreLists};
 ghost use Rattle.ffc_basis.specs.PairTable.{AreRecords, AreBothClosed};
 
+use crate::leads::follows_by_leads;
 use crate::line::Line;
 use crate::pair::PairRecord;
 use crate::pairing::is_needed;
 use crate::reduction::past_limit;
-use crate::spoly::{lcm_of, s_polynomial};
+use crate::spoly::lcm_of;
 use ffc_field::Field;
 use ffc_mono::{Mono, MonoOrder, MonoStop};
 use ffc_poly::Poly;
 use std::alloc::{AllocError, Global};
 use std::cmp::Ordering;
 
-/// What is compared of the S-polynomial of two lines.
+/// What is compared of a line times the monomial that makes its leading monomial a given multiple of it.
+#[derive(Debug, Drop)]
+pub(crate) struct Raised {
+    /// The second monomial, where it has two terms.
+    second: Option<Mono>,
+}
+
+/// What is compared of two lines.
 #[derive(Debug, Drop)]
 pub(crate) struct Top {
     /// The least common multiple of the leading monomials of the lines.
     lcm: Mono,
-    /// The leading monomial of the S-polynomial, where it is not 0.
-    lead: Option<Mono>,
+    /// The leading monomial of the S-polynomial.
+    lead: Mono,
 }
 
-/// The leading monomial of a polynomial.
-fn lead_of<F: Field, O: MonoOrder>(
+/// The second monomial times the monomial that makes the leading one this multiple of it.
+fn raise<F: Field, O: MonoOrder>(
     alloc: Global,
     poly: &Poly<F, O>,
-) -> Result<Option<Mono>, AllocError>
-    ensures none { IfOk result (λ o. IfNone o (poly.now ≡ [])) }
-    ensures some { IfOk result (λ o. IfSome o (λ k. (e : ℕ) × IsLeading F.ORDER O.cmp poly.now e k)) }
+    top: &Mono,
+) -> Result<Option<Raised>, AllocError>
+    ensures { IfOk result (λ o. IfSome o (IsRaised F.ORDER O.cmp poly.now top.now)) }
 {
+    let count = poly.len();
     let Some((_, lead)) = poly.lead() else {
         return Ok(None);
     };
-    Ok(Some(lead.to_mono(alloc)?))
+    if !lead.divides(top.as_ref()) {
+        return Ok(None);
+    }
+    if count < 2 {
+        return Ok(Some(Raised { second: None }));
+    }
+    let up = top.quotient(&lead.to_mono(alloc)?)?;
+    let _degree = up.degree();
+    let (_, second) = poly.term(1);
+    match up.mul(&second.to_mono(alloc)?) {
+        Ok(second) => Ok(Some(Raised {
+            second: Some(second),
+        })),
+        Err(MonoStop::DegreeOver) => Ok(None),
+        Err(MonoStop::Memory) => Err(AllocError),
+    }
 }
 
-/// What is compared of two lines that are not 0, where no limit is passed.
-fn top_of<F: Field, O: MonoOrder>(
-    alloc: Global,
-    lines: &[Line<F, O>],
-    i: usize,
-    j: usize,
-) -> Result<Option<Top>, AllocError>
-    requires first { i < length lines.now }
-    requires second { j < length lines.now }
-    ensures { IfOk result (λ o. IfSome o (IsTop F.ORDER O.cmp (polys_of lines.now) i j)) }
+/// Whether the second terms of two polynomials cancel in their S-polynomial, where they have the same monomial there.
+fn cancel<F: Field, O: MonoOrder>(a: &Poly<F, O>, b: &Poly<F, O>) -> bool
+    ensures { OnFalse result (AreApart F.ORDER O.cmp a.now b.now) }
 {
-    let a = &lines[i].poly;
-    let b = &lines[j].poly;
+    if a.len().min(b.len()) < 2 {
+        return true;
+    }
     let Some(m) = a.lead() else {
-        return Ok(None);
+        return true;
     };
     let Some(n) = b.lead() else {
+        return true;
+    };
+    let first = a.term(1).0.mul(n.0);
+    let second = b.term(1).0.mul(m.0);
+    first.residue() == second.residue()
+}
+
+/// What is compared of two polynomials, of which the second monomials are known.
+fn top_by<F: Field, O: MonoOrder>(
+    a: &Poly<F, O>,
+    b: &Poly<F, O>,
+    lcm: Mono,
+    first: Raised,
+    second: Raised,
+) -> Option<Top>
+    requires multiple { IsLeadLcm F.ORDER O.cmp a.now b.now lcm }
+    requires first { IsRaised F.ORDER O.cmp a.now lcm first }
+    requires second { IsRaised F.ORDER O.cmp b.now lcm second }
+    ensures { IfSome result (IsTop F.ORDER O.cmp a.now b.now) }
+{
+    let _lengths = (a.len(), b.len());
+    let Some(own) = first.second else {
+        let lead = second.second?;
+        return Some(Top { lcm, lead });
+    };
+    let Some(other) = second.second else {
+        return Some(Top { lcm, lead: own });
+    };
+    match O::compare(&own, &other) {
+        Ordering::Greater => Some(Top { lcm, lead: own }),
+        Ordering::Less => Some(Top { lcm, lead: other }),
+        Ordering::Equal => {
+            if cancel(a, b) {
+                None
+            } else {
+                Some(Top { lcm, lead: own })
+            }
+        }
+    }
+}
+
+/// What is compared of two polynomials, where they have an S-polynomial other than 0 and no limit is passed.
+fn top_of<F: Field, O: MonoOrder>(
+    alloc: Global,
+    a: &Poly<F, O>,
+    b: &Poly<F, O>,
+) -> Result<Option<Top>, AllocError>
+    ensures { IfOk result (λ o. IfSome o (IsTop F.ORDER O.cmp a.now b.now)) }
+{
+    let Some((_, m)) = a.lead() else {
         return Ok(None);
     };
-    let lcm = match lcm_of(alloc, m.1, n.1) {
+    let Some((_, n)) = b.lead() else {
+        return Ok(None);
+    };
+    let lcm = match lcm_of(alloc, m, n) {
         Ok(lcm) => lcm,
         Err(stop) => {
             past_limit(stop)?;
             return Ok(None);
         }
     };
-    let found = match s_polynomial(alloc, lines, i, j) {
-        Ok(found) => found,
-        Err(stop) => {
-            past_limit(stop)?;
-            return Ok(None);
-        }
-    };
-    let Some(spoly) = found else {
+    let Some(first) = raise(alloc, a, &lcm)? else {
         return Ok(None);
     };
-    let _length = spoly.poly.len();
-    let lead = lead_of(alloc, &spoly.poly)?;
-    Ok(Some(Top { lcm, lead }))
+    let Some(second) = raise(alloc, b, &lcm)? else {
+        return Ok(None);
+    };
+    Ok(top_by(a, b, lcm, first, second))
 }
 
-/// Whether the S-polynomial, raised to a common multiple, has no leading monomial above this one.
-fn is_raised<O: MonoOrder>(part: &Top, top: &Mono, lead: &Mono) -> Result<bool, AllocError>
-    ensures { IfOk result (λ b. IsTrue b → IsRaised O.cmp part.now top.now lead.now) }
+/// Whether a line, times what makes its leading monomial the least common multiple, has no other monomial above that
+/// which leads the S-polynomial.
+fn is_under<F: Field, O: MonoOrder>(
+    alloc: Global,
+    poly: &Poly<F, O>,
+    top: &Top,
+) -> Result<bool, AllocError>
+    ensures { IfOk result (λ b. IsTrue b → IsUnder F.ORDER O.cmp poly.now top.now.lcm top.now.lead) }
 {
-    if !part.lcm.divides(top) {
+    let Some(line) = raise(alloc, poly, &top.lcm)? else {
         return Ok(false);
-    }
-    let up = top.quotient(&part.lcm)?;
-    let _degree = up.degree();
-    let Some(own) = &part.lead else {
+    };
+    let Some(second) = line.second else {
         return Ok(true);
     };
-    let raised = match up.mul(own) {
-        Ok(raised) => raised,
-        Err(MonoStop::DegreeOver) => return Ok(false),
-        Err(MonoStop::Memory) => return Err(AllocError),
-    };
-    match O::compare(&raised, lead) {
+    match O::compare(&second, &top.lead) {
         Ordering::Less => Ok(true),
         Ordering::Equal => Ok(true),
         Ordering::Greater => Ok(false),
     }
-}
-
-/// Goes over the lines, each of which is a list of terms.
-fn lists<F: Field, O: MonoOrder>(lines: &[Line<F, O>])
-    ensures { AreLists (polys_of lines.now) }
-{
-    for number in 0..lines.len() {
-        let _length = lines[number].poly.len();
-    }
-}
-
-/// Whether the pair of two lines follows from the pairs of both with a third one.
-fn follows<F: Field, O: MonoOrder>(
-    alloc: Global,
-    lines: &[Line<F, O>],
-    i: usize,
-    j: usize,
-    third: usize,
-    whole: &Top,
-) -> Result<bool, AllocError>
-    requires first { i < length lines.now }
-    requires second { j < length lines.now }
-    requires third { third < length lines.now }
-    requires whole { IsTop F.ORDER O.cmp (polys_of lines.now) i j whole.now }
-    requires first_closed { IsPairClosed F.ORDER O.cmp (polys_of lines.now) i third }
-    requires second_closed { IsPairClosed F.ORDER O.cmp (polys_of lines.now) third j }
-    ensures { IfOk result (λ b. IsTrue b → AreBothClosed F.ORDER O.cmp (polys_of lines.now) i j) }
-{
-    let Some(lead) = &whole.lead else {
-        return Ok(false);
-    };
-    let Some(first) = top_of(alloc, lines, i, third)? else {
-        return Ok(false);
-    };
-    if !is_raised::<O>(&first, &whole.lcm, lead)? {
-        return Ok(false);
-    }
-    let Some(second) = top_of(alloc, lines, third, j)? else {
-        return Ok(false);
-    };
-    if !is_raised::<O>(&second, &whole.lcm, lead)? {
-        return Ok(false);
-    }
-    lists(lines);
-    Ok(true)
 }
 
 /// Where the record of a pair is, if there is one: they are ordered by their second lines and then by their first ones.
@@ -182,7 +203,7 @@ fn is_closed<F: Field, O: MonoOrder>(
 }
 
 /// The same of two lines either way round.
-fn is_closed_between<F: Field, O: MonoOrder>(
+pub(crate) fn is_closed_between<F: Field, O: MonoOrder>(
     lines: &[Line<F, O>],
     records: &[PairRecord],
     i: usize,
@@ -203,43 +224,11 @@ fn is_closed_between<F: Field, O: MonoOrder>(
 }
 
 /// Whether the leading monomial of a polynomial divides a monomial.
-fn is_led_by_divisor<F: Field, O: MonoOrder>(poly: &Poly<F, O>, m: &Mono) -> bool {
+pub(crate) fn is_led_by_divisor<F: Field, O: MonoOrder>(poly: &Poly<F, O>, m: &Mono) -> bool {
     match poly.lead() {
         Some((_, lead)) => lead.divides(m.as_ref()),
         None => false,
     }
-}
-
-/// Whether a third line's leading monomial divides the least common multiple of those of two lines. This is seen before any
-/// S-polynomial is made, since on sparse lines there is mostly none.
-fn has_third<F: Field, O: MonoOrder>(
-    alloc: Global,
-    lines: &[Line<F, O>],
-    i: usize,
-    j: usize,
-) -> Result<bool, AllocError>
-    requires first { i < length lines.now }
-    requires second { j < length lines.now }
-{
-    let Some(m) = lines[i].poly.lead() else {
-        return Ok(false);
-    };
-    let Some(n) = lines[j].poly.lead() else {
-        return Ok(false);
-    };
-    let lcm = match lcm_of(alloc, m.1, n.1) {
-        Ok(lcm) => lcm,
-        Err(stop) => {
-            past_limit(stop)?;
-            return Ok(false);
-        }
-    };
-    for third in 0..lines.len() {
-        if third != i && third != j && is_led_by_divisor(&lines[third].poly, &lcm) {
-            return Ok(true);
-        }
-    }
-    Ok(false)
 }
 
 /// Whether the pair of two lines follows from its pairs with a third one, which are done.
@@ -250,16 +239,18 @@ fn is_chained_by<F: Field, O: MonoOrder>(
     i: usize,
     j: usize,
     third: usize,
-    whole: &Top,
+    top: &Top,
 ) -> Result<bool, AllocError>
     requires first { i < length lines.now }
     requires second { j < length lines.now }
     requires third { third < length lines.now }
-    requires whole { IsTop F.ORDER O.cmp (polys_of lines.now) i j whole.now }
+    requires top { IsTop F.ORDER O.cmp (get_or (polys_of lines.now) i []) (get_or (polys_of lines.now) j []) top.now }
     requires records { AreRecords F.ORDER O.cmp (polys_of lines.now) records.now }
+    requires lists { AreLists (polys_of lines.now) }
     ensures { IfOk result (λ b. IsTrue b → AreBothClosed F.ORDER O.cmp (polys_of lines.now) i j) }
 {
-    if !is_led_by_divisor(&lines[third].poly, &whole.lcm) {
+    let poly = &lines[third].poly;
+    if !is_led_by_divisor(poly, &top.lcm) {
         return Ok(false);
     }
     if !is_closed_between(lines, records, i, third) {
@@ -268,7 +259,7 @@ fn is_chained_by<F: Field, O: MonoOrder>(
     if !is_closed_between(lines, records, third, j) {
         return Ok(false);
     }
-    follows(alloc, lines, i, j, third, whole)
+    is_under(alloc, poly, top)
 }
 
 /// Whether the pair of two lines follows from pairs that are done.
@@ -282,16 +273,14 @@ pub(crate) fn is_chained<F: Field, O: MonoOrder>(
     requires first { i < length lines.now }
     requires second { j < length lines.now }
     requires records { AreRecords F.ORDER O.cmp (polys_of lines.now) records.now }
+    requires lists { AreLists (polys_of lines.now) }
     ensures { IfOk result (λ b. IsTrue b → AreBothClosed F.ORDER O.cmp (polys_of lines.now) i j) }
 {
-    if !has_third(alloc, lines, i, j)? {
-        return Ok(false);
-    }
-    let Some(whole) = top_of(alloc, lines, i, j)? else {
-        return Ok(false);
+    let Some(top) = top_of(alloc, &lines[i].poly, &lines[j].poly)? else {
+        return follows_by_leads(alloc, lines, records, i, j);
     };
     for third in 0..lines.len() {
-        if is_chained_by(alloc, lines, records, i, j, third, &whole)? {
+        if is_chained_by(alloc, lines, records, i, j, third, &top)? {
             return Ok(true);
         }
     }

@@ -4,8 +4,7 @@
 mod basis;
 mod chain;
 mod completion;
-#[cfg(test)]
-mod completion_tests;
+mod leads;
 mod line;
 mod pair;
 mod pairing;
@@ -13,8 +12,6 @@ mod queue;
 mod reduction;
 mod spoly;
 mod stop;
-#[cfg(test)]
-mod tests;
 
 pub use basis::Basis;
 pub use completion::{Completion, Progress};

@@ -3,7 +3,7 @@ ghost use Rattle.std.specs.Prelude.{◌≡◌, ◌+◌, ◌<◌, ◌≤◌, [], 
 ghost use Rattle.std.specs.Prelude.{IfOk, IfSome, IfNone, OnOk, IsErrOf};
 ghost use Rattle.std.specs.Bool.{OnTrue, OnFalse};
 ghost use Rattle.ffc_base.specs.Metering.{total};
-ghost use Rattle.ffc_basis.specs.Lines.{polys_of, AreLines};
+ghost use Rattle.ffc_basis.specs.Lines.{polys_of, AreLines, AreLists};
 ghost use Rattle.ffc_basis.specs.Completion.{IsConstantLine};
 ghost use Rattle.ffc_basis.specs.Completed.{IsFront, IsProgress, HasTaken};
 ghost use Rattle.ffc_basis.specs.Outcomes.{IsOutcome};
@@ -317,6 +317,7 @@ fn settle<F: Field, O: MonoOrder>(
             Ok(())
         }
         Outcome::Added(line) => {
+            let _length = line.poly.len();
             lines.push(line)?;
             mark(
                 &mut pairing.records,
@@ -341,6 +342,7 @@ fn outcome_of<F: Field, O: MonoOrder>(
     requires first { i < length lines.now }
     requires second { j < length lines.now }
     requires records { AreRecords F.ORDER O.cmp (polys_of lines.now) records.now }
+    requires lists { AreLists (polys_of lines.now) }
     ensures outcome { IfOk result (IsOutcome F.ORDER O.cmp (polys_of lines.now) i j) }
     ensures spent { IsErrOf result stops.Spent → total meter.new ≡ meter.new.budget }
     ensures takes { TakesReductions meter.old meter.new }

@@ -1,10 +1,12 @@
 use Rattle.std.proofs.Common.{◌+◌, refl, sym, ap, ◌∙◌, subst, arith}
+use Rattle.ffc_mono.specs.declared.mono.TheConstants.{DEGREE_LIMIT}
 use Rattle.ffc_basis.specs.Lines.{polys_of, AreLines}
 use Rattle.ffc_basis.specs.declared.spoly.Outcome.TheVariants.{Added}
 use Rattle.ffc_basis.specs.Outcomes.{IsOutcome}
 use Rattle.ffc_basis.specs.PairTable.{ArePairs, seconds, settled_count, with_state}
 use Rattle.ffc_basis.specs.declared.pair.PairState.TheVariants.{Closed, Over}
 use Rattle.ffc_basis.proofs.FewLemmas.{seconds-set, settled_set, pending_within}
+use Rattle.ffc_basis.proofs.OrderedTerms.{AreTerms-ordered}
 use Rattle.ffc_basis.proofs.AddedLemmas.{front_same, front_one, line_added, settled_closed, settled_over, settled_added}
 use Rattle.ffc_basis.proofs.pairing.settle.Goals as goal
 
@@ -73,7 +75,7 @@ returns-in_ok-push-in-Added g c =
       lines = line_added p ls ks l is c.requires.lines outcome.0;
       pairs = subst (λ x. ArePairs p cmp (polys_of ks) x joined) (sym c.mark-in-Added.ensures)
           (settled_added p cmp ls ks l rs joined c.args.place c.args.pair c.len-count.result is (omega (arith, c.len-count.ensures, c.args.lines.now.ok.0)) (omega (arith, c.requires.within, c.args.pairing.now.records.ok.0)) c.requires.pair
-          outcome.2 c.requires.pairs);
+          (AreTerms-ordered p cmp DEGREE_LIMIT l.poly c.len-length.ensures.ordered) outcome.2 c.requires.pairs);
       seconds = ap seconds c.mark-in-Added.ensures ∙ seconds-set rs c.args.place c.args.pair (with_state c.args.pair (Closed (c.len-count.result + 1))) (pending_within rs c.args.place c.requires.pending) c.requires.pair refl;
       joined = refl;
       settled = ap settled_count c.mark-in-Added.ensures ∙ settled_set rs c.args.place (with_state c.args.pair (Closed (c.len-count.result + 1))) c.requires.pending refl;

@@ -3,7 +3,7 @@ use Rattle.ffc_basis.specs.declared.line.Line.{Line}
 use Rattle.ffc_basis.specs.PairTable.{AreRecords}
 use Rattle.ffc_basis.specs.Units.{IsPairBound}
 use Rattle.ffc_basis.proofs.BoundLemmas.{one_pair, no_pairs}
-use Rattle.ffc_basis.specs.Lines.{polys_of}
+use Rattle.ffc_basis.specs.Lines.{polys_of, AreLists}
 use Rattle.ffc_basis.proofs.FewLemmas.{pending_within}
 use Rattle.ffc_basis.proofs.Lists.{length-polys}
 use Rattle.ffc_basis.proofs.PairTableLemmas.{record_is}
@@ -61,3 +61,7 @@ outcome_of-requires-clause-records g c =
     let pairing = c.args.pairing.now in
     subst (λ (ls : List (Line g.row.F.Denot g.row.O.Denot)). AreRecords p cmp (polys_of ls) c.as_slice-2.result.now) (sym c.as_slice.ensures.value)
     (subst (AreRecords p cmp (polys_of c.args.lines.now.items)) (sym c.as_slice-2.ensures.value) c.requires.pairs.records)
+
+pub outcome_of-requires-clause-lists : goal.outcome_of-requires-clause-lists
+outcome_of-requires-clause-lists g c =
+    subst (λ (ls : List (Line g.row.F.Denot g.row.O.Denot)). AreLists (polys_of ls)) (sym c.as_slice.ensures.value) c.requires.pairs.lists

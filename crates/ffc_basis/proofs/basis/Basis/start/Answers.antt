@@ -1,9 +1,10 @@
-use Rattle.std.proofs.Common.{ap, subst}
+use Rattle.std.proofs.Common.{sym, ap, subst}
 use Rattle.ffc_basis.specs.PairTable.{seconds}
 use Rattle.ffc_basis.proofs.FewLemmas.{few_none}
-use Rattle.ffc_basis.specs.Lines.{polys_of, IsAddedTo}
+use Rattle.ffc_basis.specs.Lines.{polys_of, AreLists, IsAddedTo}
 use Rattle.ffc_basis.proofs.AddedLemmas.{pairs_none}
 use Rattle.ffc_basis.proofs.LineLemmas.{added_to_none, AreLines-generators}
+use Rattle.ffc_basis.proofs.Lists.{lists_none}
 use Rattle.ffc_basis.proofs.basis.Basis.start.Goals as goal
 
 pub invariant_of-result : goal.invariant_of-result
@@ -12,6 +13,7 @@ invariant_of-result g c =
     let gens = c.args.gens.now in (
       AreLines-generators g.F.Field.ORDER lines gens
           (added_to_none lines gens (subst (λ ls. IsAddedTo ls lines gens) c.new-lines.ensures.items c.in_ok-append_generators.ensures.added)),
-      pairs_none g.F.Field.ORDER g.O.MonoOrder.cmp (polys_of lines) c.new.result.records.items c.new.result.joined c.new.ensures.records c.new.ensures.joined,
+      pairs_none g.F.Field.ORDER g.O.MonoOrder.cmp (polys_of lines) c.new.result.records.items c.new.result.joined c.new.ensures.records c.new.ensures.joined
+          (c.append_generators.ensures.lists (subst (λ ls. AreLists (polys_of ls)) (sym c.new-lines.ensures.items) lists_none)),
       few_none (seconds c.new.result.records.items) c.new.result.joined (ap seconds c.new.ensures.records) c.new.ensures.joined,
     )

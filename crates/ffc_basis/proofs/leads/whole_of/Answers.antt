@@ -6,7 +6,7 @@ use Rattle.ffc_basis.specs.Lines.{polys_of}
 use Rattle.ffc_basis.specs.Outcomes.{IsSum}
 use Rattle.ffc_basis.proofs.Lists.{poly_at}
 use Rattle.ffc_basis.proofs.OrderedTerms.{AreTerms-ordered}
-use Rattle.ffc_basis.proofs.chain.top_of.Goals as goal
+use Rattle.ffc_basis.proofs.leads.whole_of.Goals as goal
 
 pub returns : goal.returns
 returns g c =
