@@ -2,7 +2,7 @@
 ghost use Rattle.std.specs.Prelude.{◌≡◌, IsErrOf};
 ghost use Rattle.ffc_base.specs.Metering.{total};
 ghost use Rattle.ffc_basis.specs.Units.{Takes};
-ghost use Rattle.ffc_term.specs.Checks.{IsValidCheck};
+ghost use Rattle.ffc_term.specs.Checks.{IsCheck};
 ghost use Rattle.ffc_cdcl.specs.State.{AreListed};
 ghost use Rattle.ffc_cdcl.specs.declared.theory.CdclStop.TheVariants as stops;
 ghost use Rattle.ffc_engine.specs.declared.stop.EngineStop.TheVariants as engine;
@@ -44,8 +44,7 @@ impl<'a> Clauses<'a> {
     /// The clauses of a check: each assertion, and the schemes of all its nodes. The equalities of one field on one trail may
     /// take a share of units.
     pub fn of(alloc: Global, check: &Check<'a>, share: u64) -> Result<Clauses<'a>, AllocError>
-        requires valid { IsValidCheck check.now.table.now check.now.declared.now check.now.in_force.now
-            check.now.first_order }
+        requires valid { IsCheck check.now }
     {
         let mut clauses = Clauses {
             alloc,
@@ -113,8 +112,7 @@ impl<'a> Clauses<'a> {
 
     /// Forgets what was set aside, and doubles the share. Lemmas are kept.
     pub fn renew(&mut self, check: &Check<'a>) -> Result<(), AllocError>
-        requires valid { IsValidCheck check.now.table.now check.now.declared.now check.now.in_force.now
-            check.now.first_order }
+        requires valid { IsCheck check.now }
     {
         let share = self.theory.share().saturating_mul(2);
         let fresh = Clauses::of(self.alloc, check, share)?;

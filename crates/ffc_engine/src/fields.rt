@@ -4,6 +4,7 @@ ghost use Rattle.ffc_base.specs.Metering.{total};
 ghost use Rattle.ffc_basis.specs.Units.{Takes};
 ghost use Rattle.ffc_engine.specs.declared.stop.EngineStop.TheVariants as stops;
 
+use crate::forward::{Inputs, values_forward};
 use crate::generators::{Generator, GeneratorStop, differences, with_inverse};
 use crate::groups::{Group, groups_of};
 use crate::ranking::Ranking;
@@ -145,6 +146,63 @@ fn is_settled(progress: &Progress, found: &Finding) -> bool {
     matches!(progress, Progress::Done(_)) || matches!(found, Finding::Equal(_))
 }
 
+/// Values that follow from those of inputs by the equalities that hold, so many, which come first.
+fn values_by_equalities<F: Field>(
+    alloc: Global,
+    polys: &[Generator<F>],
+    holding: usize,
+    meter: &mut Meter,
+) -> Result<Option<Vec<(u32, u64)>>, GeneratorStop> {
+    let (equal, unequal) = polys.split_at(holding.min(polys.len()));
+    let mut borrows = Vec::new(alloc);
+    for poly in equal {
+        borrows.push(poly)?;
+    }
+    values_forward(
+        alloc,
+        borrows.as_slice(),
+        unequal,
+        holding,
+        Inputs::First,
+        meter,
+    )
+}
+
+/// Values of variables where these are their ranks.
+fn unranked(
+    alloc: Global,
+    ranking: &Ranking,
+    values: &[(u32, u64)],
+) -> Result<Vec<(u32, u64)>, AllocError> {
+    let mut pairs = Vec::new(alloc);
+    for (rank, value) in values {
+        if let Some(variable) = ranking.variable(*rank) {
+            pairs.push((variable, *value))?;
+        }
+    }
+    Ok(pairs)
+}
+
+/// Values that follow from those of inputs by the lines as well: these have sums that the equalities have step by step.
+fn values_by_lines<F: Field>(
+    alloc: Global,
+    stack: &BasisStack<F, GradedReverseLex>,
+    unequal: &[Generator<F>],
+    equalities: usize,
+    ranking: &Ranking,
+    meter: &mut Meter,
+) -> Result<Option<Vec<(u32, u64)>>, GeneratorStop> {
+    let mut polys = Vec::new(alloc);
+    for line in stack.lines() {
+        polys.push(&line.poly)?;
+    }
+    let polys = polys.as_slice();
+    match values_forward(alloc, polys, unequal, equalities, Inputs::Last, meter)? {
+        Some(values) => Ok(Some(unranked(alloc, ranking, values.as_slice())?)),
+        None => Ok(None),
+    }
+}
+
 /// The equalities that hold.
 fn holding(alloc: Global, equalities: &[Lit]) -> Result<Vec<Lit>, AllocError> {
     let mut found = Vec::new(alloc);
@@ -232,6 +290,11 @@ impl Problem<'_> {
         let (equal, unequal) = polys.split_at(count);
         let mut stack = BasisStack::new(self.alloc);
         let found = settle(self.alloc, &mut stack, equal, unequal, meter)?;
+        if let Some(values) = values_by_lines(
+            self.alloc, &stack, unequal, count, &ranking, meter,
+        )? {
+            return Ok(Answer::Values(values));
+        }
         let sides = (equal, unequal);
         let mut stack = self.prepared(stack, sides, found, &ranking, &mut chosen, meter)?;
         let ranks = ranking.ranks(self.alloc)?;
@@ -251,6 +314,9 @@ impl Problem<'_> {
         meter: &mut Meter,
     ) -> Result<Answer, GeneratorStop> {
         let holding = holding(self.alloc, self.equalities)?.len();
+        if let Some(values) = values_by_equalities(self.alloc, polys, holding, meter)? {
+            return Ok(Answer::Values(values));
+        }
         let Some(first) = inverse_of(self.table.len(), holding) else {
             return Err(GeneratorStop::Over);
         };

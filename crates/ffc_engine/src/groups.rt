@@ -1,9 +1,9 @@
 //! Equalities in groups that share no variable.
-use crate::generators::{Generator, variables_of};
+use crate::generators::Generator;
+use crate::occurrences::Occurrences;
 use ffc_cdcl::Lit;
 use ffc_field::Field;
 use std::alloc::{AllocError, Global};
-use std::collections::BTreeMap;
 
 /// Equalities, and the differences of their sides.
 #[derive(Debug)]
@@ -41,59 +41,6 @@ impl<F: Field> Group<F> {
     }
 }
 
-/// Polynomials, and those in which each variable occurs.
-#[derive(Drop)]
-struct Occurrences {
-    variables: Vec<Vec<u32>>,
-    places: BTreeMap<u32, Vec<usize>>,
-}
-
-impl Occurrences {
-    fn of<F: Field>(alloc: Global, polys: &[Generator<F>]) -> Result<Self, AllocError> {
-        let mut found = Occurrences {
-            variables: Vec::new(alloc),
-            places: BTreeMap::new(alloc),
-        };
-        for poly in polys {
-            let variables = variables_of(alloc, std::slice::from_ref(poly))?;
-            found.add(alloc, variables.as_slice())?;
-            found.variables.push(variables)?;
-        }
-        Ok(found)
-    }
-
-    /// Adds the next polynomial to those in which these variables occur.
-    fn add(&mut self, alloc: Global, variables: &[u32]) -> Result<(), AllocError> {
-        let place = self.variables.len();
-        for x in variables {
-            match self.places.get_mut(x) {
-                Some(places) => places.push(place)?,
-                None => {
-                    let mut places = Vec::new(alloc);
-                    places.push(place)?;
-                    self.places.insert(*x, places)?;
-                }
-            }
-        }
-        Ok(())
-    }
-
-    /// Appends the polynomials that share a variable with one. Each variable is followed once.
-    fn append_neighbours(&mut self, place: usize, open: &mut Vec<usize>) -> Result<(), AllocError> {
-        let Some(variables) = self.variables.get(place) else {
-            return Ok(());
-        };
-        for x in variables {
-            if let Some(places) = self.places.remove(x) {
-                for other in places {
-                    open.push(other)?;
-                }
-            }
-        }
-        Ok(())
-    }
-}
-
 /// Gives a polynomial the number of a group, and all that are linked to it by shared variables.
 fn label_from(
     occurrences: &mut Occurrences,
@@ -120,7 +67,10 @@ fn labels_of<F: Field>(
     alloc: Global,
     polys: &[Generator<F>],
 ) -> Result<(Vec<Option<usize>>, usize), AllocError> {
-    let mut occurrences = Occurrences::of(alloc, polys)?;
+    let mut occurrences = Occurrences::new(alloc);
+    for poly in polys {
+        occurrences.add(alloc, poly)?;
+    }
     let mut labels = vec![in alloc; None; polys.len()]?;
     let mut open = Vec::new(alloc);
     let mut count = 0usize;

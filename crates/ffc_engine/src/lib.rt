@@ -7,22 +7,23 @@
 #![tactic(auto)]
 
 mod clauses;
+mod digits;
 mod entry;
 mod equalities;
 mod fields;
+mod forward;
 mod generators;
 mod groups;
 mod judging;
 mod justify;
 mod lemma;
 mod models;
+mod occurrences;
 mod origin;
 mod proposing;
 mod ranking;
 mod renumber;
 mod stop;
-#[cfg(test)]
-mod tests;
 mod theory;
 mod truths;
 

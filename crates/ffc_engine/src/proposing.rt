@@ -2,7 +2,7 @@
 ghost use Rattle.std.specs.Prelude.{◌≡◌, IsErrOf};
 ghost use Rattle.ffc_base.specs.Metering.{total};
 ghost use Rattle.ffc_basis.specs.Units.{Takes};
-ghost use Rattle.ffc_term.specs.Checks.{IsValidCheck};
+ghost use Rattle.ffc_term.specs.Checks.{IsCheck};
 ghost use Rattle.ffc_engine.specs.declared.stop.EngineStop.TheVariants as stops;
 
 use crate::clauses::{Clauses, Standing};
@@ -58,8 +58,7 @@ fn settled<'a>(
     clauses: &mut Clauses<'a>,
     end: End,
 ) -> Result<Option<End>, AllocError>
-    requires valid { IsValidCheck check.now.table.now check.now.declared.now check.now.in_force.now
-        check.now.first_order }
+    requires valid { IsCheck check.now }
 {
     let End::Refuted(steps) = end else {
         return Ok(Some(end));
@@ -80,8 +79,7 @@ fn rounds<'a>(
     clauses: &mut Clauses<'a>,
     meter: &mut Meter,
 ) -> Result<End, EngineStop>
-    requires valid { IsValidCheck check.now.table.now check.now.declared.now check.now.in_force.now
-        check.now.first_order }
+    requires valid { IsCheck check.now }
     ensures spent { IsErrOf result stops.Spent → total meter.new ≡ meter.new.budget }
     ensures takes { Takes meter.old meter.new }
 {
@@ -97,8 +95,7 @@ fn rounds<'a>(
 /// Proposes an entry for a check, which the caller has to test: values of the declared constants, or a refutation. None where
 /// nothing was found within the limits of polynomials.
 pub fn propose(alloc: Global, check: &Check, meter: &mut Meter) -> Result<Option<Entry>, EngineStop>
-    requires valid { IsValidCheck check.now.table.now check.now.declared.now check.now.in_force.now
-        check.now.first_order }
+    requires valid { IsCheck check.now }
     ensures spent { IsErrOf result stops.Spent → total meter.new ≡ meter.new.budget }
     ensures takes { Takes meter.old meter.new }
 {

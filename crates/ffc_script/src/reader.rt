@@ -4,7 +4,7 @@ ghost use Rattle.std.specs.Prelude.{OnErr};
 ghost use Rattle.ffc_elab.specs.Histories.{check_now, first_known, known_of};
 ghost use Rattle.ffc_lex.specs.Lexing.{extended};
 ghost use Rattle.ffc_smt.specs.TableChecks.{declared_nodes, nodes_in_force};
-ghost use Rattle.ffc_term.specs.Checks.{IsValidCheck};
+ghost use Rattle.ffc_term.specs.Checks.{IsCheck};
 ghost use Rattle.ffc_script.specs.Answers.{EndsAt, Gives, HasRun, IsAtCheck, SaysAll, StopsAt, ends};
 ghost use Rattle.ffc_script.specs.Kept.{AreFirst};
 ghost use Rattle.ffc_script.specs.Laws.{GoesOnFrom};
@@ -125,8 +125,7 @@ impl ScriptReader {
         ensures declared { result.declared.now ≡ declared_nodes (check_now (known_at self.now)) }
         ensures in_force { result.in_force.now ≡ nodes_in_force (check_now (known_at self.now)) }
         ensures first_order { result.first_order ≡ (check_now (known_at self.now)).check.first_order }
-        ensures valid { IsAtCheck self.now
-            → IsValidCheck result.table.now result.declared.now result.in_force.now result.first_order }
+        ensures valid { IsAtCheck self.now → IsCheck result }
     {
         let context = &self.context;
         let first_order = match context.field() {

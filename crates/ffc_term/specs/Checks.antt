@@ -3,6 +3,7 @@
 use Rattle.std.specs.Prelude.{ℕ, ◌<◌, ◌↔◌, List, All, Contains, length}
 use Rattle.std.specs.List.Sorted.{IsStrictlyIncreasing}
 use Rattle.ffc_field.specs.Orders.{IsOrder}
+use Rattle.ffc_term.specs.declared.check.Check.{Check}
 use Rattle.ffc_term.specs.declared.node.Node.{Node}
 use Rattle.ffc_term.specs.declared.node.Node.TheVariants.{IteField, Eq}
 use Rattle.ffc_term.specs.Nodes.{IsNodeAt, IsConstantAt, children}
@@ -40,3 +41,7 @@ pub record IsValidCheck (nodes : List Node) (declared in_force : List ℕ) (firs
   pub constants : All (IsConstantAt nodes) declared
   pub boolean : All (IsBooleanAt nodes) in_force
   pub covered : (id : ℕ) → IsNodeOf nodes in_force id → IsConstantAt nodes id → Contains declared id
+
+-- what one check looks at is such a check
+abbrev pub IsCheck : Check → Type 0
+IsCheck c = IsValidCheck c.table.now c.declared.now c.in_force.now c.first_order
