@@ -16,7 +16,7 @@ use Rattle.ffc_cert.specs.declared.forms.Awaited.{Awaited}
 use Rattle.ffc_cert.specs.declared.progress.Place.TheVariants.{Between, Assignment, Refutation}
 use Rattle.ffc_cert.specs.declared.progress.Progress.{Progress}
 use Rattle.ffc_cert.specs.Lines.{line_at, value_at, opening_at}
-use Rattle.ffc_cert.specs.Reading.{Reading, Complete, with_entry, Next, Move, Give, awaited_after, is_whole, given, begun, with_value, with_line, limited, after, named, header_line, opening_line, assignment_line, refutation_line, next_in, next_at, read, read_parts, read_text, reading_of, origin, is_line_end, end_at, is_behind, end_behind}
+use Rattle.ffc_cert.specs.Reading.{Reading, Complete, with_entry, Next, Move, Give, awaited_after, is_whole, given, begun, with_value, with_line, limited, after, named, header_line, opening_line, assignment_line, refutation_line, next_in, next_at, read, read_parts, read_text, reading_of, origin, is_line_end, end_at, is_complete, end_after}
 use Rattle.ffc_cert.specs.Spelling.{number, line_items, line_text, value_line, clauses, entry_text, header, text_of}
 use Rattle.ffc_cert.specs.Ranges.{IsLine, IsValue}
 use Rattle.ffc_cert.specs.WellFormed.{LineFitsVersion, IsReadable}
@@ -247,7 +247,7 @@ text_read version entries wanted more known h few =
     ∙ entries_read version known wanted entries 0 2 more (omega arith) h
 
 over : (version complete line wanted : ℕ) → complete ≡ wanted → read_text wanted (between version complete line) [] ≡ record { entries = []; end = Complete }
-unfolding read end_at is_behind end_behind
+unfolding read end_at is_complete end_after
 over version complete line wanted same = let test : (complete == wanted) ≡ true = grind (arith, nat_tests, same) in rw test refl
 
 pub reads_back : ReadsBack

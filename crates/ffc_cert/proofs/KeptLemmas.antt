@@ -9,7 +9,7 @@ use Rattle.ffc_cert.specs.declared.entries.CertFault.{CertFault}
 use Rattle.ffc_cert.specs.declared.entries.Numbered.{Numbered}
 use Rattle.ffc_cert.specs.declared.progress.Progress.{Progress}
 use Rattle.ffc_cert.specs.declared.scanning.Scanner.{Scanner}
-use Rattle.ffc_cert.specs.Reading.{Reading, Complete, Open, Stopped, ending, fault_at, is_behind, read_text, reading_of, stop_fault, is_line_end}
+use Rattle.ffc_cert.specs.Reading.{Reading, Complete, Open, Stopped, ending, fault_at, is_complete, read_text, reading_of, stop_fault, is_line_end}
 use Rattle.ffc_cert.specs.Scan.{IsWindow, IsReady, IsStopped, IsEntry, IsDone, ahead, without, end_here}
 use Rattle.ffc_cert.specs.Certificate.{Certificate, IsRead, next_entry_of, fault_behind, due_fault, version_of}
 use Rattle.ffc_cert.proofs.ScanLemmas.{window_rest}
@@ -63,7 +63,7 @@ pub done_due : (wanted given : ℕ) (text : List ℕ) (s : Scanner) → IsReady 
 unfolding end_here
 done_due wanted given text s r d same =
     let e = done_end wanted given text s r d same in
-    (e.0, ap stop_fault e.1 ∙ no_stop s.progress (is_behind s.progress.place s.progress.complete wanted))
+    (e.0, ap stop_fault e.1 ∙ no_stop s.progress (is_complete s.progress.place s.progress.complete wanted))
 
 pub stopped_due : (wanted n given : ℕ) (text : List ℕ) (fault : CertFault) → IsStopped wanted n text fault → n ≡ given
     → (next_entry_of wanted text given ≡ None) × (stop_fault (reading_of wanted text).end ≡ Some fault)

@@ -14,7 +14,7 @@ use Rattle.ffc_cert.specs.declared.entries.Numbered.{Numbered}
 use Rattle.ffc_cert.specs.declared.progress.Place.{Place}
 use Rattle.ffc_cert.specs.declared.progress.Place.TheVariants.{Header, Between, Assignment, Refutation}
 use Rattle.ffc_cert.specs.declared.progress.Progress.{Progress}
-use Rattle.ffc_cert.specs.Reading.{Stopped, Next, Halt, Move, Give, ending, limited, after, begun, with_value, with_line, header_line, opening_line, assignment_line, refutation_line, next_in, next_at, is_behind, end_behind, end_at, cut_end, read, read_text, is_line_end, fault_at}
+use Rattle.ffc_cert.specs.Reading.{Stopped, Next, Halt, Move, Give, ending, limited, after, begun, with_value, with_line, header_line, opening_line, assignment_line, refutation_line, next_in, next_at, is_complete, end_after, end_at, cut_end, read, read_text, is_line_end, fault_at}
 use Rattle.ffc_cert.specs.declared.forms.Awaited.{Awaited}
 use Rattle.ffc_cert.specs.Lines.{opening_at, value_at, line_at}
 use Rattle.ffc_cert.specs.Taking.{Takes}
@@ -69,24 +69,24 @@ cut_halts wanted p bytes fault lt h x =
     let long : nat_lt MAX_BYTES (length (bytes ++ x)) ≡ true = lt-ltb _ _ (omega (arith, length-append bytes x)) in
     (same, rw (long, same) refl)
 
-behind_in : (place : Place) (wanted : ℕ) (p : Progress) (line : List ℕ) → is_behind place p.complete wanted ≡ true → next_in place wanted p line ≡ Halt (fault_at 2 p)
-unfolding is_behind next_in
-behind_in Header wanted p line h = absurd (cc)
-behind_in Between wanted p line h = rw h refl
-behind_in (Assignment left) wanted p line h = absurd (cc)
-behind_in (Refutation awaited) wanted p line h = absurd (cc)
+complete_in : (place : Place) (wanted : ℕ) (p : Progress) (line : List ℕ) → is_complete place p.complete wanted ≡ true → next_in place wanted p line ≡ Halt (fault_at 2 p)
+unfolding is_complete next_in
+complete_in Header wanted p line h = absurd (cc)
+complete_in Between wanted p line h = rw h refl
+complete_in (Assignment left) wanted p line h = absurd (cc)
+complete_in (Refutation awaited) wanted p line h = absurd (cc)
 
-end_if : (b : Bool) (p : Progress) (c : ℕ) (cs : List ℕ) (n : Next) → n ≡ Halt (fault_at 2 p) → (if b then cut_end n p else end_behind (c ∷ cs) p) ≡ Stopped (fault_at 2 p)
-unfolding cut_end end_behind
+end_if : (b : Bool) (p : Progress) (c : ℕ) (cs : List ℕ) (n : Next) → n ≡ Halt (fault_at 2 p) → (if b then cut_end n p else end_after (c ∷ cs) p) ≡ Stopped (fault_at 2 p)
+unfolding cut_end end_after
 end_if true p c cs n h = rw h refl
 end_if false p c cs n h = refl
 
 -- after the last entry each byte is at fault
-pub behind_halts : (wanted : ℕ) (p : Progress) (c : ℕ) (cs : List ℕ) → is_behind p.place p.complete wanted ≡ true
+pub complete_halts : (wanted : ℕ) (p : Progress) (c : ℕ) (cs : List ℕ) → is_complete p.place p.complete wanted ≡ true
     → (x : List ℕ) → (next_at wanted p ((c ∷ cs) ++ x) ≡ Halt (fault_at 2 p)) × (end_at wanted p ((c ∷ cs) ++ x) ≡ Stopped (fault_at 2 p))
 unfolding next_at end_at
-behind_halts wanted p c cs h x =
-    let line : next_in p.place wanted p (take (MAX_BYTES + 1) ((c ∷ cs) ++ x)) ≡ Halt (fault_at 2 p) = behind_in p.place wanted p _ h in
+complete_halts wanted p c cs h x =
+    let line : next_in p.place wanted p (take (MAX_BYTES + 1) ((c ∷ cs) ++ x)) ≡ Halt (fault_at 2 p) = complete_in p.place wanted p _ h in
     (line, rw h (end_if (nat_lt MAX_BYTES (length ((c ∷ cs) ++ x))) p c (cs ++ x) _ line))
 
 -- a line of which too many bytes have come is at fault
@@ -139,27 +139,27 @@ pub long_halts : (wanted : ℕ) (p : Progress) (bytes : List ℕ) (n : Next) →
 unfolding next_at
 long_halts wanted p bytes n lt h = rw (← h) (long_in p.place wanted p (take (MAX_BYTES + 1) bytes) (omega (arith, length-take (MAX_BYTES + 1) bytes)))
 
-rest_end : (wanted : ℕ) (p : Progress) (bytes : List ℕ) (b : Bool) → is_behind p.place p.complete wanted ≡ b → length bytes ≤ MAX_BYTES
-    → (is_behind p.place p.complete wanted ≡ true → bytes ≡ []) → end_at wanted p bytes ≡ end_here wanted p
-unfolding end_at end_behind end_here
+rest_end : (wanted : ℕ) (p : Progress) (bytes : List ℕ) (b : Bool) → is_complete p.place p.complete wanted ≡ b → length bytes ≤ MAX_BYTES
+    → (is_complete p.place p.complete wanted ≡ true → bytes ≡ []) → end_at wanted p bytes ≡ end_here wanted p
+unfolding end_at end_after end_here
 rest_end wanted p bytes true e few h = let short : nat_lt MAX_BYTES (length bytes) ≡ false = grind arith in rw (short, e, h e) refl
 rest_end wanted p bytes false e few h = let short : nat_lt MAX_BYTES (length bytes) ≡ false = grind arith in rw (short, e) refl
 
 -- the bytes are few, and not after the last entry: nothing is found
 pub none_found : (wanted : ℕ) (p : Progress) (bytes : List ℕ) → length bytes ≤ position_or_len is_line_end bytes → length bytes ≤ MAX_BYTES
-    → (is_behind p.place p.complete wanted ≡ true → bytes ≡ [])
+    → (is_complete p.place p.complete wanted ≡ true → bytes ≡ [])
     → ((read_text wanted p bytes).entries ≡ []) × ((read_text wanted p bytes).end ≡ end_here wanted p)
 unfolding read
-none_found wanted p bytes le few h = rw (split_alone bytes le) (refl, rest_end wanted p bytes (is_behind p.place p.complete wanted) refl few h)
+none_found wanted p bytes le few h = rw (split_alone bytes le) (refl, rest_end wanted p bytes (is_complete p.place p.complete wanted) refl few h)
 
 both_true : (a b : Bool) → (a && b) ≡ true → (a ≡ true) × (b ≡ true)
 both_true true b h = (refl, h)
 both_true false b h = absurd (cc)
 
-pub over_halts : (wanted : ℕ) (p : Progress) (bytes : List ℕ) → (is_behind p.place p.complete wanted && nat_lt 0 (length bytes)) ≡ true
+pub over_halts : (wanted : ℕ) (p : Progress) (bytes : List ℕ) → (is_complete p.place p.complete wanted && nat_lt 0 (length bytes)) ≡ true
     → (x : List ℕ) → (next_at wanted p (bytes ++ x) ≡ Halt (fault_at 2 p)) × (end_at wanted p (bytes ++ x) ≡ Stopped (fault_at 2 p))
-over_halts wanted p [] h x = absurd (let some = ltb-true 0 0 (both_true (is_behind p.place p.complete wanted) (nat_lt 0 0) h).1 in omega (arith, some))
-over_halts wanted p (c ∷ cs) h x = behind_halts wanted p c cs (both_true _ _ h).0 x
+over_halts wanted p [] h x = absurd (let some = ltb-true 0 0 (both_true (is_complete p.place p.complete wanted) (nat_lt 0 0) h).1 in omega (arith, some))
+over_halts wanted p (c ∷ cs) h x = complete_halts wanted p c cs (both_true _ _ h).0 x
 
 pub not_over : (b : Bool) (bytes : List ℕ) → (b && nat_lt 0 (length bytes)) ≡ false → b ≡ true → bytes ≡ []
 not_over b [] h t = refl

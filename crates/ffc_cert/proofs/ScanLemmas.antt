@@ -15,7 +15,7 @@ use Rattle.ffc_cert.specs.Taking.{MatchStop}
 use Rattle.ffc_cert.specs.Scan.{IsWindow, IsReady, IsStopped, IsEntry, AfterStop, ahead, without}
 use Rattle.std.specs.Prelude.{nat_lt, ◌&&◌}
 use Rattle.ffc_cert.specs.declared.TheConstants.{MAX_BYTES}
-use Rattle.ffc_cert.specs.Reading.{end_at, fault_at, is_behind}
+use Rattle.ffc_cert.specs.Reading.{end_at, fault_at, is_complete}
 use Rattle.ffc_cert.specs.Scan.{IsDone}
 use Rattle.ffc_cert.proofs.ReadLemmas.{after_next, read_line}
 use Rattle.ffc_cert.proofs.RestLemmas.{rest_halts, cut_halts, over_halts, not_over, none_found}
@@ -124,11 +124,11 @@ module _ (wanted : ℕ) (text : List ℕ) (s : Scanner) (ready : IsReady wanted 
   too_long (Fault fault) q long h = stopped fault (cut_halts wanted s.progress (ahead text s) fault long h)
   too_long Memory q long h = rw h (ready, refl)
 
-  pub over : (is_behind s.progress.place s.progress.complete wanted && nat_lt 0 (length (ahead text s))) ≡ true
+  pub over : (is_complete s.progress.place s.progress.complete wanted && nat_lt 0 (length (ahead text s))) ≡ true
       → IsStopped wanted s.progress.complete text (fault_at 2 s.progress)
   over h = stopped (fault_at 2 s.progress) (over_halts wanted s.progress (ahead text s) h)
 
-  pub waits : length (ahead text s) ≤ MAX_BYTES → (is_behind s.progress.place s.progress.complete wanted && nat_lt 0 (length (ahead text s))) ≡ false
+  pub waits : length (ahead text s) ≤ MAX_BYTES → (is_complete s.progress.place s.progress.complete wanted && nat_lt 0 (length (ahead text s))) ≡ false
       → IsReady wanted text (record s { scanned = length text }) × IsDone wanted text (record s { scanned = length text })
   waits few h = (
     record {

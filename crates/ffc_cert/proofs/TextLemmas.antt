@@ -15,7 +15,7 @@ use Rattle.ffc_cert.specs.declared.entries.Numbered.{Numbered}
 use Rattle.ffc_cert.specs.declared.progress.Place.{Place}
 use Rattle.ffc_cert.specs.declared.progress.Place.TheVariants.{Header, Between, Assignment, Refutation}
 use Rattle.ffc_cert.specs.declared.progress.Progress.{Progress}
-use Rattle.ffc_cert.specs.Reading.{Reading, End, Complete, Open, Stopped, ending, with_entry, Next, Halt, Move, Give, fault_at, named, header_line, next_in, next_at, read, read_parts, read_text, reading_of, origin, is_line_end, end_at, cut_end, end_behind, is_behind}
+use Rattle.ffc_cert.specs.Reading.{Reading, End, Complete, Open, Stopped, ending, with_entry, Next, Halt, Move, Give, fault_at, named, header_line, next_in, next_at, read, read_parts, read_text, reading_of, origin, is_line_end, end_at, cut_end, end_after, is_complete}
 use Rattle.ffc_cert.specs.Spelling.{line_items, line_text, value_line, entry_text, header, text_of}
 use Rattle.ffc_cert.specs.WellFormed.{IsReadable, IsReadableIn}
 use Rattle.ffc_cert.specs.Certificate.{version_of}
@@ -70,23 +70,23 @@ cut_never (Halt fault) p h = cc
 cut_never (Move q) p h = cc
 cut_never (Give entry q) p h = cc
 
-behind_empty : (rest : List ℕ) (p : Progress) → end_behind rest p ≡ Complete → rest ≡ []
-unfolding end_behind
+behind_empty : (rest : List ℕ) (p : Progress) → end_after rest p ≡ Complete → rest ≡ []
+unfolding end_after
 behind_empty [] p h = refl
 behind_empty (c ∷ cs) p h = absurd (cc)
 
 end_by : (long behind : Bool) (wanted : ℕ) (p : Progress) (rest : List ℕ)
-    → (if long then cut_end (next_at wanted p rest) p else if behind then end_behind rest p else Open (fault_at 4 p)) ≡ Complete → (behind ≡ true) × (rest ≡ [])
+    → (if long then cut_end (next_at wanted p rest) p else if behind then end_after rest p else Open (fault_at 4 p)) ≡ Complete → (behind ≡ true) × (rest ≡ [])
 end_by true behind wanted p rest h = absurd (cut_never (next_at wanted p rest) p h)
 end_by false true wanted p rest h = (refl, behind_empty rest p h)
 end_by false false wanted p rest h = absurd (cc)
 
-end_complete : (wanted : ℕ) (p : Progress) (rest : List ℕ) → end_at wanted p rest ≡ Complete → (is_behind p.place p.complete wanted ≡ true) × (rest ≡ [])
+end_complete : (wanted : ℕ) (p : Progress) (rest : List ℕ) → end_at wanted p rest ≡ Complete → (is_complete p.place p.complete wanted ≡ true) × (rest ≡ [])
 unfolding end_at
-end_complete wanted p rest h = end_by (nat_lt MAX_BYTES (length rest)) (is_behind p.place p.complete wanted) wanted p rest h
+end_complete wanted p rest h = end_by (nat_lt MAX_BYTES (length rest)) (is_complete p.place p.complete wanted) wanted p rest h
 
-behind_inside : (version wanted : ℕ) (text : List ℕ) (p : Progress) (place : Place) → At version wanted place text p → is_behind place p.complete wanted ≡ true → (text ≡ []) × (p.complete ≡ wanted)
-unfolding is_behind
+behind_inside : (version wanted : ℕ) (text : List ℕ) (p : Progress) (place : Place) → At version wanted place text p → is_complete place p.complete wanted ≡ true → (text ≡ []) × (p.complete ≡ wanted)
+unfolding is_complete
 behind_inside version wanted text p Header h e = absurd h
 behind_inside version wanted text p Between h e = (h.text_is, is_same p.complete wanted e)
 behind_inside version wanted text p (Assignment left) h e = absurd (cc)
@@ -301,7 +301,7 @@ bare_next wanted text part next parts h none = bare_by wanted text part next par
     (bytes_eq (take (MAX_BYTES + 1) part) (codes "ffcert 1")) (bytes_eq (take (MAX_BYTES + 1) part) (codes "ffcert 2")) refl refl
 
 bare_end : (wanted : ℕ) (part : List ℕ) → end_at wanted origin part ≡ Complete → ⊥
-unfolding is_behind
+unfolding is_complete
 bare_end wanted part h = let e : false ≡ true = (end_complete wanted origin part h).0 in cc
 
 bare_parts : (wanted : ℕ) (text part : List ℕ) (parts : List (List ℕ)) → text ≡ joined part parts → NoVersion text → IsBare (read wanted origin part parts)

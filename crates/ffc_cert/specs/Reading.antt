@@ -168,21 +168,21 @@ cut_end (Move q) p = Open (fault_at 4 p)
 cut_end (Give entry q) p = Open (fault_at 4 p)
 
 -- the bytes after the last LF, after the last entry
-unfoldable pub end_behind : List ℕ → Progress → End
-end_behind [] p = Complete
-end_behind (c ∷ cs) p = Stopped (fault_at 2 p)
+unfoldable pub end_after : List ℕ → Progress → End
+end_after [] p = Complete
+end_after (c ∷ cs) p = Stopped (fault_at 2 p)
 
 -- whether each wanted entry is complete
-unfoldable pub is_behind : Place → ℕ → ℕ → Bool
-is_behind Header complete wanted = false
-is_behind Between complete wanted = complete == wanted
-is_behind (Assignment left) complete wanted = false
-is_behind (Refutation awaited) complete wanted = false
+unfoldable pub is_complete : Place → ℕ → ℕ → Bool
+is_complete Header complete wanted = false
+is_complete Between complete wanted = complete == wanted
+is_complete (Assignment left) complete wanted = false
+is_complete (Refutation awaited) complete wanted = false
 
 unfoldable pub end_at : ℕ → Progress → List ℕ → End
 end_at wanted p rest =
     if nat_lt max_bytes (length rest) then cut_end (next_at wanted p rest) p else
-    if is_behind p.place p.complete wanted then end_behind rest p else Open (fault_at 4 p)
+    if is_complete p.place p.complete wanted then end_after rest p else Open (fault_at 4 p)
 
 -- A part of the text, and the parts after it: all but the last are lines.
 unfoldable pub read : ℕ → Progress → List ℕ → List (List ℕ) → Reading

@@ -11,7 +11,7 @@ use Rattle.ffc_cert.specs.declared.scanning.Scanner.{Scanner}
 use Rattle.ffc_cert.specs.declared.scanning.Found.{Found}
 use Rattle.ffc_cert.specs.declared.scanning.Found.TheVariants.{Line, Whole, Nothing}
 use Rattle.ffc_cert.specs.Bounds.{IsBounded}
-use Rattle.ffc_cert.specs.Reading.{Reading, End, Complete, Open, Stopped, open_fault, ending, fault_at, is_behind, is_line_end, read_text, reading_of}
+use Rattle.ffc_cert.specs.Reading.{Reading, End, Complete, Open, Stopped, open_fault, ending, fault_at, is_complete, is_line_end, read_text, reading_of}
 use Rattle.ffc_cert.specs.Taking.{MatchStop}
 
 -- a reading without its first entries
@@ -48,7 +48,7 @@ IsEntry wanted n text entry = (more : List ℕ) → slice_get (reading_of wanted
 
 -- how a text ends where nothing more is found in it
 unfoldable pub end_here : ℕ → Progress → End
-end_here wanted p = if is_behind p.place p.complete wanted then Complete else Open (fault_at 4 p)
+end_here wanted p = if is_complete p.place p.complete wanted then Complete else Open (fault_at 4 p)
 
 -- each entry of the text so far was given, and the text so far is not at fault
 abbrev pub IsDone : ℕ → List ℕ → Scanner → Type 0

@@ -127,11 +127,11 @@ fn front_number(bytes: &[u8]) -> Option<(u64, &[u8])>
 fn plain_number(line: &[u8]) -> Option<(u64, &[u8])>
     ensures { IfSome result (λ r. (limit : ℕ) → r.0 < limit → number_at limit line.now ≡ Ok (r.0, r.1.now)) }
 {
-    let (first, behind) = line.split_first()?;
+    let (first, after) = line.split_first()?;
     if *first != b' ' {
         return None;
     }
-    let (number, rest) = front_number(behind)?;
+    let (number, rest) = front_number(after)?;
     Some((number, rest))
 }
 
@@ -196,9 +196,9 @@ fn plain_literal(line: &[u8]) -> Option<(Literal, &[u8])>
     if *first != b' ' {
         return None;
     }
-    let (sign, behind) = signed.split_first()?;
+    let (sign, after) = signed.split_first()?;
     let sign = sign_of(*sign).ok()?;
-    let (number, rest) = front_number(behind)?;
+    let (number, rest) = front_number(after)?;
     if number >= 1 << 32 {
         return None;
     }
@@ -237,10 +237,10 @@ impl<'a> Items<'a> {
     {
         match self.rest {
             [] => Err(LineStop::Flaw(Flaw::Missing)),
-            [b' ', behind @ ..] => {
-                let end = place_of(b' ', behind);
-                self.rest = &behind[end..];
-                Ok(&behind[..end])
+            [b' ', after @ ..] => {
+                let end = place_of(b' ', after);
+                self.rest = &after[end..];
+                Ok(&after[..end])
             }
             [_, ..] => Err(LineStop::Flaw(Flaw::Form)),
         }

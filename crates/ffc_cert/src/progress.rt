@@ -6,7 +6,7 @@ ghost use Rattle.ffc_cert.specs.Items.{Gives};
 ghost use Rattle.ffc_cert.specs.Reading.{awaited_after, is_whole, entry_number, code_of, fault_at, limited, moved};
 ghost use Rattle.ffc_cert.specs.Reading.{numbered, completed, header_line, opening_line, assignment_line};
 ghost use Rattle.ffc_cert.specs.Reading.{refutation_line, begun, with_value, with_line, next_at, named, origin};
-ghost use Rattle.ffc_cert.specs.Reading.{is_behind, open_fault};
+ghost use Rattle.ffc_cert.specs.Reading.{is_complete, open_fault};
 ghost use Rattle.ffc_cert.specs.Scan.{end_here};
 ghost use Rattle.ffc_cert.specs.Trees.{new_trees};
 ghost use Rattle.ffc_cert.specs.Bounds.{HasRoom, Follows};
@@ -315,9 +315,9 @@ impl Progress {
     }
 
     /// Whether each wanted entry is complete.
-    #[tactic(auto, unfolding(crate::specs::Reading::is_behind))]
-    fn is_behind(&self, wanted: u64) -> bool
-        ensures { result ≡ is_behind self.now.place self.now.complete wanted }
+    #[tactic(auto, unfolding(crate::specs::Reading::is_complete))]
+    fn is_complete(&self, wanted: u64) -> bool
+        ensures { result ≡ is_complete self.now.place self.now.complete wanted }
     {
         match self.place {
             Place::Between => self.complete == wanted,
@@ -327,9 +327,9 @@ impl Progress {
 
     /// Whether there are bytes after the last wanted entry.
     pub fn is_over(&self, wanted: u64, rest: &[u8]) -> bool
-        ensures { result ≡ (is_behind self.now.place self.now.complete wanted && nat_lt 0 (length rest.now)) }
+        ensures { result ≡ (is_complete self.now.place self.now.complete wanted && nat_lt 0 (length rest.now)) }
     {
-        self.is_behind(wanted) && !rest.is_empty()
+        self.is_complete(wanted) && !rest.is_empty()
     }
 
     /// The fault of a text that ends where nothing more is found in it.
@@ -338,7 +338,7 @@ impl Progress {
         requires { HasRoom self.now }
         ensures { result ≡ open_fault (end_here wanted self.now) }
     {
-        if self.is_behind(wanted) {
+        if self.is_complete(wanted) {
             return None;
         }
         Some(self.fault(4))

@@ -48,7 +48,7 @@ pub struct CertReader {
     alloc: Global,
     wanted: u64,
     /// The text so far.
-    told: GhostText,
+    fed: GhostText,
     /// The text without the bytes that were dropped.
     window: Vec<u8>,
     /// What line 1 names, once it is whole.
@@ -67,13 +67,13 @@ impl Model for CertReader {
 
     ghost view = { λ r. record {
       wanted = r.wanted;
-      text = r.told.bytes;
+      text = r.fed.bytes;
       given = r.given;
       fault = r.fault;
       finished = r.finished;
     } };
 
-    ghost invariant = { λ r. IsKept r.wanted r.told.bytes r.given r.fault r.scanner r.window.items r.version };
+    ghost invariant = { λ r. IsKept r.wanted r.fed.bytes r.given r.fault r.scanner r.window.items r.version };
 }
 
 impl CertReader {
@@ -85,7 +85,7 @@ impl CertReader {
         CertReader {
             alloc,
             wanted: entries,
-            told: GhostText::new(),
+            fed: GhostText::new(),
             window: Vec::new(alloc),
             version: None,
             scanner: Scanner::new(alloc),
@@ -113,7 +113,7 @@ impl CertReader {
             return Err(CertStop::Memory);
         }
         self.window.extend_from_slice(piece)?;
-        self.told.append(piece);
+        self.fed.append(piece);
         self.version = version_after(self.version, &self.window);
         Ok(())
     }
@@ -160,7 +160,7 @@ impl CertReader {
         }
         match self
             .scanner
-            .scan(self.alloc, self.wanted, &self.told, &self.window)
+            .scan(self.alloc, self.wanted, &self.fed, &self.window)
         {
             Ok(Some(entry)) => {
                 self.given += 1;
@@ -196,7 +196,7 @@ impl CertReader {
         }
         match self
             .scanner
-            .end(self.alloc, self.wanted, &self.told, &self.window)
+            .end(self.alloc, self.wanted, &self.fed, &self.window)
         {
             Ok(None) => {
                 self.finished = true;

@@ -51,19 +51,19 @@ impl Scanner {
     }
 
     /// The place in the text of the LF that ends the next line, or the length of the text.
-    fn line_end(&self, _told: &GhostText, window: &[u8]) -> u64
+    fn line_end(&self, _fed: &GhostText, window: &[u8]) -> u64
         requires kept { self.now.gone ≤ self.now.start }
         requires within { self.now.start ≤ self.now.scanned }
-        requires limit { self.now.scanned ≤ length _told.now.bytes }
+        requires limit { self.now.scanned ≤ length _fed.now.bytes }
         requires unended { self.now.scanned ≤ self.now.start + position_or_len is_line_end
-            (drop self.now.start _told.now.bytes) }
-        requires size { length _told.now.bytes < 2 ^ 63 }
-        requires window { IsWindow self.now.gone _told.now.bytes window.now }
-        ensures end { result ≡ self.now.start + position_or_len is_line_end (drop self.now.start _told.now.bytes) }
-        ensures within { result ≤ length _told.now.bytes }
+            (drop self.now.start _fed.now.bytes) }
+        requires size { length _fed.now.bytes < 2 ^ 63 }
+        requires window { IsWindow self.now.gone _fed.now.bytes window.now }
+        ensures end { result ≡ self.now.start + position_or_len is_line_end (drop self.now.start _fed.now.bytes) }
+        ensures within { result ≤ length _fed.now.bytes }
     {
-        let behind = &window[(self.scanned - self.gone) as usize..];
-        self.scanned + place_of(b'\n', behind) as u64
+        let after = &window[(self.scanned - self.gone) as usize..];
+        self.scanned + place_of(b'\n', after) as u64
     }
 
     /// Takes a line that is whole, and its LF.
@@ -71,16 +71,16 @@ impl Scanner {
         &mut self,
         alloc: Global,
         wanted: u64,
-        _told: &GhostText,
+        _fed: &GhostText,
         window: &[u8],
         end: u64,
     ) -> Result<Found, CertStop>
-        requires ready { IsReady wanted _told.now.bytes self.old }
-        requires size { length _told.now.bytes < 2 ^ 63 }
-        requires window { IsWindow self.old.gone _told.now.bytes window.now }
-        requires end { end ≡ self.old.start + position_or_len is_line_end (drop self.old.start _told.now.bytes) }
-        requires whole { end < length _told.now.bytes }
-        ensures after { AfterStep result wanted self.old.progress.complete _told.now.bytes self.new }
+        requires ready { IsReady wanted _fed.now.bytes self.old }
+        requires size { length _fed.now.bytes < 2 ^ 63 }
+        requires window { IsWindow self.old.gone _fed.now.bytes window.now }
+        requires end { end ≡ self.old.start + position_or_len is_line_end (drop self.old.start _fed.now.bytes) }
+        requires whole { end < length _fed.now.bytes }
+        ensures after { AfterStep result wanted self.old.progress.complete _fed.now.bytes self.new }
         ensures further { OnOk result (self.old.start < self.new.start) }
         ensures gone { self.new.gone ≡ self.old.gone }
     {
@@ -99,15 +99,15 @@ impl Scanner {
         &mut self,
         alloc: Global,
         wanted: u64,
-        _told: &GhostText,
+        _fed: &GhostText,
         window: &[u8],
     ) -> Result<Found, CertStop>
-        requires ready { IsReady wanted _told.now.bytes self.old }
-        requires size { length _told.now.bytes < 2 ^ 63 }
-        requires window { IsWindow self.old.gone _told.now.bytes window.now }
-        requires unended { length _told.now.bytes ≤ self.old.start + position_or_len is_line_end
-            (drop self.old.start _told.now.bytes) }
-        ensures after { AfterStep result wanted self.old.progress.complete _told.now.bytes self.new }
+        requires ready { IsReady wanted _fed.now.bytes self.old }
+        requires size { length _fed.now.bytes < 2 ^ 63 }
+        requires window { IsWindow self.old.gone _fed.now.bytes window.now }
+        requires unended { length _fed.now.bytes ≤ self.old.start + position_or_len is_line_end
+            (drop self.old.start _fed.now.bytes) }
+        ensures after { AfterStep result wanted self.old.progress.complete _fed.now.bytes self.new }
         ensures nothing { IfOk result (λ found. found ≡ Found.Nothing) }
         ensures gone { self.new.gone ≡ self.old.gone }
     {
@@ -130,21 +130,21 @@ impl Scanner {
         &mut self,
         alloc: Global,
         wanted: u64,
-        told: &GhostText,
+        fed: &GhostText,
         window: &[u8],
     ) -> Result<Found, CertStop>
-        requires ready { IsReady wanted told.now.bytes self.old }
-        requires size { length told.now.bytes < 2 ^ 63 }
-        requires window { IsWindow self.old.gone told.now.bytes window.now }
-        ensures after { AfterStep result wanted self.old.progress.complete told.now.bytes self.new }
+        requires ready { IsReady wanted fed.now.bytes self.old }
+        requires size { length fed.now.bytes < 2 ^ 63 }
+        requires window { IsWindow self.old.gone fed.now.bytes window.now }
+        ensures after { AfterStep result wanted self.old.progress.complete fed.now.bytes self.new }
         ensures further { IfOk result (λ found. GoesFurther found self.old self.new) }
         ensures gone { self.new.gone ≡ self.old.gone }
     {
-        let end = self.line_end(told, window);
+        let end = self.line_end(fed, window);
         if end < self.gone + window.len() as u64 {
-            self.take_whole(alloc, wanted, told, window, end)
+            self.take_whole(alloc, wanted, fed, window, end)
         } else {
-            self.judge_rest(alloc, wanted, told, window)
+            self.judge_rest(alloc, wanted, fed, window)
         }
     }
 
@@ -153,17 +153,17 @@ impl Scanner {
         &mut self,
         alloc: Global,
         wanted: u64,
-        told: &GhostText,
+        fed: &GhostText,
         window: &[u8],
     ) -> Result<Option<Numbered>, CertStop>
-        requires ready { IsReady wanted told.now.bytes self.old }
-        requires size { length told.now.bytes < 2 ^ 63 }
-        requires window { IsWindow self.old.gone told.now.bytes window.now }
-        ensures after { AfterScan result wanted self.old.progress.complete told.now.bytes self.new }
+        requires ready { IsReady wanted fed.now.bytes self.old }
+        requires size { length fed.now.bytes < 2 ^ 63 }
+        requires window { IsWindow self.old.gone fed.now.bytes window.now }
+        ensures after { AfterScan result wanted self.old.progress.complete fed.now.bytes self.new }
         ensures gone { self.new.gone ≡ self.old.gone }
     {
         'lines: loop {
-            match self.step(alloc, wanted, told, window)? {
+            match self.step(alloc, wanted, fed, window)? {
                 Found::Line => {}
                 Found::Whole(entry) => return Ok(Some(entry)),
                 Found::Nothing => return Ok(None),
@@ -176,20 +176,20 @@ impl Scanner {
         &mut self,
         alloc: Global,
         wanted: u64,
-        told: &GhostText,
+        fed: &GhostText,
         window: &[u8],
     ) -> Result<Option<CertFault>, CertStop>
-        requires ready { IsReady wanted told.now.bytes self.old }
-        requires size { length told.now.bytes < 2 ^ 63 }
-        requires window { IsWindow self.old.gone told.now.bytes window.now }
-        requires given { next_entry_of wanted told.now.bytes self.old.progress.complete ≡ None }
-        requires faultless { stop_fault (reading_of wanted told.now.bytes).end ≡ None }
-        ensures after { AfterEnd result wanted told.now.bytes }
-        ensures ready { IsReady wanted told.now.bytes self.new }
+        requires ready { IsReady wanted fed.now.bytes self.old }
+        requires size { length fed.now.bytes < 2 ^ 63 }
+        requires window { IsWindow self.old.gone fed.now.bytes window.now }
+        requires given { next_entry_of wanted fed.now.bytes self.old.progress.complete ≡ None }
+        requires faultless { stop_fault (reading_of wanted fed.now.bytes).end ≡ None }
+        ensures after { AfterEnd result wanted fed.now.bytes }
+        ensures ready { IsReady wanted fed.now.bytes self.new }
         ensures complete { self.new.progress.complete ≡ self.old.progress.complete }
         ensures gone { self.new.gone ≡ self.old.gone }
     {
-        match self.scan(alloc, wanted, told, window) {
+        match self.scan(alloc, wanted, fed, window) {
             Ok(None) => {}
             Ok(Some(_)) => unreachable!(),
             Err(CertStop::Fault(_)) => unreachable!(),

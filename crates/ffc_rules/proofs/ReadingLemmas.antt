@@ -13,7 +13,7 @@ use Rattle.ffc_cert.specs.declared.progress.Place.{Place}
 use Rattle.ffc_cert.specs.declared.progress.Place.TheVariants.{Header, Between, Assignment, Refutation}
 use Rattle.ffc_cert.specs.declared.progress.Progress.{Progress}
 use Rattle.ffc_cert.specs.Lines.{opening_at, value_at, line_at}
-use Rattle.ffc_cert.specs.Reading.{Next, Halt, Move, Give, End, Complete, Open, Stopped, Reading, awaited_after, is_whole, begun, with_value, with_line, limited, after, header_line, opening_line, assignment_line, refutation_line, fault_at, next_in, next_at, read, read_parts, reading_of, origin, is_line_end, end_at, is_behind, end_behind, cut_end}
+use Rattle.ffc_cert.specs.Reading.{Next, Halt, Move, Give, End, Complete, Open, Stopped, Reading, awaited_after, is_whole, begun, with_value, with_line, limited, after, header_line, opening_line, assignment_line, refutation_line, fault_at, next_in, next_at, read, read_parts, reading_of, origin, is_line_end, end_at, is_complete, end_after, cut_end}
 
 -- each entry that is given counts one
 Counts : Progress → Next → Type 0
@@ -63,8 +63,8 @@ cut_never (Halt fault) p is = is
 cut_never (Move q) p is = is
 cut_never (Give entry q) p is = is
 
-behind_all : (place : Place) (complete wanted : ℕ) → is_behind place complete wanted ≡ true → complete ≡ wanted
-unfolding is_behind
+behind_all : (place : Place) (complete wanted : ℕ) → is_complete place complete wanted ≡ true → complete ≡ wanted
+unfolding is_complete
 behind_all Header complete wanted e = absurd (false≢true e)
 behind_all Between complete wanted e = eqb-true complete wanted e
 behind_all (Assignment left) complete wanted e = absurd (false≢true e)
@@ -72,9 +72,9 @@ behind_all (Refutation awaited) complete wanted e = absurd (false≢true e)
 
 end_counts : (wanted : ℕ) (p : Progress) (rest : List ℕ) → IsComplete (end_at wanted p rest) → p.complete ≡ wanted
 unfolding end_at IsComplete
-end_counts wanted p rest is = by_size (nat_lt MAX_BYTES (length rest)) (is_behind p.place p.complete wanted) refl is
+end_counts wanted p rest is = by_size (nat_lt MAX_BYTES (length rest)) (is_complete p.place p.complete wanted) refl is
   where
-    by_size : (long behind : Bool) → is_behind p.place p.complete wanted ≡ behind → IsComplete (cond long (cut_end (next_at wanted p rest) p) (cond behind (end_behind rest p) (Open (fault_at 4 p)))) → p.complete ≡ wanted
+    by_size : (long behind : Bool) → is_complete p.place p.complete wanted ≡ behind → IsComplete (cond long (cut_end (next_at wanted p rest) p) (cond behind (end_after rest p) (Open (fault_at 4 p)))) → p.complete ≡ wanted
     by_size true behind e is = absurd (cut_never (next_at wanted p rest) p is)
     by_size false true e is = behind_all p.place p.complete wanted e
     by_size false false e is = absurd is

@@ -12,7 +12,7 @@ fn is_narrow(n: u32) -> bool
     u64::from(n) <= u64::from(u32::MAX)
 }
 
-/// Whether a list is short enough to be written behind its count.
+/// Whether a list is short enough to be written after its count.
 fn is_counted(len: usize) -> bool
     ensures { IsTrue result → len < 2 ^ 32 }
 {

@@ -30,7 +30,7 @@ pub struct Enumeration {
 }
 
 /// So many values, all false.
-fn blank(alloc: Global, count: usize) -> Result<Vec<Value>, AllocError>
+fn all_false(alloc: Global, count: usize) -> Result<Vec<Value>, AllocError>
     ensures { IfOk result (λ values. values.items ≡ replicate count (value.Bool false)) }
 {
     vec![in alloc; Value::Bool(false); count]
@@ -53,8 +53,8 @@ impl Enumeration {
         let count = check.table.len() as usize;
         Ok(Enumeration {
             alloc,
-            values: blank(alloc, count)?,
-            out: blank(alloc, count)?,
+            values: all_false(alloc, count)?,
+            out: all_false(alloc, count)?,
             pairs: with_zeros(alloc, check.declared)?,
         })
     }

@@ -7,9 +7,9 @@ use Rattle.ffc_cert.specs.declared.TheConstants.{MAX_BYTES}
 use Rattle.ffc_cert.specs.declared.entries.CertFault.{CertFault}
 use Rattle.ffc_cert.specs.declared.entries.Numbered.{Numbered}
 use Rattle.ffc_cert.specs.declared.progress.Progress.{Progress}
-use Rattle.ffc_cert.specs.Reading.{Reading, End, Complete, Open, Stopped, Next, Halt, Move, Give, ending, with_entry, end_at, end_behind, cut_end, is_behind, next_at, read, read_text, reading_of, origin, is_line_end, fault_at}
+use Rattle.ffc_cert.specs.Reading.{Reading, End, Complete, Open, Stopped, Next, Halt, Move, Give, ending, with_entry, end_at, end_after, cut_end, is_complete, next_at, read, read_text, reading_of, origin, is_line_end, fault_at}
 use Rattle.ffc_cert.proofs.ReadLemmas.{after_next, read_line}
-use Rattle.ffc_cert.proofs.RestLemmas.{split_alone, rest_halts, cut_halts, behind_halts}
+use Rattle.ffc_cert.proofs.RestLemmas.{split_alone, rest_halts, cut_halts, complete_halts}
 
 -- a reading of the front of a text, and one of the whole
 pub record IsFront (front whole : Reading) : Type 0 where
@@ -48,18 +48,18 @@ module _ (wanted : ℕ) (p : Progress) (bytes more : List ℕ) (alone : length b
   long_front (Move q) e long = front_open (Open (fault_at 4 p)) _ (λ f h. cc)
   long_front (Give x q) e long = front_open (Open (fault_at 4 p)) _ (λ f h. cc)
 
-behind_front : (wanted : ℕ) (p : Progress) (bytes more : List ℕ) → length bytes ≤ position_or_len is_line_end bytes → is_behind p.place p.complete wanted ≡ true
-    → IsFront (ending (end_behind bytes p)) (read_text wanted p (bytes ++ more))
-unfolding end_behind
+behind_front : (wanted : ℕ) (p : Progress) (bytes more : List ℕ) → length bytes ≤ position_or_len is_line_end bytes → is_complete p.place p.complete wanted ≡ true
+    → IsFront (ending (end_after bytes p)) (read_text wanted p (bytes ++ more))
+unfolding end_after
 behind_front wanted p [] more alone e = front_open Complete _ (λ f h. cc)
-behind_front wanted p (c ∷ cs) more alone e = front_stopped (fault_at 2 p) _ (rest_halts wanted p (c ∷ cs) more (fault_at 2 p) alone (behind_halts wanted p c cs e))
+behind_front wanted p (c ∷ cs) more alone e = front_stopped (fault_at 2 p) _ (rest_halts wanted p (c ∷ cs) more (fault_at 2 p) alone (complete_halts wanted p c cs e))
 
 end_front : (wanted : ℕ) (p : Progress) (bytes more : List ℕ) → length bytes ≤ position_or_len is_line_end bytes → IsFront (ending (end_at wanted p bytes)) (read_text wanted p (bytes ++ more))
 unfolding end_at
-end_front wanted p bytes more alone = by_size (nat_lt MAX_BYTES (length bytes)) refl (is_behind p.place p.complete wanted) refl
+end_front wanted p bytes more alone = by_size (nat_lt MAX_BYTES (length bytes)) refl (is_complete p.place p.complete wanted) refl
   where
-    by_size : (long : Bool) → nat_lt MAX_BYTES (length bytes) ≡ long → (behind : Bool) → is_behind p.place p.complete wanted ≡ behind
-        → IsFront (ending (cond long (cut_end (next_at wanted p bytes) p) (cond behind (end_behind bytes p) (Open (fault_at 4 p))))) (read_text wanted p (bytes ++ more))
+    by_size : (long : Bool) → nat_lt MAX_BYTES (length bytes) ≡ long → (behind : Bool) → is_complete p.place p.complete wanted ≡ behind
+        → IsFront (ending (cond long (cut_end (next_at wanted p bytes) p) (cond behind (end_after bytes p) (Open (fault_at 4 p))))) (read_text wanted p (bytes ++ more))
     by_size true e behind f = long_front wanted p bytes more alone (next_at wanted p bytes) refl (ltb-true MAX_BYTES (length bytes) e)
     by_size false e true f = behind_front wanted p bytes more alone f
     by_size false e false f = front_open (Open (fault_at 4 p)) _ (λ g h. cc)
