@@ -1,5 +1,5 @@
 //! Levels of generators that are pushed and popped.
-use crate::terms::{Term, sums};
+use crate::terms::{Term, sum, sums};
 use ffc_base::Meter;
 use ffc_basis::{BasisStop, Completion, Progress};
 use ffc_field::F5;
@@ -89,7 +89,8 @@ fn stops_and_goes_on(rt: HostRuntime) -> Result<(), Fail> {
     }
     assert!(rt; matches!(progress, Progress::Done(Completion::Constant(2))));
     assert_eq!(rt; stack.depth(), 1);
-    let reduced = stack.reduce(&gens[0], &mut meter).map_err(|_| "stopped")?;
+    let x = sum::<F5, GradedReverseLex>(alloc, &[(1, &[1])])?;
+    let reduced = stack.reduce(&x, &mut meter).map_err(|_| "stopped")?;
     assert_eq!(rt; reduced.rest.len(), 0);
     Ok(())
 }
