@@ -1,5 +1,5 @@
-//! Worked rows of the library calls that the checker is made of: words of scripts as nodes, the checker's polynomials,
-//! the case trees of lemmas, entries and cores.
+//! Library calls that the checker is made of, on inputs whose answers were found by hand: words of scripts as nodes, the
+//! checker's polynomials, the case trees of lemmas, entries and cores.
 //!
 //! The crate has tests alone. Expected values are computed by hand or come from the algebra, never from a program's
 //! output.

@@ -1,5 +1,5 @@
-//! Worked rows of the library calls that the solver is made of: monomials, polynomials, their roots and bases, the
-//! clauses and polynomials of nodes, the search for values, and the solver of clauses.
+//! Library calls that the solver is made of, on inputs whose answers were found by hand: monomials, polynomials, their
+//! roots and bases, the clauses and polynomials of nodes, the search for values, and the solver of clauses.
 //!
 //! The crate has tests alone. Expected values are computed by hand or come from the algebra, never from a program's
 //! output.
