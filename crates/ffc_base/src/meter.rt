@@ -3,6 +3,7 @@ ghost use Rattle.std.specs.Prelude.{◌≡◌, ◌+◌, ◌≤◌, ◌↔◌, Is
 ghost use Rattle.ffc_base.specs.Metering.{spending, total, count_of, one_more};
 
 use std::marker::Model;
+use thiserror::Error;
 
 /// A kind of work.
 #[derive(Clone, Copy, Debug, PartialEq, Eq)]
@@ -18,7 +19,8 @@ pub enum Unit {
 }
 
 /// The budget is spent.
-#[derive(Clone, Copy, Debug, PartialEq, Eq)]
+#[derive(Clone, Copy, Debug, PartialEq, Eq, Error)]
+#[error("the budget is spent")]
 pub struct Spent;
 
 /// Counts units of work of four kinds against one budget.

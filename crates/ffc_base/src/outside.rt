@@ -3,16 +3,21 @@ ghost use Rattle.std.specs.Prelude.{◌≡◌, ℕ, ◌<◌, ◌≤◌, List, []
 ghost use Rattle.std.specs.Prelude.{IsErrOf};
 ghost use Rattle.ffc_base.specs.Outside.{Rose, MovesFront, Appends, AppendsPrefix, Becomes};
 
+use thiserror::Error;
+
 /// A read failed; the source's count of faults says so.
-#[derive(Clone, Copy, Debug, PartialEq, Eq)]
+#[derive(Clone, Copy, Debug, PartialEq, Eq, Error)]
+#[error("reading failed")]
 pub struct Failed;
 
 /// Why a write, an opening or a creation stopped.
-#[derive(Clone, Copy, Debug, PartialEq, Eq)]
+#[derive(Clone, Copy, Debug, PartialEq, Eq, Error)]
 pub enum WriteStop {
     /// The outside failed; the object's count of faults says so.
+    #[error("writing failed")]
     Failed,
     /// Out of memory.
+    #[error("out of memory")]
     Memory,
 }
 

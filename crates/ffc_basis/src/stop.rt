@@ -1,13 +1,16 @@
 //! Why a basis gave no answer.
 use ffc_base::Spent;
 use std::alloc::{AllocError, AllocFailed};
+use thiserror::Error;
 
 /// Why a basis gave no answer.
-#[derive(Clone, Copy, Debug, PartialEq, Eq, Drop)]
+#[derive(Clone, Copy, Debug, PartialEq, Eq, Drop, Error)]
 pub enum BasisStop {
     /// The budget is spent.
+    #[error("the budget is spent")]
     Spent,
     /// Out of memory.
+    #[error("out of memory")]
     Memory,
 }
 

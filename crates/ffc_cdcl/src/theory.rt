@@ -8,13 +8,16 @@ ghost use Rattle.ffc_cdcl.specs.Theories.{KeepsLemmas, OnAgreed, NamesLemma, IsF
 use crate::literal::{Lit, Literals};
 use ffc_base::{Meter, Spent};
 use std::alloc::AllocError;
+use thiserror::Error;
 
 /// Why a search stopped before it had an answer.
-#[derive(Clone, Copy, Debug, PartialEq, Eq)]
+#[derive(Clone, Copy, Debug, PartialEq, Eq, Error)]
 pub enum CdclStop {
     /// The meter is full.
+    #[error("the budget is spent")]
     Spent,
     /// Out of memory.
+    #[error("out of memory")]
     Memory,
 }
 

@@ -1,6 +1,7 @@
 //! What a certificate says of a check, and why a text is none.
 use crate::sequences::Sequence;
 use std::alloc::{AllocError, AllocFailed};
+use thiserror::Error;
 
 /// A node of Boolean sort, by its number, with true for the node and false for its negation.
 pub type Literal = (bool, u32);
@@ -92,7 +93,8 @@ pub struct Numbered {
 }
 
 /// The first fault of a text: the entry, from 1, or 0 for line 1; the line, from 1.
-#[derive(Clone, Copy, Debug, PartialEq, Eq)]
+#[derive(Clone, Copy, Debug, PartialEq, Eq, Error)]
+#[error("entry {entry}, line {line}: fault {code}")]
 pub struct CertFault {
     pub entry: u64,
     pub line: u64,
@@ -102,10 +104,12 @@ pub struct CertFault {
 }
 
 /// Why a reader stops.
-#[derive(Clone, Copy, Debug, PartialEq, Eq)]
+#[derive(Clone, Copy, Debug, PartialEq, Eq, Error)]
 pub enum CertStop {
+    #[error(transparent)]
     Fault(CertFault),
     /// Out of memory.
+    #[error("out of memory")]
     Memory,
 }
 

@@ -20,6 +20,7 @@ use ffc_term::{Node, NodeId, NodeTable};
 use std::alloc::{AllocError, Global};
 use std::collections::BTreeMap;
 use std::marker::Model;
+use thiserror::Error;
 
 /// The greatest degree of a node whose polynomial is computed.
 const MOST_DEGREE: u64 = 255;
@@ -413,11 +414,13 @@ impl<'a, F: Field> NodePolys<'a, F> {
 }
 
 /// Why a node's polynomial is not computed.
-#[derive(Clone, Copy, Debug, PartialEq, Eq, Drop)]
+#[derive(Clone, Copy, Debug, PartialEq, Eq, Drop, Error)]
 pub enum CkStop {
     /// The node has a degree above 255 or a length above 65,536.
+    #[error("the degree or the length passes the limit")]
     Over,
     /// Out of memory.
+    #[error("out of memory")]
     Memory,
 }
 

@@ -1,12 +1,15 @@
 //! Why a line or a tree gives nothing.
 use std::alloc::{AllocError, AllocFailed};
+use thiserror::Error;
 
 /// Why a line gives nothing.
-#[derive(Clone, Copy, Debug, PartialEq, Eq, Drop)]
+#[derive(Clone, Copy, Debug, PartialEq, Eq, Drop, Error)]
 pub enum LineStop {
     /// The line breaks this rule.
+    #[error("rule {0} is broken")]
     Rule(u8),
     /// Out of memory.
+    #[error("out of memory")]
     Memory,
 }
 
@@ -33,7 +36,8 @@ impl<T: Drop> From<AllocFailed<T>> for LineStop {
 }
 
 /// The first line of a tree that breaks a rule.
-#[derive(Clone, Copy, Debug, PartialEq, Eq, Drop)]
+#[derive(Clone, Copy, Debug, PartialEq, Eq, Drop, Error)]
+#[error("line {offset} of the tree breaks rule {rule}")]
 pub struct BrokenLine {
     /// The number of the line, from 0 at the tree's first one.
     pub offset: u64,
@@ -41,11 +45,13 @@ pub struct BrokenLine {
 }
 
 /// Why a tree is not read to its end.
-#[derive(Clone, Copy, Debug, PartialEq, Eq, Drop)]
+#[derive(Clone, Copy, Debug, PartialEq, Eq, Drop, Error)]
 pub enum TreeStop {
     /// A line breaks a rule.
+    #[error(transparent)]
     Broken(BrokenLine),
     /// Out of memory.
+    #[error("out of memory")]
     Memory,
 }
 

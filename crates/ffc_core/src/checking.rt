@@ -16,15 +16,19 @@ use ffc_cert::Entry;
 use ffc_check::{Broken, CheckStop, check_entry};
 use ffc_term::Check;
 use std::alloc::{AllocError, Global};
+use thiserror::Error;
 
 /// Why a core is not accepted.
-#[derive(Clone, Copy, Debug, PartialEq, Eq)]
+#[derive(Clone, Copy, Debug, PartialEq, Eq, Error)]
 pub enum CoreStop {
     /// The entry is not accepted.
+    #[error(transparent)]
     Broken(Broken),
     /// The entry uses this number of the active list, which the core leaves out.
+    #[error("assertion {0} is used and not in the core")]
     Outside(u64),
     /// Out of memory.
+    #[error("out of memory")]
     Memory,
 }
 

@@ -12,18 +12,22 @@ use ffc_poly::{Poly, PolyStop};
 use ffc_search::SearchStop;
 use ffc_term::{NodeId, NodeTable, distinct};
 use std::alloc::{AllocError, AllocFailed, Global};
+use thiserror::Error;
 
 /// The polynomials of the engine.
 pub type Generator<F> = Poly<F, GradedReverseLex>;
 
 /// Why polynomials are not made, or not completed.
-#[derive(Clone, Copy, Debug, PartialEq, Eq)]
+#[derive(Clone, Copy, Debug, PartialEq, Eq, Error)]
 pub enum GeneratorStop {
     /// A limit of polynomials was passed.
+    #[error("a limit of polynomials is passed")]
     Over,
     /// The units of the share are taken.
+    #[error("the share of the budget is spent")]
     Spent,
     /// Out of memory.
+    #[error("out of memory")]
     Memory,
 }
 

@@ -3,13 +3,16 @@ use ffc_base::Spent;
 use ffc_basis::BasisStop;
 use ffc_cdcl::CdclStop;
 use std::alloc::{AllocError, AllocFailed};
+use thiserror::Error;
 
 /// Why the engine stops before it has an answer.
-#[derive(Clone, Copy, Debug, PartialEq, Eq)]
+#[derive(Clone, Copy, Debug, PartialEq, Eq, Error)]
 pub enum EngineStop {
     /// The meter is full.
+    #[error("the budget is spent")]
     Spent,
     /// Out of memory.
+    #[error("out of memory")]
     Memory,
 }
 

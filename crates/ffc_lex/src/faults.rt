@@ -1,8 +1,10 @@
 //! Why a lexer stops.
 use std::alloc::{AllocError, AllocFailed};
+use thiserror::Error;
 
 /// A text fault and its place, counted from 1: lines by LF, columns by bytes.
-#[derive(Clone, Copy, Debug, PartialEq, Eq)]
+#[derive(Clone, Copy, Debug, PartialEq, Eq, Error)]
+#[error("line {line}, column {column}: fault {code}")]
 pub struct LexFault {
     pub line: u64,
     pub column: u64,
@@ -12,10 +14,12 @@ pub struct LexFault {
 }
 
 /// Why a call gave no answer.
-#[derive(Clone, Copy, Debug, PartialEq, Eq)]
+#[derive(Clone, Copy, Debug, PartialEq, Eq, Error)]
 pub enum LexStop {
+    #[error(transparent)]
     Fault(LexFault),
     /// Out of memory.
+    #[error("out of memory")]
     Memory,
 }
 

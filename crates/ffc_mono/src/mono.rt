@@ -9,16 +9,19 @@ use smallvec::SmallVec;
 use std::alloc::{AllocError, Global};
 use std::hash::{Hash, Hasher};
 use std::marker::Model;
+use thiserror::Error;
 
 /// The greatest total degree.
 pub const DEGREE_LIMIT: u32 = 1024;
 
 /// Why a monomial was not made.
-#[derive(Clone, Copy, Debug, PartialEq, Eq, Drop)]
+#[derive(Clone, Copy, Debug, PartialEq, Eq, Drop, Error)]
 pub enum MonoStop {
     /// The total degree would pass the limit.
+    #[error("the total degree passes the limit")]
     DegreeOver,
     /// Out of memory.
+    #[error("out of memory")]
     Memory,
 }
 

@@ -2,13 +2,16 @@
 use ffc_base::Spent;
 use ffc_uni::UniStop;
 use std::alloc::{AllocError, AllocFailed};
+use thiserror::Error;
 
 /// Why roots were not found.
-#[derive(Clone, Copy, Debug, PartialEq, Eq, Drop)]
+#[derive(Clone, Copy, Debug, PartialEq, Eq, Drop, Error)]
 pub enum RootStop {
     /// The budget is spent.
+    #[error("the budget is spent")]
     Spent,
     /// Out of memory.
+    #[error("out of memory")]
     Memory,
 }
 

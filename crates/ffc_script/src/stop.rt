@@ -2,12 +2,15 @@
 use ffc_lex::LexStop;
 use ffc_words::{ScriptFault, TakeStop};
 use std::alloc::AllocError;
+use thiserror::Error;
 
 /// Why a call gave no answer.
-#[derive(Clone, Copy, Debug, PartialEq, Eq)]
+#[derive(Clone, Copy, Debug, PartialEq, Eq, Error)]
 pub enum ScriptStop {
+    #[error(transparent)]
     Fault(ScriptFault),
     /// Out of memory.
+    #[error("out of memory")]
     Memory,
 }
 

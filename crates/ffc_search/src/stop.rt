@@ -3,13 +3,16 @@ use ffc_base::Spent;
 use ffc_basis::BasisStop;
 use ffc_roots::RootStop;
 use std::alloc::{AllocError, AllocFailed};
+use thiserror::Error;
 
 /// Why a search gave no answer.
-#[derive(Clone, Copy, Debug, PartialEq, Eq, Drop)]
+#[derive(Clone, Copy, Debug, PartialEq, Eq, Drop, Error)]
 pub enum SearchStop {
     /// The budget is spent, or there was no further choice, and the rest of the budget was taken.
+    #[error("the budget is spent")]
     Spent,
     /// Out of memory, or past a limit of polynomials.
+    #[error("out of memory")]
     Memory,
 }
 

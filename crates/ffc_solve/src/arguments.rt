@@ -7,6 +7,7 @@ use clap::error::ErrorKind;
 use clap::{Arg, ArgAction, ArgMatches, Command, Error};
 use std::alloc::{AllocError, Global};
 use std::marker::Model;
+use thiserror::Error;
 
 /// The units of work that a check may take, where the arguments do not say it.
 const DEFAULT_STEPS: u64 = 1_000_000;
@@ -53,11 +54,13 @@ pub struct Plan {
 }
 
 /// Why there is no plan.
-#[derive(Clone, Copy, Debug, PartialEq, Eq)]
+#[derive(Clone, Copy, Debug, PartialEq, Eq, Error)]
 pub enum PlanStop {
     /// The arguments are refused.
+    #[error("the arguments are refused")]
     Usage,
     /// Out of memory.
+    #[error("out of memory")]
     Memory,
 }
 

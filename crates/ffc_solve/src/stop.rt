@@ -5,17 +5,22 @@ ghost use Rattle.ffc_cert.specs.Spelling.{header};
 
 use ffc_base::{NamedSink, Sink, WriteStop};
 use std::alloc::AllocError;
+use thiserror::Error;
 
 /// Why a run stopped before it had answered the whole script.
-#[derive(Clone, Copy, Debug, PartialEq, Eq)]
+#[derive(Clone, Copy, Debug, PartialEq, Eq, Error)]
 pub enum Stop {
     /// Reading the script failed.
+    #[error("reading the script failed")]
     ReadFault,
     /// Writing an answer failed.
+    #[error("writing an answer failed")]
     WriteFault,
     /// Creating or writing the certificate failed.
+    #[error("writing the certificate failed")]
     CertFault,
     /// Out of memory.
+    #[error("out of memory")]
     Memory,
 }
 

@@ -1,17 +1,22 @@
 //! Why a check is not decided.
 use ffc_cert::Cause;
 use std::alloc::{AllocError, AllocFailed};
+use thiserror::Error;
 
 /// Why a check is not decided.
-#[derive(Clone, Copy, Debug, PartialEq, Eq)]
+#[derive(Clone, Copy, Debug, PartialEq, Eq, Error)]
 pub enum DecideStop {
     /// The budget is spent: Trials, Reductions, Assignments and Chains.
+    #[error("the budget is spent")]
     Spent(u64, u64, u64, u64),
     /// An equality has a higher degree than polynomials may have.
+    #[error("an equality has a degree above the limit")]
     TooHigh,
     /// An equality has more terms than polynomials may have.
+    #[error("an equality has more terms than the limit")]
     TooLong,
     /// Out of memory.
+    #[error("out of memory")]
     Memory,
 }
 

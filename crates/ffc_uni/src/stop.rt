@@ -1,13 +1,16 @@
 //! The error of a chain or a power.
 use ffc_base::Spent;
 use std::alloc::AllocError;
+use thiserror::Error;
 
 /// Why a chain or a power was not made.
-#[derive(Clone, Copy, Debug, PartialEq, Eq)]
+#[derive(Clone, Copy, Debug, PartialEq, Eq, Error)]
 pub enum UniStop {
     /// The budget is spent.
+    #[error("the budget is spent")]
     Spent,
     /// Out of memory.
+    #[error("out of memory")]
     Memory,
 }
 

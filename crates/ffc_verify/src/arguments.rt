@@ -6,6 +6,7 @@ ghost use Rattle.ffc_verify.specs.Arguments.{AreTaken, cert_name, check_app, is_
 use clap::error::ErrorKind;
 use clap::{Arg, ArgAction, ArgMatches, Command, Error};
 use std::alloc::{AllocError, Global};
+use thiserror::Error;
 
 /// What the arguments `CERT [--cores]` ask for.
 #[derive(Clone, Copy)]
@@ -17,11 +18,13 @@ pub struct CheckPlan<'a> {
 }
 
 /// Why there is no plan.
-#[derive(Clone, Copy, Debug, PartialEq, Eq)]
+#[derive(Clone, Copy, Debug, PartialEq, Eq, Error)]
 pub enum PlanStop {
     /// The arguments are refused.
+    #[error("the arguments are refused")]
     Usage,
     /// Out of memory.
+    #[error("out of memory")]
     Memory,
 }
 

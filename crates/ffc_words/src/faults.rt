@@ -1,8 +1,10 @@
 //! The faults of commands.
 use std::alloc::{AllocError, AllocFailed};
+use thiserror::Error;
 
 /// A command's fault: where it is, and which.
-#[derive(Clone, Copy, Debug, PartialEq, Eq)]
+#[derive(Clone, Copy, Debug, PartialEq, Eq, Error)]
+#[error("line {line}, column {column}: fault {code}")]
 pub struct ScriptFault {
     pub line: u64,
     pub column: u64,
@@ -10,10 +12,12 @@ pub struct ScriptFault {
 }
 
 /// Why a command was not taken.
-#[derive(Clone, Copy, Debug, PartialEq, Eq)]
+#[derive(Clone, Copy, Debug, PartialEq, Eq, Error)]
 pub enum TakeStop {
+    #[error(transparent)]
     Fault(ScriptFault),
     /// Out of memory.
+    #[error("out of memory")]
     Memory,
 }
 
