@@ -12,10 +12,6 @@ use Rattle.ffc_answer.specs.Seen.{name_at}
 
 -- texts with spaces between them
 
-spaced_one : (xs : List (List ℕ)) (y : List ℕ) → length xs ≡ 0 → spaced (xs ++ y ∷ []) ≡ y
-spaced_one [] y e = append-nil y
-spaced_one (x ∷ xs) y e = absurd (omega arith)
-
 spaced_push : (xs : List (List ℕ)) (y : List ℕ) → 0 < length xs → spaced (xs ++ y ∷ []) ≡ spaced xs ++ 32 ∷ y
 spaced_push [] y h = absurd (omega arith)
 spaced_push (x ∷ xs) y h =

@@ -48,10 +48,6 @@ lines_push p ls l v w =
     (subst (λ n. AreBefore n l.parts.items) (length-polys ls ∙ omega arith) w.0, λ some m. w.1 some m ∙ ap (λ ts. coefficient p ts m) whole) in
     AreLinesFrom-push p gs 0 ls l more last
 
-added_push : {F O : Type 0} (p : ℕ) (cmp : Monomial → Monomial → Ordering) (gs : List Terms) (xs : List (Line F O)) (l : Line F O) → AreAdded p cmp gs xs → IsAddedLine p cmp (gs ++ polys_of xs) l → AreAdded p cmp gs (xs ++ l ∷ [])
-added_push p cmp gs [] l v w = (subst (λ hs. IsAddedLine p cmp hs l) (append-nil gs) w, tt)
-added_push p cmp gs (x ∷ xs) l v w = (v.0, added_push p cmp (gs ++ x.poly ∷ []) xs l v.1 (subst (λ hs. IsAddedLine p cmp hs l) (sym (append_assoc gs (x.poly ∷ []) (polys_of xs))) w))
-
 added_both : {F O : Type 0} (p : ℕ) (cmp : Monomial → Monomial → Ordering) (gs : List Terms) (xs ys : List (Line F O)) → AreAdded p cmp gs xs → AreAdded p cmp (gs ++ polys_of xs) ys → AreAdded p cmp gs (xs ++ ys)
 added_both p cmp gs [] ys v w = subst (λ hs. AreAdded p cmp hs ys) (append-nil gs) w
 added_both p cmp gs (x ∷ xs) ys v w = (v.0, added_both p cmp (gs ++ x.poly ∷ []) xs ys v.1 (subst (λ hs. AreAdded p cmp hs ys) (sym (append_assoc gs (x.poly ∷ []) (polys_of xs))) w))

@@ -85,7 +85,7 @@ module _ (cmp : Monomial → Monomial → Ordering) (laws : IsMonomialOrder cmp)
         m ∷ ms,
         record {
           different = (none_of_above ms m (c.below place (omega arith) h), c.different);
-          below = λ j behind l. (step.below j behind l, above_through ms m (get_or next j (0, [])).1 (c.below place (omega arith) h) (step.below j behind l));
+          below = λ j after l. (step.below j after l, above_through ms m (get_or next j (0, [])).1 (c.below place (omega arith) h) (step.below j after l));
           within = λ vs d graded lines up.
               let old_within = c.within vs d graded lines up in
               let top = old_within.1 m step.some in
@@ -121,10 +121,6 @@ counted_is_bounded p cmp gs poly rest place old mid new same t (ms, c, n) vs d g
     let most : length ms ≤ choose (length vs + d) d = count_of_monomials vs d ms c.different (c.within vs d graded lines up).0 in
     let whole : total mid ≤ total old + choose (length vs + d) d = omega (arith, t.trials, t.assignments, t.chains) in
     subst (λ s. total s ≤ total old + choose (length vs + d) d) (sym same) whole
-
-pub nothing_is_bounded : (p : ℕ) (cmp : Monomial → Monomial → Ordering) (gs : List Terms) (poly : Terms) (old new : Spending) → new ≡ old → IsReductionBound p cmp gs poly old new
-nothing_is_bounded p cmp gs poly old new same vs d graded lines up =
-    subst (λ s. total s ≤ total old + choose (length vs + d) d) (sym same) (omega arith)
 
 -- ---- S-polynomials
 
@@ -177,10 +173,6 @@ pub pair_is_bounded : (p : ℕ) (cmp : Monomial → Monomial → Ordering) → 0
     → IsReductionBound p cmp gs s old new → IsPairBound p cmp gs old new
 pair_is_bounded p cmp positive gs i j s old new v w is bound vs d graded up =
     bound vs (d + d) graded (λ h m some. (up h m some).0) (s_polynomial_up_to p cmp positive vs d (get_or gs i []) (get_or gs j []) s v w (up i) (up j) is)
-
-pub no_pair_is_bounded : (p : ℕ) (cmp : Monomial → Monomial → Ordering) (gs : List Terms) (old new : Spending) → new ≡ old → IsPairBound p cmp gs old new
-no_pair_is_bounded p cmp gs old new same vs d graded up =
-    subst (λ s. total s ≤ total old + choose (length vs + (d + d)) (d + d)) (sym same) (omega arith)
 
 -- ---- several pairs
 

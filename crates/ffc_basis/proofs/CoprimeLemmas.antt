@@ -1,7 +1,7 @@
 -- Buchberger's first criterion: two lines whose leading monomials share no variable are a closed pair (Cox, Little and
 -- O'Shea, chapter 2, section 9, proposition 4). With f = c*m + a and g = d*n + b, where c*m and d*n lead, k*c = 1 and l*d = 1,
 -- the S-polynomial k*n*f - l*m*g is k*l*(a*g - b*f), and the leading monomials of a*g and b*f are different.
-use Rattle.std.proofs.Common.{◌≡◌, ◌≢◌, ◌⊎◌, ℕ, ◌+◌, ◌-◌, ◌*◌, ◌%◌, ◌<◌, ◌≤◌, max, List, [], ◌∷◌, ◌++◌, length, get_or, refl, sym, ap, ap₂, ◌∙◌, subst, inl, inr, arith, append-nil, mod-lt, mul-add, add-mul, one-mul, mul-one, mul_left_comm, mul_assoc}
+use Rattle.std.proofs.Common.{◌≡◌, ◌≢◌, ◌⊎◌, ℕ, ◌+◌, ◌-◌, ◌*◌, ◌%◌, ◌<◌, ◌≤◌, List, [], ◌∷◌, ◌++◌, length, get_or, refl, sym, ap, ap₂, ◌∙◌, subst, inl, inr, arith, append-nil, mod-lt, mul-add, add-mul, one-mul, mul-one, mul_left_comm, mul_assoc}
 use Rattle.std.proofs.Math.Nat.{zero-mod, mod-mod, mul-mod_right}
 use Rattle.std.proofs.lemmas.Nat.{mul-mod_first, mul-mod_second}
 use Rattle.std.proofs.lemmas.Bool.{cases_eq}
@@ -11,7 +11,7 @@ use Rattle.ffc_field.specs.Modular.{IsPrime, mul_mod}
 use Rattle.ffc_field.proofs.ModularLaws.{mul_mod-comm, mul_mod-zero_first, mul_mod-mod_first}
 use Rattle.ffc_ring.specs.Monomial.{Monomial, IsMonomial, exponent, degree, mono_mul, mono_lcm, mono_quotient, Divides, AreCoprime}
 use Rattle.ffc_ring.specs.Polynomial.{Terms, AreTerms, coefficient, SamePolynomial, product, term_product, scaled, difference}
-use Rattle.ffc_ring.proofs.MonomialLemmas.{one_monomial, IsMonomial-mono_mul, exponent-mono_mul, exponent-mono_lcm, IsMonomial-mono_lcm, mono_mul_comm, mono_mul_one, degree-mono_mul, IsMonomialFrom-mono_quotient, exponent-mono_quotient, mono_mul-mono_quotient, coprime_lcm}
+use Rattle.ffc_ring.proofs.MonomialLemmas.{one_monomial, IsMonomial-mono_mul, exponent-mono_mul, mono_mul_comm, IsMonomialFrom-mono_quotient, exponent-mono_quotient, coprime_lcm}
 use Rattle.ffc_ring.proofs.PolynomialLemmas.{weighted, weighted-append, weighted-term_product, weighted-product, weighted-sum, weighted-times, weighted-alike, weighted-swap, SamePolynomial-from_weighted, sum_alike, times_alike, sum_commutes, monomial_of_coefficient}
 use Rattle.ffc_mono.specs.MonomialOrder.{IsMonomialOrder}
 use Rattle.ffc_mono.specs.Leading.{IsLeading}
@@ -312,25 +312,3 @@ module _ (p : ℕ) (prime : IsPrime p) (cmp : Monomial → Monomial → Ordering
 no_degree : (m : Monomial) → IsMonomial m → degree m ≡ 0 → m ≡ []
 no_degree [] v none = refl
 no_degree (q ∷ m) v none = absurd (omega (arith, v.1))
-
--- a divisor of the same degree is the monomial itself
-whole_divisor : (m n : Monomial) → IsMonomial m → IsMonomial n → Divides m n → degree m ≡ degree n → m ≡ n
-whole_divisor m n v w divides same =
-    let q = mono_quotient n m in
-    let is : mono_mul m q ≡ n = mono_mul-mono_quotient n m w v divides in
-    let none : degree q ≡ 0 = omega (arith, degree-mono_mul m q, ap degree is) in
-    sym (mono_mul_one m v) ∙ ap (mono_mul m) (sym (no_degree q (IsMonomialFrom-mono_quotient 0 n m w) none)) ∙ is
-
--- monomials share no variable where the degree of their least common multiple is the sum of theirs
-pub coprime_by_degree : (m n : Monomial) → IsMonomial m → IsMonomial n → degree (mono_lcm m n) ≡ degree m + degree n → AreCoprime m n
-coprime_by_degree m n v w same x some =
-    let top : (y : ℕ) → exponent (mono_lcm m n) y ≡ max (exponent m y) (exponent n y) = exponent-mono_lcm m n v w in
-    let sum : (y : ℕ) → exponent (mono_mul m n) y ≡ exponent m y + exponent n y = exponent-mono_mul m n v w in
-    let is : mono_lcm m n ≡ mono_mul m n =
-    whole_divisor (mono_lcm m n) (mono_mul m n) (IsMonomial-mono_lcm m n v w) (IsMonomial-mono_mul m n v w) (λ y. omega (arith, top y, sum y)) (same ∙ sym (degree-mono_mul m n)) in
-    let both : max (exponent m x) (exponent n x) ≡ exponent m x + exponent n x = sym (top x) ∙ ap (λ k. exponent k x) is ∙ sum x in
-    omega arith
-
--- and only there
-pub degree_by_coprime : (m n : Monomial) → IsMonomial m → IsMonomial n → AreCoprime m n → degree (mono_lcm m n) ≡ degree m + degree n
-degree_by_coprime m n v w apart = ap degree (coprime_lcm m n v w apart) ∙ degree-mono_mul m n

@@ -1,12 +1,11 @@
 -- How many pairs there are of the first lines, and how many are settled.
-use Rattle.std.proofs.Common.{◌≡◌, ℕ, zero, suc, ◌+◌, ◌*◌, ◌<◌, ◌≤◌, List, [], ◌∷◌, ◌++◌, length, get_or, set, map, min, filter, nat_lt, true, false, cond, refl, sym, ap, ap₂, ◌∙◌, subst, inl, inr, arith, length-append, append-nil, append_assoc, take, if◌then◌else◌}
+use Rattle.std.proofs.Common.{◌≡◌, ℕ, zero, suc, ◌+◌, ◌*◌, ◌<◌, ◌≤◌, List, [], ◌∷◌, ◌++◌, length, get_or, set, map, min, filter, nat_lt, true, false, cond, refl, sym, ap, ap₂, ◌∙◌, subst, inl, inr, arith, length-append, append-nil, append_assoc, if◌then◌else◌}
 use Rattle.std.proofs.Math.Nat.{min-eq_left, min-eq_right, mul-le-mul}
 use Rattle.std.proofs.lemmas.Bool.{cases_order}
 use Rattle.std.proofs.lemmas.Bool.Decides.{nat_tests}
 use Rattle.ffc_basis.specs.declared.pair.PairRecord.{PairRecord}
 use Rattle.ffc_basis.specs.declared.pair.PairState.{PairState}
 use Rattle.ffc_basis.specs.declared.pair.PairState.TheVariants.{Pending, Closed, Over}
-use Rattle.ffc_basis.proofs.LineLemmas.{take_front}
 use Rattle.ffc_basis.specs.PairTable.{forgotten, count_below, seconds, AreFew, ArePendingOf, IsJoined, IsPendingAt, settled_one, settled_count}
 
 -- ---- counts of numbers
@@ -192,9 +191,6 @@ joins_one line most old mid new r e f is (qs, are, of_line, short) = (
   pending_push line qs r e f of_line,
   omega (arith, length-append qs (r ∷ [])),
 )
-
-pub join_dropped : (line most : ℕ) (old new left : List PairRecord) (count : ℕ) → IsJoined line most old new → count ≡ length old → left ≡ take count new → left ≡ old
-join_dropped line most old new left count (more, is, _, _) all cut = cut ∙ ap (take count) is ∙ take_front old more count all
 
 pub few_same : (rs qs : List PairRecord) (joined again : ℕ) → seconds qs ≡ seconds rs → again ≡ joined → AreFew (seconds rs) joined → AreFew (seconds qs) again
 few_same rs qs joined again same is v = subst (λ ks. AreFew ks again) (sym same) (subst (AreFew (seconds rs)) (sym is) v)

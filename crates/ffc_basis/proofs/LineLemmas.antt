@@ -1,5 +1,5 @@
 -- Lines that are added and dropped keep what each line is.
-use Rattle.std.proofs.Common.{◌≡◌, ℕ, zero, suc, ◌+◌, ◌<◌, List, [], ◌∷◌, ◌++◌, length, get_or, take, refl, sym, ap, ap₂, ◌∙◌, subst, arith, append-nil, append_assoc, add-one}
+use Rattle.std.proofs.Common.{◌≡◌, ℕ, zero, suc, ◌+◌, ◌<◌, List, [], ◌∷◌, ◌++◌, length, get_or, take, refl, sym, ap, ap₂, ◌∙◌, subst, arith, append_assoc, add-one}
 use Rattle.ffc_ring.specs.Polynomial.{Terms, coefficient, product}
 use Rattle.ffc_basis.specs.declared.line.Line.{Line}
 use Rattle.ffc_basis.specs.Lines.{Parts, polys_of, combination, AreBefore, AreLinesFrom, AreLines, AreGenerators, IsAddedTo}
@@ -75,9 +75,6 @@ taken_more [] i x h e = absurd (omega arith)
 taken_more (y ∷ xs) zero x h e = ap (λ z. z ∷ []) (sym e)
 taken_more (y ∷ xs) (suc i) x h e = rw add-one (ap (λ l. y ∷ l) (sym (ap (λ n. take n xs) (add-one i)) ∙ taken_more xs i x (omega arith) e))
 
-pub added_none : {F O : Type 0} (ls : List (Line F O)) (gs : List Terms) → IsAddedTo ls ls (take 0 gs)
-added_none ls gs = ([], sym (append-nil ls), tt)
-
 pub added_more : {F O : Type 0} (old ls : List (Line F O)) (gs : List Terms) (i : ℕ) (l : Line F O) (t : Terms) → i < length gs → t ≡ get_or gs i t → l.poly ≡ t → l.parts.items ≡ [] → IsAddedTo old ls (take i gs) → IsAddedTo old (ls ++ l ∷ []) (take (i + 1) gs)
 added_more old ls gs i l t h there e f (more, is, v) = (
   more ++ l ∷ [],
@@ -90,6 +87,3 @@ added_to_none ls gs (more, is, v) = subst (λ ks. AreGenerators ks gs) (sym is) 
 
 pub added_lines : {F O : Type 0} (p : ℕ) (old new : List (Line F O)) (gs : List Terms) → AreLines p old → IsAddedTo old new gs → AreLines p new
 added_lines p old new gs v (more, is, w) = subst (AreLines p) (sym is) (AreLines-append p old more gs v w)
-
-pub added_kept : {F O : Type 0} (old new : List (Line F O)) (gs : List Terms) (n : ℕ) → n ≡ length old → IsAddedTo old new gs → take n new ≡ old
-added_kept old new gs n e (more, is, v) = ap (take n) is ∙ take_front old more n e

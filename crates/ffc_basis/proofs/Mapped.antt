@@ -1,9 +1,8 @@
 -- A list of which the first elements are mapped.
-use Rattle.std.proofs.Common.{◌≡◌, ℕ, zero, suc, ◌+◌, ◌<◌, List, [], ◌∷◌, length, get_or, set, drop, map, refl, sym, ap, ◌∙◌, arith, add-one}
-use Rattle.ffc_basis.specs.declared.pair.PairRecord.{PairRecord}
+use Rattle.std.proofs.Common.{◌≡◌, ℕ, zero, suc, ◌+◌, ◌<◌, List, [], ◌∷◌, length, get_or, set, map, refl, sym, ap, ◌∙◌, arith, add-one}
 use Rattle.ffc_basis.specs.declared.pair.PairState.{PairState}
 use Rattle.ffc_basis.specs.declared.pair.PairState.TheVariants.{Pending, Closed, Over}
-use Rattle.ffc_basis.specs.PairTable.{with_over, over_of}
+use Rattle.ffc_basis.specs.PairTable.{with_over}
 
 abbrev pub mapped_to : {A : Type 0} → (A → A) → ℕ → List A → List A
 mapped_to f zero xs = xs
@@ -18,11 +17,6 @@ mapped_suc f (x ∷ xs) (suc i) d y h e is = ap (λ zs. f x ∷ zs) (mapped_suc 
 pub mapped_next : {A : Type 0} (f : A → A) (xs : List A) (i : ℕ) (d y : A) → i < length xs → d ≡ get_or (mapped_to f i xs) i d → y ≡ f d → set (mapped_to f i xs) i y ≡ mapped_to f (i + 1) xs
 mapped_next f xs i d y h e is = mapped_suc f xs i d y h e is ∙ ap (λ n. mapped_to f n xs) (sym (add-one i))
 
-pub length-mapped_to : {A : Type 0} (f : A → A) (i : ℕ) (xs : List A) → length (mapped_to f i xs) ≡ length xs
-length-mapped_to f zero xs = refl
-length-mapped_to f (suc i) [] = refl
-length-mapped_to f (suc i) (x ∷ xs) = ap suc (length-mapped_to f i xs)
-
 pub mapped_all : {A : Type 0} (f : A → A) (i : ℕ) (xs : List A) → length xs ≡ i → mapped_to f i xs ≡ map f xs
 mapped_all f zero [] h = refl
 mapped_all f zero (x ∷ xs) h = absurd (omega arith)
@@ -30,14 +24,6 @@ mapped_all f (suc i) [] h = refl
 mapped_all f (suc i) (x ∷ xs) h = ap (λ ys. f x ∷ ys) (mapped_all f i xs (omega arith))
 
 -- ---- the pairs at which a limit was passed, of a record more
-
-over_suc : (rs : List PairRecord) (i : ℕ) (r : PairRecord) → i < length rs → r ≡ get_or rs i r → over_of (drop i rs) ≡ with_over r.state (r.first, r.second) (over_of (drop (suc i) rs))
-over_suc [] i r h is = absurd (omega arith)
-over_suc (x ∷ rs) zero r h is = ap (λ y. with_over y.state (y.first, y.second) (over_of rs)) (sym is)
-over_suc (x ∷ rs) (suc i) r h is = over_suc rs i r (omega arith) is
-
-pub over_at : (rs : List PairRecord) (i : ℕ) (r : PairRecord) → i < length rs → r ≡ get_or rs i r → over_of (drop i rs) ≡ with_over r.state (r.first, r.second) (over_of (drop (i + 1) rs))
-over_at rs i r h is = over_suc rs i r h is ∙ ap (λ n. with_over r.state (r.first, r.second) (over_of (drop n rs))) (sym (add-one i))
 
 -- a record at which none was passed
 pub not_over : (s : PairState) (t : ℕ × ℕ) (ts : List (ℕ × ℕ)) → ((n : ℕ) → s ≡ Over n → ⊥) → with_over s t ts ≡ ts

@@ -1,5 +1,5 @@
 -- Pairs that need no reduction: of a polynomial that is 0, or of coprime leading monomials.
-use Rattle.std.proofs.Common.{◌≡◌, ℕ, [], get_or, ◌∙◌, arith}
+use Rattle.std.proofs.Common.{ℕ, arith}
 use Rattle.std.specs.declared.cmp.Ordering.{Ordering}
 use Rattle.ffc_field.specs.Modular.{IsPrime}
 use Rattle.ffc_ring.specs.Monomial.{Monomial, AreCoprime}
@@ -10,19 +10,7 @@ use Rattle.ffc_poly.specs.Ordered.{IsOrdered}
 use Rattle.ffc_basis.specs.Completion.{IsPairClosed}
 use Rattle.ffc_basis.specs.PairTable.{AreNeedless}
 use Rattle.ffc_basis.proofs.CoprimeLemmas.{coprime_lines_close}
-use Rattle.ffc_basis.proofs.PairLemmas.{zero_line_closes, second_zero_line_closes, nothing_leads_none, symmetric_lines_close}
-
-pub zero_is_needless : (p : ℕ) (cmp : Monomial → Monomial → Ordering) (a b : Terms) → a ≡ [] → AreNeedless p cmp a b
-zero_is_needless p cmp a b none gs i j h g e f = (
-  zero_line_closes p cmp gs i j (nothing_leads_none p cmp (get_or gs i []) (e ∙ none)),
-  second_zero_line_closes p cmp gs j i (nothing_leads_none p cmp (get_or gs i []) (e ∙ none)),
-)
-
-pub second_zero_is_needless : (p : ℕ) (cmp : Monomial → Monomial → Ordering) (a b : Terms) → b ≡ [] → AreNeedless p cmp a b
-second_zero_is_needless p cmp a b none gs i j h g e f = (
-  second_zero_line_closes p cmp gs i j (nothing_leads_none p cmp (get_or gs j []) (f ∙ none)),
-  zero_line_closes p cmp gs j i (nothing_leads_none p cmp (get_or gs j []) (f ∙ none)),
-)
+use Rattle.ffc_basis.proofs.PairLemmas.{symmetric_lines_close}
 
 pub coprime_is_needless : (p : ℕ) → IsPrime p → (cmp : Monomial → Monomial → Ordering) → IsMonomialOrder cmp → (limit : ℕ) (a b : Terms) → IsOrdered p cmp limit a → IsOrdered p cmp limit b
     → (c : ℕ) (m : Monomial) (d : ℕ) (n : Monomial) → IsLeading p cmp a c m → IsLeading p cmp b d n → AreCoprime m n → AreNeedless p cmp a b

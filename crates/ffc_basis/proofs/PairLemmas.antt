@@ -201,14 +201,6 @@ grown_pairs_close p cmp gs more i j h g closed s is =
     (subst (λ a. IsSPolynomial p cmp a (get_or gs j []) s) (get_or-append gs more [] i h)
     (subst (λ b. IsSPolynomial p cmp (get_or (gs ++ more) i []) b s) (get_or-append gs more [] j g) is)))
 
--- a line without a leading monomial has no S-polynomial with another
-pub zero_line_closes : (p : ℕ) (cmp : Monomial → Monomial → Ordering) (gs : List Terms) (i j : ℕ) → ((c : ℕ) (m : Monomial) → IsLeading p cmp (get_or gs i []) c m → ⊥) → IsPairClosed p cmp gs i j
-zero_line_closes p cmp gs i j none s is = absurd (none is.0 is.1 is.4)
-
--- nor has another with it
-pub second_zero_line_closes : (p : ℕ) (cmp : Monomial → Monomial → Ordering) (gs : List Terms) (i j : ℕ) → ((d : ℕ) (n : Monomial) → IsLeading p cmp (get_or gs j []) d n → ⊥) → IsPairClosed p cmp gs i j
-second_zero_line_closes p cmp gs i j none s is = absurd (none is.2 is.3 is.5)
-
 -- the polynomial without terms has no leading monomial
 pub nothing_leads_none : (p : ℕ) (cmp : Monomial → Monomial → Ordering) (ts : Terms) → ts ≡ [] → (c : ℕ) (m : Monomial) → IsLeading p cmp ts c m → ⊥
 nothing_leads_none p cmp ts none c m lead = lead.1 (sym lead.0 ∙ ap (λ l. coefficient p l m) none ∙ zero-mod p)

@@ -368,9 +368,3 @@ settled_at rs i d h v done = settled_next rs i (get_or rs i d) h (any_default rs
 
 pub not_so : (b : Bool) → b ≡ false → b ≡ true → ⊥
 not_so b e f = subst (λ x. cond x (Unit {0}) ⊥) (sym f ∙ e) tt
-
-pub settled_all : (rs : List PairRecord) (i : ℕ) → length rs ≤ i → AreSettled (take i rs) → AreSettled rs
-settled_all [] zero h v = tt
-settled_all [] (suc i) h v = tt
-settled_all (r ∷ rs) zero h v = absurd (omega arith)
-settled_all (r ∷ rs) (suc i) h v = (v.0, settled_all rs i (omega arith) v.1)

@@ -317,7 +317,7 @@ module _ (p : ℕ) (prime : IsPrime p) (cmp : Monomial → Monomial → Ordering
   -- a monomial that is left is below the cancelled one, where it does not stand before it
   below_cancelled : (rest next : Terms) (place j : ℕ) → IsOrdered p cmp limit rest → IsOrdered p cmp limit next → SameFirst rest next place → place ≤ j → j < length next
       → coefficient p rest (get_or next j (0, [])).1 ≢ 0 → (get_or next j (0, [])).1 ≢ (get_or rest place (0, [])).1 → cmp (get_or rest place (0, [])).1 (get_or next j (0, [])).1 ≡ Greater
-  below_cancelled rest next place j o w first behind h some other =
+  below_cancelled rest next place j o w first beyond h some other =
       let x = (get_or next j (0, [])).1 in
       let there = place_of_monomial p rest x some in
       elim (cases_order there.0 place) [
@@ -333,9 +333,9 @@ module _ (p : ℕ) (prime : IsPrime p) (cmp : Monomial → Monomial → Ordering
   step_cancels gs i k q rest next place o w within u below v step left first = record {
     monomial = m_monomial gs i k q rest place o within u below v step;
     some = some_at rest place o within;
-    below = λ j behind h.
+    below = λ j beyond h.
         elim (next_is_below gs i k q rest place o within u below v step next left (get_or next j (0, [])).1 (some_at next j w h)) [
-          | inl (old, other) ↦ below_cancelled rest next place j o w first behind h old other
+          | inl (old, other) ↦ below_cancelled rest next place j o w first beyond h old other
           | inr under ↦ under
         ];
     up_to = next_up_to gs i k q rest place o within u below v step next left;

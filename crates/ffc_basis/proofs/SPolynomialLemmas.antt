@@ -1,5 +1,5 @@
 -- The S-polynomial of two lines, by the terms that a body finds.
-use Rattle.std.proofs.Common.{◌≡◌, ◌≢◌, ℕ, zero, suc, ◌+◌, ◌-◌, ◌*◌, ◌%◌, ◌<◌, ◌≤◌, List, [], ◌∷◌, ◌++◌, length, get_or, refl, sym, ap, ◌∙◌, subst, inl, inr, arith, mod-lt, mod-eq_of_lt, mul_assoc, take}
+use Rattle.std.proofs.Common.{◌≡◌, ◌≢◌, ℕ, ◌+◌, ◌-◌, ◌*◌, ◌%◌, ◌<◌, List, [], ◌∷◌, ◌++◌, length, get_or, refl, sym, ap, ◌∙◌, subst, inl, inr, arith, mod-lt, mod-eq_of_lt, mul_assoc, take}
 use Rattle.std.specs.declared.cmp.Ordering.{Ordering}
 use Rattle.ffc_field.specs.Modular.{IsPrime, mul_mod, neg_mod}
 use Rattle.ffc_ring.specs.Monomial.{Monomial, IsMonomial, exponent, degree, Divides, mono_mul, mono_lcm, mono_quotient}
@@ -164,15 +164,6 @@ pub scaled_next : (p c : ℕ) (ts us vs : Parts) (i : ℕ) (t : ℕ × Terms) (u
 scaled_next p c ts us vs i t u h is are same v =
     subst (AreScaled p c (take (i + 1) ts)) (sym are)
     (subst (λ l. AreScaled p c l (us ++ (t.0, u) ∷ [])) (sym (taken_more ts i t h is)) (scaled_push p c (take i ts) us t (t.0, u) v refl same))
-
-pub scaled_all : (p c : ℕ) (ts us : Parts) (i : ℕ) → length ts ≤ i → AreScaled p c (take i ts) us → AreScaled p c ts us
-scaled_all p c ts us i h v = subst (λ l. AreScaled p c l us) (take-all i ts h) v
-  where
-    take-all : {A : Type 0} (i : ℕ) (xs : List A) → length xs ≤ i → take i xs ≡ xs
-    take-all zero [] h = refl
-    take-all zero (x ∷ xs) h = absurd (omega arith)
-    take-all (suc i) [] h = refl
-    take-all (suc i) (x ∷ xs) h = ap (λ ys. x ∷ ys) (take-all i xs (omega arith))
 
 -- the negated parts with two multiples recorded
 pub parts_recorded : (p : ℕ) (old negated middle new : Parts) (i k : ℕ) (u : Monomial) (j l : ℕ) (v : Monomial) → AreScaled p (p - 1) old negated → IsRecorded p negated middle i k u → IsRecorded p middle new j l v → ArePartsOf p old i k u j l v new

@@ -1,8 +1,8 @@
 -- Units that are taken of a budget, one call after another.
-use Rattle.std.proofs.Common.{◌≡◌, ℕ, ◌+◌, ◌≤◌, ◌<◌, refl, ap, ◌∙◌, arith}
-use Rattle.ffc_base.specs.Metering.{Spending, total, one_more}
+use Rattle.std.proofs.Common.{◌≡◌, ◌+◌, refl, ap, ◌∙◌, arith}
+use Rattle.ffc_base.specs.Metering.{Spending, one_more}
 use Rattle.ffc_base.specs.declared.meter.Unit.TheVariants.{Reduction}
-use Rattle.ffc_basis.specs.Units.{Takes, TakesReductions}
+use Rattle.ffc_basis.specs.Units.{TakesReductions}
 
 -- nothing was taken
 pub takes_nothing : (a : Spending) → TakesReductions a a
@@ -39,20 +39,3 @@ takes_same a b is = record {
 -- with one more unit
 pub takes_next : (a b c : Spending) → TakesReductions a b → c ≡ one_more b Reduction → TakesReductions a c
 takes_next a b c t is = takes_both a b c t (takes_one b c is)
-
-pub takes_no_more : (a b c : Spending) → TakesReductions a b → c ≡ b → TakesReductions a c
-takes_no_more a b c t is = takes_both a b c t (takes_same b c is)
-
--- one unit more is one reduction more
-pub one_more_reduction : (a b : Spending) → b ≡ one_more a Reduction → a.reductions < b.reductions
-one_more_reduction a b is = let e : b.reductions ≡ a.reductions + 1 = ap (λ s. s.reductions) is in omega arith
-
-pub all_takes : (a b : Spending) → TakesReductions a b → Takes a b
-all_takes a b t = record {
-  same_budget = t.same_budget;
-  taken = omega (arith, t.trials, t.assignments, t.chains, t.taken);
-}
-
--- so many reductions are as many units
-pub total_taken : (a b : Spending) (n : ℕ) → TakesReductions a b → a.reductions + n ≤ b.reductions → total a + n ≤ total b
-total_taken a b n t h = omega (arith, t.trials, t.assignments, t.chains, h)

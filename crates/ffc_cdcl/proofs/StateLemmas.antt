@@ -93,6 +93,3 @@ implied_push added lemmas taken m n clause le all implied =
 
 pub learned_cut : (learned : List Learned) (n : ℕ) → learned_clauses (take n learned) ≡ take n (learned_clauses learned)
 learned_cut learned n = sym (take-map (λ (x : Learned). x.clause) n learned)
-
-pub learned_push : (learned : List Learned) (x : Learned) → learned_clauses (learned ++ x ∷ []) ≡ learned_clauses learned ++ x.clause ∷ []
-learned_push learned x = map-append (λ (y : Learned). y.clause) learned (x ∷ [])

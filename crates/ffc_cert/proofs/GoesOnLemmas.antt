@@ -53,9 +53,9 @@ end_front : (wanted : ℕ) (p : Progress) (bytes more : List ℕ) → length byt
 unfolding end_at
 end_front wanted p bytes more alone = by_size (nat_lt MAX_BYTES (length bytes)) refl (is_complete p.place p.complete wanted) refl
   where
-    by_size : (long : Bool) → nat_lt MAX_BYTES (length bytes) ≡ long → (behind : Bool) → is_complete p.place p.complete wanted ≡ behind
-        → IsFront (ending (cond long (cut_end (next_at wanted p bytes) p) (cond behind (end_after bytes p) (Open (fault_at 4 p))))) (read_text wanted p (bytes ++ more))
-    by_size true e behind f = long_front wanted p bytes more alone (next_at wanted p bytes) refl (ltb-true MAX_BYTES (length bytes) e)
+    by_size : (long : Bool) → nat_lt MAX_BYTES (length bytes) ≡ long → (later : Bool) → is_complete p.place p.complete wanted ≡ later
+        → IsFront (ending (cond long (cut_end (next_at wanted p bytes) p) (cond later (end_after bytes p) (Open (fault_at 4 p))))) (read_text wanted p (bytes ++ more))
+    by_size true e later f = long_front wanted p bytes more alone (next_at wanted p bytes) refl (ltb-true MAX_BYTES (length bytes) e)
     by_size false e true f = behind_front wanted p bytes more alone f
     by_size false e false f = front_open (Open (fault_at 4 p)) _ (λ g h. cc)
 

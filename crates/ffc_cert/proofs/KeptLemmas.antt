@@ -21,15 +21,15 @@ longer (x ∷ xs) ys = grind (arith, longer xs ys)
 
 pub fed : (wanted : ℕ) (text piece : List ℕ) (s : Scanner) → IsReady wanted text s → IsReady wanted (text ++ piece) s
 fed wanted text piece s r =
-    let behind : drop s.start (text ++ piece) ≡ drop s.start text ++ piece = drop-append-le s.start text piece (omega (arith, r.within, r.limit)) in record {
+    let later : drop s.start (text ++ piece) ≡ drop s.start text ++ piece = drop-append-le s.start text piece (omega (arith, r.within, r.limit)) in record {
       kept = r.kept;
       within = r.within;
       limit = omega (arith, r.limit, length-append text piece);
-      unended = rw behind (omega (arith, r.unended, longer (drop s.start text) piece));
+      unended = rw later (omega (arith, r.unended, longer (drop s.start text) piece));
       line = r.line;
       complete = r.complete;
       bounded = r.bounded;
-      reads = λ more. rw (behind, append_assoc text piece more, append_assoc (drop s.start text) piece more) (r.reads (piece ++ more));
+      reads = λ more. rw (later, append_assoc text piece more, append_assoc (drop s.start text) piece more) (r.reads (piece ++ more));
     }
 
 pub entry_due : (wanted n given : ℕ) (text : List ℕ) (entry : Numbered) → IsEntry wanted n text entry → n ≡ given → next_entry_of wanted text given ≡ Some entry
@@ -127,40 +127,6 @@ kept_fed wanted given text piece window fault s old new k room h = record {
   version = version_fed s.gone text window piece old new k.window k.version k.front h;
   front = front_fed s.gone (version_of (window ++ piece)) old new k.front h;
 }
-
--- the bytes that were read are dropped
-pub moved_down : (xs : List ℕ) (n : ℕ) → n ≤ length xs → take (length xs - n) (copy_within xs n (length xs) 0) ≡ drop n xs
-moved_down xs n le =
-    let size : length (drop n xs) ≡ length xs - n = length-drop n xs in
-    ap (λ (k : ℕ). take k (copy_within xs n (length xs) 0)) (omega arith) ∙ take-paste xs 0 (drop n xs) (length xs - n) (omega arith) (omega (arith, size))
-    ∙ take_all (length xs - n) (drop n xs) (omega (arith, size))
-
-pub ready_shorter : (wanted : ℕ) (text : List ℕ) (s : Scanner) → IsReady wanted text s → IsReady wanted text (record s { gone = s.start })
-ready_shorter wanted text s r = record {
-  kept = omega arith;
-  within = r.within;
-  limit = r.limit;
-  unended = r.unended;
-  line = r.line;
-  complete = r.complete;
-  bounded = r.bounded;
-  reads = r.reads;
-}
-
-pub kept_shorter : (wanted given : ℕ) (text window shorter : List ℕ) (fault : Option CertFault) (s : Scanner) (version : Option ℕ) → IsKept wanted text given fault s window version
-    → fault ≡ None → (version ≡ None → ⊥) → shorter ≡ drop (s.start - s.gone) window → IsKept wanted text given fault (record s { gone = s.start }) shorter version
-kept_shorter wanted given text window shorter fault s version k none some h =
-    let r = k.ready none in
-    let rest : shorter ≡ drop s.start text = h ∙ window_rest s.gone s.start text window k.window r.kept in
-    let size : length (drop s.start text) ≡ length text - s.start = length-drop s.start text in
-    record {
-      ready = λ e. ready_shorter wanted text s r;
-      count = k.count;
-      size = k.size;
-      window = record { bytes = rest; size = omega (arith, ap (λ (xs : List ℕ). length xs) rest, size, r.within, r.limit) };
-      version = k.version;
-      front = λ e. absurd (some e);
-    }
 
 -- the scanner goes on
 pub kept_on : (wanted given more : ℕ) (text window : List ℕ) (old new : Option CertFault) (s t : Scanner) (version : Option ℕ) → IsKept wanted text given old s window version

@@ -36,8 +36,8 @@ pub record IsValueText (line : List ℕ) (v : ℕ × ℕ) : Type 0 where
   pub holds : IsValue v
 
 -- what comes after the first item, where that is a word
-behind_word : (line word behind : List ℕ) → bytes_eq (first_item line) word ≡ true → behind_item line ≡ behind → line ≡ word ++ behind
-behind_word line word behind same h =
+behind_word : (line word later : List ℕ) → bytes_eq (first_item line) word ≡ true → behind_item line ≡ later → line ≡ word ++ later
+behind_word line word later same h =
     sym (front_behind line) ∙ ap (λ (xs : List ℕ). xs ++ behind_item line) ((bytes_eq-Decides (first_item line) word).0 same) ∙ ap (λ (xs : List ℕ). word ++ xs) h
 
 pub value_gives : (line : List ℕ) (v : ℕ × ℕ) → value_at line ≡ Ok v → IsValueText line v
@@ -49,10 +49,10 @@ value_gives line v h =
     let e = ended_gives (node.value.0, value.value.0) v value.value.1 value.second in
     let one = narrow_code.gives (behind_item line) node.value.0 node.value.1 node.first in
     let two = wide_code.gives node.value.1 value.value.0 value.value.1 value.first in
-    let behind : behind_item line ≡ number node.value.0 ++ number value.value.0 =
+    let later : behind_item line ≡ number node.value.0 ++ number value.value.0 =
     one.text_is ∙ ap (λ (xs : List ℕ). number node.value.0 ++ xs) (two.text_is ∙ ap (λ (xs : List ℕ). number value.value.0 ++ xs) e.1 ∙ append-nil (number value.value.0)) in
     subst (λ (w : ℕ × ℕ). IsValueText line w) e.0 (record {
-      text_is = behind_word line (codes "=") (number node.value.0 ++ number value.value.0) read.0 behind;
+      text_is = behind_word line (codes "=") (number node.value.0 ++ number value.value.0) read.0 later;
       holds = (one.holds, two.holds);
     })
 

@@ -75,9 +75,9 @@ unfolding end_after
 behind_empty [] p h = refl
 behind_empty (c ∷ cs) p h = absurd (cc)
 
-end_by : (long behind : Bool) (wanted : ℕ) (p : Progress) (rest : List ℕ)
-    → (if long then cut_end (next_at wanted p rest) p else if behind then end_after rest p else Open (fault_at 4 p)) ≡ Complete → (behind ≡ true) × (rest ≡ [])
-end_by true behind wanted p rest h = absurd (cut_never (next_at wanted p rest) p h)
+end_by : (long beyond : Bool) (wanted : ℕ) (p : Progress) (rest : List ℕ)
+    → (if long then cut_end (next_at wanted p rest) p else if beyond then end_after rest p else Open (fault_at 4 p)) ≡ Complete → (beyond ≡ true) × (rest ≡ [])
+end_by true beyond wanted p rest h = absurd (cut_never (next_at wanted p rest) p h)
 end_by false true wanted p rest h = (refl, behind_empty rest p h)
 end_by false false wanted p rest h = absurd (cc)
 

@@ -4,7 +4,6 @@ use Rattle.std.specs.List.{list_all}
 use Rattle.std.specs.List.Sorted.{IsStrictlyIncreasing}
 use Rattle.std.proofs.lemmas.Bool.{false≢true, ltb-true}
 use Rattle.std.proofs.lemmas.List.Sums.{AllPass-from_list_all}
-use Rattle.ffc_field.specs.declared.id.FieldId.TheVariants.{F5}
 use Rattle.ffc_field.specs.Orders.{IsOrder}
 use Rattle.ffc_term.specs.declared.node.Node.{Node}
 use Rattle.ffc_term.specs.declared.node.Sort.{Sort}
@@ -14,9 +13,6 @@ use Rattle.ffc_term.specs.Tables.{IsTable, IsBooleanAt, constant_count}
 use Rattle.ffc_term.specs.Checks.{IsValidCheck}
 use Rattle.ffc_rules.specs.Entries.{is_bool, is_boolean}
 use Rattle.ffc_rules.proofs.AssignmentLemmas.{same_number, number_below}
-
-pub order_five : IsOrder 5
-order_five = (F5, refl)
 
 both : (a b : Bool) → (a && b) ≡ true → (a ≡ true) × (b ≡ true)
 both true b e = (refl, e)
@@ -52,18 +48,5 @@ valid_with_few ns declared ids order all table few count constants known same go
       increasing = few_increase declared few;
       constants = constants;
       boolean = λ k d inside. boolean_at ns (get_or ids k d) (AllPass-from_list_all (is_boolean ns) ids (sym same ∙ good) k d inside);
-      covered = λ id of const. one_covers ns declared table few count constants id const;
-    }
-
--- a check that lists all constants, of which there is at most one
-pub few_are_valid : (ns : List Node) (declared ids : List ℕ) (order : ℕ) → IsTable ns → length declared ≤ 1 → constant_count ns ≡ length declared → All (IsConstantAt ns) declared
-    → IsOrder order → All (IsBooleanAt ns) ids → IsValidCheck ns declared ids order
-few_are_valid ns declared ids order table few count constants known boolean =
-    record {
-      table = table;
-      order = known;
-      increasing = few_increase declared few;
-      constants = constants;
-      boolean = boolean;
       covered = λ id of const. one_covers ns declared table few count constants id const;
     }

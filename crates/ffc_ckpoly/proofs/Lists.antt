@@ -1,5 +1,5 @@
 -- Lists of terms over the elements of a field, seen as terms of residues.
-use Rattle.std.proofs.Common.{◌≡◌, ℕ, zero, suc, ◌+◌, ◌<◌, ◌≤◌, List, [], ◌∷◌, ◌++◌, length, get_or, take, drop, refl, sym, ap, ap₂, ◌∙◌, subst, arith, append_assoc, drop-cons, add-one, take-append-drop, take_all, length-drop, ◌-◌}
+use Rattle.std.proofs.Common.{◌≡◌, ℕ, zero, suc, ◌+◌, ◌<◌, ◌≤◌, List, [], ◌∷◌, ◌++◌, length, get_or, take, drop, refl, sym, ap, ap₂, ◌∙◌, arith, append_assoc, drop-cons, add-one, take-append-drop, take_all, length-drop, ◌-◌}
 use Rattle.std.specs.declared.cmp.Ordering.{Ordering}
 use Rattle.ffc_ring.specs.Monomial.{Monomial}
 use Rattle.std.specs.Borrow.{Bor}
@@ -26,11 +26,6 @@ module _ {F : Type 0} (value : F → ℕ) where
   pub residues-push : (out out' : List (F × Bor Monomial)) (k : F) (m : Bor Monomial) (r : ℕ) (n : Monomial) → out' ≡ out ++ (k, m) ∷ [] → value k ≡ r → m.now ≡ n → residues value out' ≡ residues value out ++ (r, n) ∷ []
   residues-push out out' k m r n e v w =
       ap (residues value) e ∙ residues-append out ((k, m) ∷ []) ∙ ap₂ (λ (x : ℕ) (y : Monomial). residues value out ++ (x, y) ∷ []) v w
-
--- what is after the first term
-pub sorted_rest : {F : Type 0} (value : F → ℕ) (p : ℕ) (cmp : Monomial → Monomial → Ordering) (ts rest : List (F × Bor Monomial)) (t : F × Bor Monomial) → ts ≡ t ∷ rest → IsSortedBy p cmp (residues value ts) → IsSortedBy p cmp (residues value rest)
-sorted_rest value p cmp ts rest t is h =
-    let first : IsSortedBy p cmp (residues value (t ∷ rest)) = subst (λ k. IsSortedBy p cmp (residues value k)) is h in first.5
 
 -- two halves make the whole
 pub halved : {F : Type 0} (value : F → ℕ) (xs front back : List (F × Bor Monomial)) (mid : ℕ) → front ≡ take mid xs → back ≡ drop mid xs → residues value front ++ residues value back ≡ residues value xs

@@ -1,9 +1,9 @@
 -- Polynomials of nodes from those of their parts.
-use Rattle.std.proofs.Common.{◌≡◌, ℕ, zero, suc, ◌+◌, ◌-◌, ◌*◌, ◌^◌, ◌%◌, ◌<◌, ◌≤◌, cond, Bool, true, false, List, [], ◌∷◌, ◌++◌, length, take, get_or, sum_by, All, Option, Some, None, IfSome, Result, Ok, Err, IfOk, refl, sym, ap, ap₂, ◌∙◌, subst, arith, length-take, get_or-take, append_assoc, append-nil, one-mul}
+use Rattle.std.proofs.Common.{◌≡◌, ℕ, zero, suc, ◌+◌, ◌-◌, ◌*◌, ◌^◌, ◌%◌, ◌<◌, ◌≤◌, List, [], ◌∷◌, ◌++◌, length, take, get_or, sum_by, All, Option, Some, None, IfSome, Result, Ok, Err, IfOk, refl, sym, ap, ap₂, ◌∙◌, subst, arith, length-take, get_or-take, append_assoc, append-nil, one-mul}
 use Rattle.std.proofs.Math.Nat.{pow-suc, pow-zero, mod-mod}
 use Rattle.std.proofs.lemmas.List.Elements.{All-head, All-tail}
 use Rattle.std.proofs.lemmas.List.Sums.{sum_by-cons}
-use Rattle.ffc_ring.specs.Monomial.{Monomial, degree, same_monomial}
+use Rattle.ffc_ring.specs.Monomial.{Monomial, degree}
 use Rattle.ffc_ring.specs.Polynomial.{Terms, SamePolynomial, written, term_product, product, scaled, difference}
 use Rattle.ffc_ring.proofs.MonomialLemmas.{degree-mono_mul}
 use Rattle.ffc_ring.proofs.PolynomialLemmas.{written-scaled, times_alike, same_sums, same_term_products}
@@ -151,21 +151,6 @@ module _ (p id : ℕ) (polys : List Terms) where
   other_is (Neg x) a b c d e f g = absurd (f x refl)
   other_is (Bitsum ids) a b c d e f g = absurd (g ids refl)
   other_is _ a b c d e f g = refl
-
-abbrev at_monomial : Monomial → Monomial → ℕ
-at_monomial a b = cond (same_monomial a b) 1 0
-
--- one coefficient, reduced
-pub one_reduced : (p c k : ℕ) (m : Monomial) → k ≡ c % p → SamePolynomial p ((k, m) ∷ []) ((c, m) ∷ [])
-one_reduced p c k m e n =
-    sym (written_one k m n) ∙ times_alike p k c (at_monomial m n) (ap (λ j. j % p) e ∙ mod-mod c p) ∙ written_one c m n
-  where
-    weigh : (b : Bool) (j : ℕ) → j * cond b 1 0 ≡ cond b j 0 + 0
-    weigh true j = omega arith
-    weigh false j = omega arith
-
-    written_one : (j : ℕ) (a b : Monomial) → j * at_monomial a b % p ≡ written ((j, a) ∷ []) b % p
-    written_one j a b = ap (λ i. i % p) (weigh (same_monomial a b) j)
 
 -- what holds of an answer, if there is one
 pub if_some : {A E : Type 0} (P Q R : A → Type 0) (r : Result (Option A) E) → ((x : A) → P x → Q x → R x) → IfOk r (λ o. IfSome o P) → IfOk r (λ o. IfSome o Q) → IfOk r (λ o. IfSome o R)

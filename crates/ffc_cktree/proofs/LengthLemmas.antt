@@ -1,5 +1,5 @@
 -- Lists that do not end with a 0: the length of a product, and that a sum is no such list where one part is longer.
-use Rattle.std.proofs.Common.{◌≡◌, ◌≢◌, ◌⊎◌, inl, inr, ℕ, zero, suc, ◌+◌, ◌-◌, ◌*◌, ◌%◌, ◌<◌, ◌≤◌, Bool, true, false, ◌&&◌, ◌||◌, nat_lt, List, [], ◌∷◌, length, refl, sym, ap, ap₂, ◌∙◌, arith, mod-eq_of_lt, ltb-true}
+use Rattle.std.proofs.Common.{◌≡◌, ◌≢◌, inl, inr, ℕ, zero, suc, ◌+◌, ◌-◌, ◌*◌, ◌%◌, ◌<◌, ◌≤◌, Bool, true, false, ◌&&◌, ◌||◌, nat_lt, [], ◌∷◌, length, refl, sym, ap, ap₂, ◌∙◌, arith, mod-eq_of_lt, ltb-true}
 use Rattle.std.proofs.Math.Nat.{zero-mod}
 use Rattle.std.proofs.lemmas.Bool.{and_parts, or_cases}
 use Rattle.ffc_field.specs.Modular.{IsPrime}
@@ -8,7 +8,7 @@ use Rattle.ffc_uni.specs.Univariate.{Coefficients, coefficient_at, SameUnivariat
 use Rattle.ffc_uni.specs.Rows.{leading}
 use Rattle.ffc_uni.proofs.Coefficients.{coefficient_at-plus, coefficient_at-multiple}
 use Rattle.ffc_uni.proofs.Rows.{leading-nonzero}
-use Rattle.ffc_trees.specs.TreeLines.{Factor, Itself, Variable, times_factor, is_same}
+use Rattle.ffc_trees.specs.TreeLines.{Factor, Itself, Variable, times_factor}
 use Rattle.ffc_cktree.specs.Identities.{is_identity, product_length, multiplied_length, is_one_longer}
 use Rattle.ffc_cktree.proofs.RowLemmas.{is_same-same}
 

@@ -1,5 +1,5 @@
 -- Rows of coefficients: tests of all of them, and products.
-use Rattle.std.proofs.Common.{◌≡◌, ◌≢◌, ◌⊎◌, inl, inr, ℕ, zero, suc, ◌+◌, ◌-◌, ◌%◌, ◌<◌, ◌==◌, Bool, true, false, ◌&&◌, List, [], ◌∷◌, ◌++◌, length, get_or, map, drop, refl, sym, ap, ap₂, ◌∙◌, arith, mod-eq_of_lt, eq-eqb, ne_eqb}
+use Rattle.std.proofs.Common.{◌≡◌, ◌≢◌, ℕ, zero, suc, ◌+◌, ◌-◌, ◌%◌, ◌<◌, ◌==◌, Bool, true, false, ◌&&◌, List, [], ◌∷◌, ◌++◌, length, get_or, map, drop, refl, sym, ap, ap₂, ◌∙◌, arith, mod-eq_of_lt, eq-eqb, ne_eqb}
 use Rattle.std.proofs.Math.Nat.{zero-mod, mod-mod}
 use Rattle.std.proofs.lemmas.Bool.{and_parts, and_from, eqb-true}
 use Rattle.ffc_uni.specs.Univariate.{Coefficients, coefficient_at, SameUnivariate, plus, multiple, times}
@@ -75,13 +75,6 @@ module _ (p : ℕ) (left right left_rest right_rest : Coefficients) (x y : ℕ) 
 and_true : (b : Bool) → (b && true) ≡ b
 and_true true = refl
 and_true false = refl
-
--- where one row has ended, what is left of both has to be 0
-pub same_at_end : (p : ℕ) (a b : Coefficients) → (length a ≡ 0) ⊎ (length b ≡ 0) → (is_same p [] a && is_same p [] b) ≡ is_same p a b
-same_at_end p [] b e = refl
-same_at_end p (x ∷ a) [] e = and_true (is_zero p (x ∷ a))
-same_at_end p (x ∷ a) (y ∷ b) (inl e) = absurd (omega arith)
-same_at_end p (x ∷ a) (y ∷ b) (inr e) = absurd (omega arith)
 
 -- ---- products
 

@@ -1,5 +1,5 @@
 -- The square of a row, one coefficient after the other: that of x + X*r is x*x, X times 2*x*r, and X*X times the square of r.
-use Rattle.std.proofs.Common.{◌≡◌, ℕ, zero, suc, ◌+◌, ◌*◌, ◌%◌, [], ◌∷◌, refl, sym, ap, ◌∙◌, arith}
+use Rattle.std.proofs.Common.{◌≡◌, ℕ, zero, suc, ◌+◌, ◌%◌, [], ◌∷◌, refl, sym, ap, ◌∙◌, arith}
 use Rattle.ffc_uni.specs.Univariate.{Coefficients, coefficient_at, SameUnivariate, plus, multiple, times}
 use Rattle.ffc_uni.specs.Rows.{shifted}
 use Rattle.ffc_uni.proofs.Coefficients.{coefficient_at-plus, coefficient_at-multiple, plus_alike, cons_alike, factor_alike}

@@ -89,10 +89,6 @@ lines_push p lines f are n low = All-append (IsLineOf p) lines (f ∷ []) are (o
 pub first_case : (old new : List Case) (o : Option Case) (c : Case) → o ≡ Some c → old ≡ new ++ option_to_list o → reverse old ≡ c ∷ reverse new
 first_case old new o c is e = ap reverse (e ∙ ap (λ q. new ++ option_to_list q) is) ∙ reverse-append new (c ∷ [])
 
-pub no_case : (old new : List Case) (o : Option Case) → o ≡ None → old ≡ new ++ option_to_list o → length new ≡ 0 → reverse old ≡ []
-no_case old [] o is e none = ap reverse (e ∙ ap option_to_list is)
-no_case old (c ∷ new) o is e none = absurd (omega arith)
-
 -- ---- cases that are pushed
 
 pub cases_are : (p : ℕ) (lines : List Terms) (x : ℕ) (roots : List ℕ) (cases : List Case) → branches_of p lines (cases_at (length lines) x roots ++ cases) ≡ case_lines p lines x roots ++ branches_of p lines cases
@@ -142,9 +138,6 @@ read_closed l p (Within c branch others) at rest h = cc
 
 pub kept_leads : {A : Type 0} (p : ℕ) (f : A → Stage) (r : Result A ℕ) (x : A) (s : Stage) → r ≡ Ok x → IsSameStage p s (f x) → Leads p (kept f r) s
 kept_leads p f r x s e same = record { stage = f x; kept = ap (kept f) e; same = same }
-
-pub kept_broken : {A : Type 0} (f : A → Stage) (r : Result A ℕ) (rule : ℕ) → r ≡ Err rule → kept f r ≡ Err rule
-kept_broken f r rule e = ap (kept f) e
 
 pub closes_last : (p : ℕ) (lines : List Terms) (f : Terms) → Some f ≡ slice_get lines (length lines - 1) → is_nonzero_constant p f ≡ closes p lines
 unfolding closes

@@ -1,14 +1,13 @@
 -- What is marked so far, against what is reached.
-use Rattle.std.proofs.Common.{◌≡◌, ◌⊎◌, ℕ, zero, suc, ◌+◌, ◌-◌, ◌<◌, ◌≤◌, ◌==◌, ◌||◌, Bool, true, false, cond, List, [], ◌∷◌, ◌++◌, length, get_or, drop, refl, sym, ap, ap₂, ◌∙◌, arith, add-one, drop-cons, get_or-set_same, get_or-set_other, eq-eqb, ne_eqb, inl, inr}
+use Rattle.std.proofs.Common.{◌≡◌, ◌⊎◌, ℕ, zero, suc, ◌+◌, ◌-◌, ◌<◌, ◌≤◌, ◌==◌, ◌||◌, Bool, true, false, cond, List, [], ◌∷◌, ◌++◌, length, get_or, drop, refl, sym, ap, ap₂, ◌∙◌, arith, add-one, drop-cons, inl, inr}
 use Rattle.std.specs.List.{filter, range_with_len}
-use Rattle.std.proofs.Math.ListN.{set}
-use Rattle.std.proofs.lemmas.Bool.{cases_eq, cond-true, cond-false}
+use Rattle.std.proofs.lemmas.Bool.{cond-true, cond-false}
 use Rattle.std.proofs.lemmas.List.Folds.{list_any-append}
 use Rattle.std.proofs.lemmas.List.Elements.{filter-append}
 use Rattle.ffc_cert.specs.declared.entries.CertLine.{CertLine}
 use Rattle.ffc_cert.specs.Spelling.{is_clause}
 use Rattle.ffc_rules.specs.Cones.{is_listed}
-use Rattle.ffc_rules.specs.Cores.{clause_lines, hints_of, taken_by, reached_clauses, numbers_taken}
+use Rattle.ffc_rules.specs.Cores.{clause_lines, hints_of, reached_clauses}
 
 -- what is left from a place on begins with the element there
 pub left_at : {A : Type 0} (xs : List A) (i : ℕ) (x : A) → i < length xs → x ≡ get_or xs i x → drop i xs ≡ x ∷ drop (i + 1) xs
@@ -18,23 +17,11 @@ cases_bool : (b : Bool) → (b ≡ true) ⊎ (b ≡ false)
 cases_bool true = inl refl
 cases_bool false = inr refl
 
-or_assoc : (a b c : Bool) → ((a || b) || c) ≡ (a || (b || c))
-or_assoc true b c = refl
-or_assoc false b c = refl
-
 or_turned : (a b : Bool) → (a || b) ≡ (b || a)
 or_turned true true = refl
 or_turned true false = refl
 or_turned false true = refl
 or_turned false false = refl
-
--- one place more is marked
-pub one_marked : (marks : List Bool) (k h : ℕ) (listed : Bool) (xs : List ℕ) → h < length marks → k < length marks → get_or marks h false ≡ listed → get_or (set marks k true) h false ≡ ((h == k) || listed)
-one_marked marks k h listed xs inside within e =
-    elim (cases_eq h k) [
-      | inl here ↦ ap (λ j. get_or (set marks k true) j false) here ∙ get_or-set_same marks k true false within ∙ sym (ap (λ b. b || listed) (eq-eqb h k here))
-      | inr other ↦ get_or-set_other marks k h true false other ∙ e ∙ sym (ap (λ b. b || listed) (ne_eqb h k other))
-    ]
 
 -- clauses of a list of lines
 
@@ -60,19 +47,6 @@ unfolding reached_clauses
 reached_last k h = refl
 
 -- one clause more is looked at, from the first to the last
-
-if_listed : (b : Bool) (xs : List ℕ) (a : ℕ) → is_listed (cond b xs []) a ≡ cond b (is_listed xs a) false
-if_listed true xs a = refl
-if_listed false xs a = refl
-
-pub taken_step : (found : List ℕ) (k : ℕ) (x : CertLine) (rest : List CertLine) (a : ℕ) → is_listed (numbers_taken found k (x ∷ rest)) a
-    ≡ (cond (is_listed found k) (is_listed (taken_by x) a) false || is_listed (numbers_taken found (k + 1) rest) a)
-taken_step found k x rest a =
-    list_any-append (λ j. a == j) (cond (is_listed found k) (taken_by x) []) (numbers_taken found (k + 1) rest)
-    ∙ ap (λ b. b || is_listed (numbers_taken found (k + 1) rest) a) (if_listed (is_listed found k) (taken_by x) a)
-
-pub marked_more : (new old taken left all : Bool) → new ≡ (taken || old) → (old || (taken || left)) ≡ all → (new || left) ≡ all
-marked_more new old taken left all e h = ap (λ b. b || left) (e ∙ or_turned taken old) ∙ or_assoc old taken left ∙ h
 
 -- tests that agree below a number keep the same numbers
 

@@ -1,17 +1,15 @@
 -- What is known after an assertion.
-use Rattle.std.proofs.Common.{◌≡◌, ℕ, ◌<◌, ◌≤◌, ⊎_elim, Bool, true, false, List, [], ◌∷◌, ◌++◌, All, length, if◌then◌else◌, Option, Some, None, Ok, Err, refl, sym, ap, ◌∙◌, subst, append-nil, arith}
+use Rattle.std.proofs.Common.{◌≡◌, ℕ, ◌≤◌, ⊎_elim, Bool, true, false, List, [], ◌∷◌, ◌++◌, All, length, if◌then◌else◌, Option, Some, None, Ok, Err, refl, sym, ap, ◌∙◌, subst, append-nil}
 use Rattle.std.specs.Prelude.{option_map}
 use Rattle.ffc_field.specs.Orders.{IsOrder}
 use Rattle.ffc_term.specs.declared.node.Node.{Node}
 use Rattle.ffc_term.specs.declared.node.Sort.TheVariants as sort
-use Rattle.ffc_smt.specs.Trees.{Word, Tree, Trees, items_of, front}
-use Rattle.ffc_smt.specs.Faults.{Read, Sound, word_fault}
+use Rattle.ffc_smt.specs.Trees.{Word, Tree, items_of}
+use Rattle.ffc_smt.specs.Faults.{Sound, word_fault}
 use Rattle.ffc_smt.specs.Terms.{Name, Term, weight}
 use Rattle.ffc_smt.specs.Terms as smt
-use Rattle.ffc_smt.specs.Meaning.{Env}
 use Rattle.ffc_smt.specs.Making.{Made, made}
-use Rattle.ffc_smt.specs.Scopes.{AsTerm, Meant, Assertion, Level, State, with_name, with_assertion, at_innermost}
-use Rattle.ffc_smt.specs.States.{IsSoundState}
+use Rattle.ffc_smt.specs.Scopes.{Meant, Assertion, Level, State, with_name, with_assertion, at_innermost}
 use Rattle.ffc_smt.specs.CommandReading.{limits, nodes_after, command_weight, form_read, command_read}
 use Rattle.ffc_smt.specs.Scripts.{after, labelled, named_orders, orders_in}
 use Rattle.ffc_smt.specs.TableChecks.{node_of}
@@ -22,7 +20,6 @@ use Rattle.ffc_smt.proofs.ReadLemmas.{IfSound}
 use Rattle.ffc_smt.proofs.SoundStates.{IsSoundHere, Fine}
 use Rattle.ffc_parts.specs.declared.heads.Head.{Head}
 use Rattle.ffc_parts.specs.Growing.{IsDone}
-use Rattle.ffc_terms.specs.declared.scope.Symbols.{Symbols}
 use Rattle.ffc_terms.specs.Codes.{IsKnown as IsKnownNode}
 use Rattle.ffc_words.specs.declared.faults.TakeStop.{TakeStop}
 use Rattle.ffc_words.specs.declared.faults.TakeStop.TheVariants as stop

@@ -1,5 +1,5 @@
 -- What `assert` reads as.
-use Rattle.std.proofs.Common.{append_assoc, nat_lt, zero, ◌<◌, ◌≡◌, ℕ, suc, ◌+◌, ◌-◌, ◌^◌, ◌≤◌, min, Bool, true, false, ◌&&◌, List, [], ◌∷◌, ◌++◌, All, map, drop, length, if◌then◌else◌, Option, Some, None, Result, Ok, Err, refl, sym, ap, ◌∙◌, subst, arith}
+use Rattle.std.proofs.Common.{append_assoc, nat_lt, zero, ◌<◌, ◌≡◌, ℕ, suc, ◌+◌, ◌-◌, ◌^◌, ◌≤◌, min, Bool, true, false, ◌&&◌, List, [], ◌∷◌, ◌++◌, drop, length, if◌then◌else◌, Some, None, Result, Ok, Err, refl, sym, ap, ◌∙◌, subst, arith}
 use Rattle.std.specs.Prelude.{codes, option_map}
 use Rattle.std.specs.Str.{bytes_eq}
 use Rattle.std.proofs.lemmas.List.Elements.{All-nil}
@@ -7,30 +7,28 @@ use Rattle.std.proofs.lemmas.Bool.Decides.{nat_tests}
 use Rattle.ffc_lex.specs.declared.tokens.TokenKind.{TokenKind}
 use Rattle.ffc_lex.specs.declared.tokens.TokenKind.TheVariants as kinds
 use Rattle.ffc_term.specs.declared.node.Node.{Node}
-use Rattle.ffc_term.specs.declared.node.Sort.{Sort}
 use Rattle.ffc_term.specs.declared.node.Sort.TheVariants as sort
-use Rattle.ffc_smt.specs.Trees.{Word, Tree, Leaf, Group, Trees, Empty, First, items_of, front, tokens_of, tokens_of_items, is_symbol}
+use Rattle.ffc_smt.specs.Trees.{Word, Tree, Leaf, Group, Trees, Empty, First, items_of, tokens_of, tokens_of_items, is_symbol}
 use Rattle.ffc_lex.specs.Names.{is_reserved_word}
 use Rattle.ffc_smt.specs.TreeShapes.{is_parenthesis, AreProper}
 use Rattle.ffc_smt.specs.Terms.{Name, Term, Command, Assert}
-use Rattle.ffc_smt.specs.Faults.{Fault, word_fault, Read, Sound, Faulty, faults, faulty, read_map, both, behind, last, item}
-use Rattle.ffc_smt.specs.Scopes.{State, scope_of}
+use Rattle.ffc_smt.specs.Faults.{Fault, word_fault, Read, Sound, Faulty, faulty, read_map, both, last, item}
+use Rattle.ffc_smt.specs.Scopes.{State}
 use Rattle.ffc_smt.specs.TermReading.{exactly, is_word}
 use Rattle.ffc_smt.specs.CommandReading.{limits, term_of_sort, is_named_word, fresh_read, is_taken, named_assertion, plain_assertion, assertion_read, one}
-use Rattle.ffc_smt.proofs.WalkLemmas.{EachToken, MayFail, EachIn, each_in, one_fault}
-use Rattle.ffc_smt.specs.Meaning.{Env, found}
+use Rattle.ffc_smt.proofs.WalkLemmas.{MayFail, each_in, one_fault}
 use Rattle.ffc_words.specs.declared.faults.TakeStop.{TakeStop}
 use Rattle.ffc_words.specs.declared.faults.TakeStop.TheVariants as stop
 use Rattle.ffc_words.specs.Words.{IsTreeAt, AreItemsAt, no_word, word_at, fault_of}
 use Rattle.ffc_words.specs.Outcomes.{outcome}
-use Rattle.ffc_elab.specs.Reading.{AreInOrder, and_then, end_at, end_at_kind, later_items, label_of, label_at}
+use Rattle.ffc_elab.specs.Reading.{AreInOrder, and_then, end_at, end_at_kind, later_items, label_at}
 use Rattle.ffc_terms.specs.declared.scope.Symbols.{Symbols}
 use Rattle.ffc_terms.specs.declared.terms.TermRead.{TermRead}
 use Rattle.ffc_elab.specs.declared.asserting.Assertion.{Assertion}
 use Rattle.ffc_elab.specs.SortedTerms.{ReadsOfSort, IsTermOfSort, IsReadTerm, ReadsAsTerm}
 use Rattle.ffc_elab.specs.Asserting.{IsAssertion, ReadsAssertion}
 use Rattle.ffc_elab.proofs.ChangeLemmas.{sound_of}
-use Rattle.ffc_elab.proofs.OutcomeLemmas.{drop_plus, outcome_map, drop_next, FaultsThere, IsLeafRead, with_ok, word_at_items, front_kind, end_outcome, leaf_item, next_items, next_order, read_word, first_word, words_after, items_front, spelled_first}
+use Rattle.ffc_elab.proofs.OutcomeLemmas.{drop_plus, outcome_map, drop_next, FaultsThere, IsLeafRead, with_ok, word_at_items, front_kind, end_outcome, leaf_item, next_items, next_order, read_word, spelled_first}
 use Rattle.ffc_elab.proofs.PlainLemmas.{last_there}
 use Rattle.ffc_elab.proofs.NamingLemmas.{fresh_leaf, fresh_same}
 use Rattle.ffc_elab.proofs.ItemLemmas.{tree_item, first_tree, after_first, order_drop}

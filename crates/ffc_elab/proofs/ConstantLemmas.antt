@@ -36,7 +36,7 @@ pub put_behind : (cs : List Sort) (ns new : List Node) (count : ℕ) (s : Sort) 
 put_behind cs ns new count s id table is put room =
     let absent : Contains ns (constant_node count s) → ⊥ = subst (λ n. Contains ns (constant_node n s) → ⊥) (sym is) (constant_new ns cs s table) in
     let less : length ns + 1 ≤ most_nodes = ⊎_elim (λ lt. omega arith) (λ le. let e : length ns ≡ most_nodes = omega (arith, le, table.table.well_formed.within) in absurd (room (absent, e))) (cases_lt (length ns) most_nodes) in
-    ⊎_elim (λ there. absurd (absent there.0)) (λ behind. (behind.1, behind.2, less)) put.added
+    ⊎_elim (λ there. absurd (absent there.0)) (λ later. (later.1, later.2, less)) put.added
 
 module _ (k : Known) (name : Name) (sort : Sort) (x : Store) (known : IsKnown k) (h : IsKept k x) where
   abbrev s : State

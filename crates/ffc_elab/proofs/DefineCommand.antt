@@ -1,26 +1,25 @@
 -- What is known after a definition.
 use Rattle.std.proofs.lemmas.Bool.Decides.{nat_tests}
-use Rattle.std.proofs.Common.{◌==◌, ◌≡◌, ◌≢◌, ℕ, ◌<◌, ◌≤◌, ⊎_elim, Bool, true, false, List, [], ◌∷◌, ◌++◌, All, length, map, if◌then◌else◌, Ok, Err, refl, sym, ap, ◌∙◌, subst, arith}
+use Rattle.std.proofs.Common.{◌==◌, ◌≡◌, ◌≢◌, ℕ, ◌<◌, ◌≤◌, ⊎_elim, Bool, true, false, List, [], ◌∷◌, All, length, map, Ok, Err, refl, sym, ap, ◌∙◌, subst, arith}
 use Rattle.ffc_field.specs.Orders.{IsOrder}
 use Rattle.ffc_term.specs.declared.node.Node.{Node}
 use Rattle.ffc_term.specs.declared.node.Sort.{Sort}
-use Rattle.ffc_smt.specs.Trees.{Word, Tree, Trees, items_of, front}
-use Rattle.ffc_smt.specs.Faults.{Read, Sound, word_fault}
+use Rattle.ffc_smt.specs.Trees.{Word, Tree, items_of}
+use Rattle.ffc_smt.specs.Faults.{Sound, word_fault}
 use Rattle.ffc_smt.specs.Terms.{Name, Term, Parameter, weight}
 use Rattle.ffc_smt.specs.Terms as smt
-use Rattle.ffc_smt.specs.Meaning.{Env}
 use Rattle.ffc_smt.specs.Making.{Made, made}
-use Rattle.ffc_smt.specs.Scopes.{AsTerm, AsMacro, Meant, Level, State, with_name}
+use Rattle.ffc_smt.specs.Scopes.{Meant, Level, State, with_name}
 use Rattle.ffc_smt.specs.CommandReading.{limits, nodes_after, command_weight, form_read, command_read}
 use Rattle.ffc_smt.specs.Scripts.{after, meant_by, named_orders, orders_in}
 use Rattle.ffc_smt.proofs.OrderLemmas.{named_are_orders}
 use Rattle.ffc_smt.proofs.ReadLemmas.{IfSound}
-use Rattle.ffc_smt.proofs.SoundStates.{IsSoundHere, Fine}
+use Rattle.ffc_smt.proofs.SoundStates.{Fine}
 use Rattle.ffc_parts.specs.declared.heads.Head.{Head}
 use Rattle.ffc_terms.specs.declared.scope.Macro.{Macro}
 use Rattle.ffc_terms.specs.declared.scope.Meaning.{Meaning}
 use Rattle.ffc_terms.specs.declared.scope.Meaning.TheVariants as meaning
-use Rattle.ffc_terms.specs.Codes.{IsKnown as IsKnownNode, IsCode, IsMacro, IsMeaning}
+use Rattle.ffc_terms.specs.Codes.{IsCode, IsMeaning}
 use Rattle.ffc_words.specs.declared.faults.TakeStop.{TakeStop}
 use Rattle.ffc_words.specs.declared.faults.TakeStop.TheVariants as stop
 use Rattle.ffc_words.specs.Words.{word_at, fault_of}

@@ -1,11 +1,10 @@
 -- What `define-fun` reads as.
-use Rattle.std.proofs.Common.{◌≡◌, ℕ, suc, ◌+◌, Bool, List, [], ◌∷◌, ◌++◌, All, Contains, false, map, drop, length, reverse, Result, Ok, Err, refl, sym, ap, ◌∙◌, subst, inl, inr, arith}
-use Rattle.std.proofs.lemmas.List.{reverse-reverse}
-use Rattle.std.proofs.lemmas.List.Elements.{All-nil, All-append, All-contains, Contains-append_left, Contains-append_right}
+use Rattle.std.proofs.Common.{◌≡◌, ℕ, ◌+◌, Bool, List, [], ◌∷◌, ◌++◌, All, Contains, false, map, drop, length, reverse, Result, Ok, Err, refl, sym, ap, ◌∙◌, subst, inl, arith}
+use Rattle.std.proofs.lemmas.List.Elements.{All-append, All-contains, Contains-append_left, Contains-append_right}
 use Rattle.ffc_lex.specs.declared.tokens.TokenKind.TheVariants as kinds
 use Rattle.ffc_term.specs.declared.node.Node.{Node}
 use Rattle.ffc_term.specs.declared.node.Sort.{Sort}
-use Rattle.ffc_smt.specs.Trees.{Word, Tree, Leaf, Group, Trees, Empty, First, items_of, front, tokens_of, tokens_of_items}
+use Rattle.ffc_smt.specs.Trees.{Word, Tree, Leaf, Trees, Empty, First, items_of, tokens_of, tokens_of_items}
 use Rattle.ffc_smt.specs.FaultLaws.{IsAtOneOf}
 use Rattle.ffc_smt.specs.Meaning.{Env}
 use Rattle.ffc_smt.specs.Terms.{Name, Term, Parameter, Command, Define}
@@ -13,7 +12,7 @@ use Rattle.ffc_smt.specs.Faults.{Fault, word_fault, is_before, first_fault, Read
 use Rattle.ffc_smt.specs.Scopes.{State, scope_of}
 use Rattle.ffc_smt.specs.TermReading.{sort_read}
 use Rattle.ffc_smt.specs.CommandReading.{limits, term_of_sort, parameters_read, body_read, definition_of, fresh_read, is_taken}
-use Rattle.ffc_smt.proofs.PlaceLemmas.{each_from, each_from_items}
+use Rattle.ffc_smt.proofs.PlaceLemmas.{each_from_items}
 use Rattle.ffc_smt.proofs.TermWalk.{reads_sort}
 use Rattle.ffc_smt.proofs.WalkLemmas.{EachToken, EachIn, each_in, MayFail, one_fault}
 use Rattle.ffc_terms.proofs.FirstLemmas as first
@@ -39,7 +38,7 @@ use Rattle.ffc_elab.proofs.ChangeLemmas.{sound_of}
 use Rattle.ffc_elab.proofs.NamingLemmas.{fresh_same, name_refused, name_given, name_then_items, name_then_order}
 use Rattle.ffc_elab.proofs.ItemLemmas.{after_first, first_tree, order_drop, empty_spelled, placed_right, placed_wrong}
 use Rattle.ffc_elab.proofs.PlainLemmas.{last_there}
-use Rattle.ffc_elab.proofs.TermItemLemmas.{at_tokens, FaultsIn, both_at, mapped_at, item_there, sorted_in}
+use Rattle.ffc_elab.proofs.TermItemLemmas.{at_tokens, FaultsIn, both_at, mapped_at, sorted_in}
 use Rattle.ffc_elab.proofs.ParameterLemmas.{order_is, parameters_in}
 
 sorts_in : (sorts : Env Sort) → FaultsIn (sort_read sorts)

@@ -14,10 +14,6 @@ use Rattle.ffc_smt.proofs.WalkLemmas.{MayFail, each_any}
 use Rattle.ffc_smt.proofs.CommandWalk.{IsTold, Happens, reads_command}
 use Rattle.ffc_elab.specs.Kept.{HaveNoSorts, HasGlobalSorts}
 
-by_flag : (b : Bool) (P : Bool → Type 0) → (b ≡ true → P true) → (b ≡ false → P false) → P b
-by_flag true P h g = h refl
-by_flag false P h g = g refl
-
 innermost_options : (change : Level → Level) (s : State) (ls : List Level) → (at_innermost change ls s).options ≡ s.options
 innermost_options change s [] = refl
 innermost_options change s (l ∷ ls) = refl
@@ -79,5 +75,5 @@ changed_keeps _ s k h e = h
 pub next_global : (s : State) (t : Tree) (c : Command) → command_read limits s t ≡ Sound c → IsScopedState s → HasGlobalSorts s → HasGlobalSorts (after s t c)
 unfolding after
 next_global s t c e k h =
-    let told = subst (λ r. IfSound r (IsTold (λ f. Unit {0}) limits s t)) e (reads_command (λ f. Unit {0}) limits s t (each_any (MayFail (λ f. Unit {0})) (λ w code. tt) t)).1 in
-    changed_keeps c s k h told.1
+    let stated = subst (λ r. IfSound r (IsTold (λ f. Unit {0}) limits s t)) e (reads_command (λ f. Unit {0}) limits s t (each_any (MayFail (λ f. Unit {0})) (λ w code. tt) t)).1 in
+    changed_keeps c s k h stated.1

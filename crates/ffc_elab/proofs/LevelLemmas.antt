@@ -33,9 +33,6 @@ take_front zs xs ys n e is =
 pub reverse_cons : {A : Type 0} (x : A) (xs : List A) → reverse (x ∷ xs) ≡ reverse xs ++ x ∷ []
 reverse_cons x xs = reverse-append (x ∷ []) xs
 
-option_long : {A B : Type 0} (h : A → Option B) (x : A) (ys : List B) → length (filter_map h (x ∷ [])) + length ys ≡ length (filter_map h (x ∷ []) ++ ys)
-option_long h x ys = sym (length-append (filter_map h (x ∷ [])) ys)
-
 filter_reverse : {A B : Type 0} (h : A → Option B) (xs : List A) → length (filter_map h (reverse xs)) ≡ length (filter_map h xs)
 filter_reverse h [] = refl
 filter_reverse h (x ∷ xs) =

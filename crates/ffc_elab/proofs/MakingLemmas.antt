@@ -1,28 +1,21 @@
 -- The nodes of terms that were read, and the table without them.
-use Rattle.std.proofs.Common.{◌≡◌, ℕ, ◌<◌, ◌≤◌, List, [], ◌++◌, length, take, sym, ap, ◌∙◌, subst, arith, append-nil}
+use Rattle.std.proofs.Common.{◌≡◌, ℕ, ◌<◌, ◌≤◌, List, [], length, take, sym, ap, ◌∙◌, subst, arith}
 use Rattle.std.proofs.lemmas.List.{take-append-le, take_all}
 use Rattle.std.proofs.lemmas.Option.{slice_get_within}
 use Rattle.ffc_term.specs.declared.node.Node.{Node}
 use Rattle.ffc_term.specs.declared.node.Node.TheVariants.{IteField, Eq}
-use Rattle.ffc_term.specs.declared.node.Sort.{Sort}
-use Rattle.ffc_term.specs.Tables.{IsTable, CanCut, second_equality, most_nodes}
+use Rattle.ffc_term.specs.Tables.{IsTable, CanCut, second_equality}
 use Rattle.ffc_term.proofs.NodeLemmas.{IsNodeAt-append_left}
 use Rattle.ffc_parts.specs.Growing.{Grows}
-use Rattle.ffc_smt.specs.Making.{made}
 use Rattle.ffc_smt.specs.Meaning.{Env}
-use Rattle.ffc_smt.specs.States.{IsTableWith}
 use Rattle.ffc_smt.specs.Terms.{Term, weight}
 use Rattle.ffc_smt.specs.CommandReading.{limits}
-use Rattle.ffc_smt.specs.WellSorted.{IsSoundTerm}
-use Rattle.ffc_smt.proofs.Extends.{Extends}
-use Rattle.ffc_smt.proofs.SoundTerms.{made_good, sound_stays}
 use Rattle.ffc_terms.specs.declared.codes.Op.{Op}
 use Rattle.ffc_terms.specs.declared.scope.Meaning.{Meaning}
 use Rattle.ffc_terms.specs.declared.terms.TermRead.{TermRead}
 use Rattle.ffc_terms.specs.Codes.{IsCode, capped_weight}
 use Rattle.ffc_making.specs.Machine.{IsCodeOf}
 use Rattle.ffc_elab.specs.Making.{IsSoundRead}
-use Rattle.ffc_elab.proofs.GrowthLemmas.{code_stays}
 
 -- What was put after a table may be dropped.
 
@@ -34,24 +27,6 @@ grown_cut old new n table grows e =
 pub grown_front : (old new : List Node) (n : ℕ) → Grows old new → n ≡ length old → take n new ≡ old
 grown_front old new n grows e =
     ap (λ k. take k new) e ∙ ap (take (length old)) grows.put ∙ take-append-le (length old) old grows.more (omega arith) ∙ take_all (length old) old (omega arith)
-
--- A term that was read before nodes came can still be made.
-pub code_later : (symbols : Env Meaning) (t : Term) (limit : ℕ) (code : List Op) (old new : List Node) (h : IsCodeOf old symbols t limit code) → Extends old new
-    → IsTableWith h.constants h.count new → IsCodeOf new symbols t limit code
-code_later symbols t limit code old new h further table = record {
-  constants = h.constants;
-  count = h.count;
-  sort = h.sort;
-  table = table;
-  sound = subst (λ cs. IsSoundTerm cs new [] t h.sort) (append-nil h.constants) (sound_stays h.constants [] old new further t [] h.sort h.sound);
-  is = code_stays t old new symbols [] code further h.is;
-  light = h.light;
-}
-
--- The table with its nodes has the same constants.
-pub table_later : (cs : List Sort) (count : ℕ) (before now : List Node) (t : Term) (s : Sort) → IsSoundTerm cs before [] t s → IsTableWith cs count now → length (made [] now t).nodes ≤ most_nodes
-    → IsTableWith cs count (made [] now t).nodes
-table_later cs count before now t s sound table room = (made_good cs count before t [] s [] now sound tt table room).0
 
 -- A weight that is light is not capped.
 

@@ -59,9 +59,6 @@ drop_next [] (suc i) w ws e = cc
 drop_next (v ∷ vs) zero w ws e = cc
 drop_next (v ∷ vs) (suc i) w ws e = drop_next vs i w ws e
 
-pub order_next : (words : List Word) (i : ℕ) (w : Word) (ws : List Word) → drop i words ≡ w ∷ ws → AreInOrder (drop i words) → All (IsWordBefore w) ws × AreInOrder ws
-order_next words i w ws e h = subst AreInOrder e h
-
 pub front_kind : (t : Tree) → IsProper t → (front t).kind ≡ kinds.RightParen → ⊥
 front_kind (Leaf w) p e = let q : is_parenthesis kinds.RightParen ≡ false = ap is_parenthesis (sym e) ∙ p in cc
 front_kind (Group opening items closing) p e = let q : kinds.LeftParen ≡ kinds.RightParen = sym p.0 ∙ e in cc

@@ -1,30 +1,26 @@
 -- The parameters of a definition, one after another.
-use Rattle.std.proofs.Common.{◌≡◌, ℕ, zero, suc, ◌+◌, ◌<◌, ◌≤◌, Bool, ◌||◌, true, false, List, [], ◌∷◌, ◌++◌, All, Contains, map, drop, length, reverse, if◌then◌else◌, Option, Some, None, is_some, Result, Ok, Err, refl, sym, ap, ◌∙◌, subst, inl, inr, arith, append_assoc, append-nil, length-append}
+use Rattle.std.proofs.Common.{◌≡◌, Bool, ◌||◌, true, false, List, [], ◌∷◌, ◌++◌, All, Contains, map, if◌then◌else◌, Option, Some, None, is_some, Result, Ok, Err, refl, sym, ap, ◌∙◌, subst, inl, inr, arith, append_assoc, append-nil}
 use Rattle.std.specs.Str.{bytes_eq}
-use Rattle.std.specs.List.{list_any}
 use Rattle.std.proofs.lemmas.List.Elements.{All-nil, All-append, All-contains, All-head, All-tail, Contains-append_left, Contains-append_right}
 use Rattle.ffc_lex.specs.Names.{is_theory_name}
-use Rattle.ffc_lex.specs.declared.tokens.TokenKind.TheVariants as kinds
 use Rattle.ffc_term.specs.declared.node.Sort.{Sort}
-use Rattle.ffc_smt.specs.Trees.{Word, Tree, Leaf, Group, Trees, Empty, First, items_of, front, tokens_of, tokens_of_items, name_of}
-use Rattle.ffc_smt.specs.TreeShapes.{IsProper, AreProper, is_parenthesis}
+use Rattle.ffc_smt.specs.Trees.{Word, Tree, Leaf, Group, Trees, Empty, First, items_of, tokens_of, tokens_of_items, name_of}
 use Rattle.ffc_smt.specs.FaultLaws.{IsAtOneOf, IsWordBefore}
 use Rattle.ffc_smt.specs.Meaning.{Env, found}
 use Rattle.ffc_smt.specs.Terms.{Name, Parameter}
 use Rattle.ffc_smt.specs.Faults.{Fault, word_fault, is_before, first_fault, Read, Sound, Faulty, faults, faulty, unless, read_map, last, item}
 use Rattle.ffc_smt.specs.Scopes.{State, scope_of}
-use Rattle.ffc_smt.specs.TermReading.{Named, variable_read, free_name, sort_read, is_among, twice, add_named}
-use Rattle.ffc_smt.specs.CommandReading.{fresh, fresh_read, ReadParameter, parameter_of, parameter_read, parameter_faults, parameter_names, sound_parameters, sound_parameter, parameters_of, parameters_read}
+use Rattle.ffc_smt.specs.TermReading.{Named, variable_read, free_name, sort_read, is_among, twice}
+use Rattle.ffc_smt.specs.CommandReading.{fresh, ReadParameter, parameter_of, parameter_read, parameter_faults, parameter_names, sound_parameters, sound_parameter, parameters_read}
 use Rattle.ffc_smt.proofs.PlaceLemmas.{each_from, each_from_items}
 use Rattle.ffc_smt.proofs.ReadLemmas.{IfSound}
-use Rattle.ffc_smt.proofs.TermWalk.{AllNamed, add_named_at, reads_sort, reads_variable, twice_at}
-use Rattle.ffc_smt.proofs.WalkLemmas.{EachToken, EachTokens, EachIn, each_in, MayFail, ReadsAs, one_fault, if_sound}
+use Rattle.ffc_smt.proofs.TermWalk.{AllNamed, add_named_at, reads_variable, twice_at}
+use Rattle.ffc_smt.proofs.WalkLemmas.{EachToken, EachIn, each_in, MayFail, ReadsAs, one_fault, if_sound}
 use Rattle.ffc_terms.proofs.FirstLemmas as first
 use Rattle.ffc_terms.proofs.FirstLemmas.{Each, IsAt, NoneBefore, IsBeforeAll, each_append, each_weaker, none_later, not_before_itself, outcome_faulty, outcome_unless, contains_first}
-use Rattle.ffc_words.specs.Words.{IsTreeAt, AreItemsAt, word_at}
 use Rattle.ffc_words.specs.Outcomes.{outcome}
-use Rattle.ffc_elab.specs.Reading.{AreInOrder, and_then, end_at}
-use Rattle.ffc_elab.specs.Defining.{new_among, one_sort, parameter_after}
+use Rattle.ffc_elab.specs.Reading.{AreInOrder, and_then}
+use Rattle.ffc_elab.specs.Defining.{new_among, parameter_after}
 use Rattle.ffc_elab.proofs.ItemLemmas.{sorts_there}
 use Rattle.ffc_elab.proofs.TermItemLemmas.{mapped_at}
 

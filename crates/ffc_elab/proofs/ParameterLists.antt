@@ -1,18 +1,18 @@
 -- The parameters of a definition while they are read.
-use Rattle.std.proofs.Common.{◌≡◌, ℕ, zero, suc, ◌+◌, ◌-◌, ◌^◌, ◌<◌, ◌≤◌, min, false, List, [], ◌∷◌, ◌++◌, All, map, drop, length, reverse, Result, Ok, Err, refl, sym, ap, ◌∙◌, subst, arith, append_assoc, append-nil, length-append}
+use Rattle.std.proofs.Common.{◌≡◌, ℕ, suc, ◌+◌, ◌-◌, ◌^◌, ◌<◌, ◌≤◌, min, false, List, [], ◌∷◌, ◌++◌, All, map, drop, length, reverse, Result, Ok, Err, refl, sym, ap, ◌∙◌, subst, arith, append_assoc, append-nil, length-append}
 use Rattle.std.proofs.lemmas.List.{map-append, reverse-append}
 use Rattle.std.proofs.lemmas.List.Elements.{All-nil, All-cons, All-head, All-tail}
 use Rattle.ffc_lex.specs.declared.tokens.TokenKind.TheVariants as kinds
 use Rattle.ffc_term.specs.declared.node.Sort.{Sort}
-use Rattle.ffc_smt.specs.Trees.{Word, Tree, Leaf, Group, Trees, Empty, First, items_of, front, tokens_of, tokens_of_items}
+use Rattle.ffc_smt.specs.Trees.{Word, Tree, Leaf, Group, Trees, Empty, First, items_of, tokens_of, tokens_of_items}
 use Rattle.ffc_smt.specs.FaultLaws.{IsWordBefore}
 use Rattle.ffc_smt.specs.TreeShapes.{is_parenthesis}
 use Rattle.ffc_smt.specs.Meaning.{Env}
 use Rattle.ffc_smt.specs.Terms.{Name, Parameter}
-use Rattle.ffc_smt.specs.Faults.{Fault, word_fault, Read, Sound, Faulty}
+use Rattle.ffc_smt.specs.Faults.{Fault, word_fault, Read}
 use Rattle.ffc_smt.specs.Scopes.{State, scope_of}
 use Rattle.ffc_smt.specs.TermReading.{Named}
-use Rattle.ffc_smt.specs.CommandReading.{ReadParameter, parameter_read, parameters_of, parameters_read}
+use Rattle.ffc_smt.specs.CommandReading.{parameters_of, parameters_read}
 use Rattle.ffc_words.specs.declared.faults.ScriptFault.{ScriptFault}
 use Rattle.ffc_words.specs.declared.faults.TakeStop.{TakeStop}
 use Rattle.ffc_words.specs.declared.faults.TakeStop.TheVariants as stop
@@ -20,10 +20,9 @@ use Rattle.ffc_words.specs.Words.{IsTreeAt, AreItemsAt, word_at, fault_of}
 use Rattle.ffc_words.specs.Outcomes.{outcome}
 use Rattle.ffc_elab.specs.declared.parameters.Parameters.{Parameters}
 use Rattle.ffc_elab.specs.Reading.{AreInOrder, and_then}
-use Rattle.ffc_elab.specs.Defining.{parameter_after, pair_of, IsParameterAfter, IsAdded, Adds, AreParameters, ReadsParameters, ReadsInside, ReadsParameterItem}
+use Rattle.ffc_elab.specs.Defining.{parameter_after, pair_of, Adds, AreParameters, ReadsParameters, ReadsInside, ReadsParameterItem}
 use Rattle.ffc_elab.proofs.ChangeLemmas.{sound_of}
-use Rattle.ffc_elab.proofs.LevelLemmas.{reverse_cons}
-use Rattle.ffc_elab.proofs.OutcomeLemmas.{tokens_front, drop_plus, word_at_items, front_kind, spelled_first}
+use Rattle.ffc_elab.proofs.OutcomeLemmas.{tokens_front, drop_plus, word_at_items, front_kind}
 use Rattle.ffc_elab.proofs.ItemLemmas.{first_tree, after_first, order_drop}
 use Rattle.ffc_elab.proofs.ParameterLemmas.{after, read_one, parameter_stops, parameter_goes}
 use Rattle.ffc_elab.proofs.ParameterReading.{items_inside, inside_of}

@@ -1,21 +1,20 @@
 -- Parameters, word by word.
-use Rattle.std.proofs.Common.{◌≡◌, ℕ, zero, suc, ◌+◌, ◌-◌, ◌^◌, ◌<◌, ◌≤◌, min, true, false, List, [], ◌∷◌, ◌++◌, All, drop, length, is_some, Result, Ok, Err, refl, sym, ap, ◌∙◌, subst, arith, append_assoc, append-nil, length-append}
+use Rattle.std.proofs.Common.{◌≡◌, ℕ, zero, suc, ◌+◌, ◌-◌, ◌^◌, ◌<◌, ◌≤◌, min, false, List, [], ◌∷◌, ◌++◌, drop, length, is_some, Ok, Err, refl, sym, ap, ◌∙◌, subst, arith, append_assoc, append-nil, length-append}
 use Rattle.ffc_lex.specs.declared.tokens.TokenKind.TheVariants as kinds
 use Rattle.ffc_term.specs.declared.node.Sort.{Sort}
 use Rattle.ffc_smt.specs.Trees.{Word, Tree, Leaf, Group, Trees, Empty, First, items_of, front, tokens_of, tokens_of_items}
-use Rattle.ffc_smt.specs.TreeShapes.{IsProper, AreProper, is_parenthesis}
+use Rattle.ffc_smt.specs.TreeShapes.{IsProper, is_parenthesis}
 use Rattle.ffc_smt.specs.Meaning.{Env, found}
 use Rattle.ffc_smt.specs.Terms.{Name}
-use Rattle.ffc_smt.specs.Faults.{Fault, word_fault, Read, Sound, Faulty, faulty, read_map, last, item}
+use Rattle.ffc_smt.specs.Faults.{Fault, word_fault, last}
 use Rattle.ffc_smt.specs.TermReading.{sort_read}
 use Rattle.ffc_smt.proofs.TermWalk.{reads_sort}
-use Rattle.ffc_words.specs.declared.faults.ScriptFault.{ScriptFault}
-use Rattle.ffc_words.specs.Words.{IsTreeAt, AreItemsAt, word_at, fault_of}
+use Rattle.ffc_words.specs.Words.{IsTreeAt, AreItemsAt, word_at}
 use Rattle.ffc_words.specs.Outcomes.{outcome}
 use Rattle.ffc_terms.specs.SortSteps.{placed}
 use Rattle.ffc_elab.specs.Reading.{AreInOrder, and_then, end_at}
-use Rattle.ffc_elab.specs.Defining.{new_among, one_sort, parameter_after, IsClosedSort, ReadsClosedSort, IsParameterAfter}
-use Rattle.ffc_elab.proofs.OutcomeLemmas.{drop_next, drop_plus, word_at_items, front_kind, end_outcome, tail_of, items_front, first_word, words_after, IsLeafRead}
+use Rattle.ffc_elab.specs.Defining.{new_among, one_sort, parameter_after, IsClosedSort, IsParameterAfter}
+use Rattle.ffc_elab.proofs.OutcomeLemmas.{drop_next, drop_plus, word_at_items, front_kind, end_outcome, items_front, first_word, words_after}
 use Rattle.ffc_elab.proofs.NamingLemmas.{fresh_leaf}
 use Rattle.ffc_elab.proofs.SortedTermLemmas.{front_at}
 use Rattle.ffc_elab.proofs.ItemLemmas.{missing_item, placed_wrong, placed_right, first_tree, after_first, order_drop}
@@ -32,9 +31,6 @@ place_inside (v ∷ vs) (suc i) w ws e = let h = place_inside vs i w ws e in ome
 
 pub items_inside : (words : List Word) (i : ℕ) (items : Trees) (closing : Word) (rest : List Word) → AreItemsAt words i items closing rest → i < length words
 items_inside words i items closing rest at = place_inside words i (first_word items closing) (words_after items closing rest) (at.text ∙ items_front items closing rest)
-
-pub uncapped : (words : List Word) (i n : ℕ) → length words ≤ 2 ^ 64 - 1 → i ≤ length words → n ≡ min i (2 ^ 64 - 1) → n ≡ i
-uncapped words i n few inside e = omega (arith, few, inside, e)
 
 one_long : (t : Tree) (closing : Word) → length (tokens_of_items (First t Empty) ++ closing ∷ []) ≡ length (tokens_of t) + 1
 unfolding tokens_of

@@ -186,13 +186,6 @@ at_most_outcome : (words : List Word) (i j : ℕ) (items : Trees) (closing : Wor
 at_most_outcome words i j items closing rest after at =
     ap (λ ts. outcome (last ts)) (sym (items_later items)) ∙ end_outcome words j (later_items items) closing rest (after items at)
 
-keyword_word : (w v : Word) → outcome (keyword_read (Leaf w)) ≡ Ok v → v ≡ w
-keyword_word w v e = by_kind w.kind e
-  where
-    by_kind : (k : TokenKind) → outcome (elim k as (λ x. Read Word) [ kinds.Keyword ↦ Sound w | _ ↦ faulty 5 w ]) ≡ Ok v → v ≡ w
-    by_kind kinds.Keyword e = cc
-    by_kind _ e = cc
-
 -- what follows a keyword
 after_keyword : {A : Type 0} (w : Word) (f : Word → Result A Fault) → and_then (outcome (keyword_read (Leaf w))) f ≡ and_then (keyword_of w) (λ key. f w)
 after_keyword {A} w f = by_kind w.kind

@@ -1,5 +1,5 @@
 -- Where the same is kept, and where the table is cut back to what it was.
-use Rattle.std.proofs.Common.{◌≡◌, List, refl, sym, ap, ◌∙◌, subst}
+use Rattle.std.proofs.Common.{◌≡◌, List, sym, ap, ◌∙◌, subst}
 use Rattle.ffc_field.specs.Orders.{order_of_id}
 use Rattle.std.specs.Prelude.{option_map}
 use Rattle.ffc_term.specs.declared.node.Node.{Node}
@@ -31,23 +31,6 @@ same_keeps k x y e h = record {
   assumed = e.assumed ∙ h.assumed;
   declared = e.declared ∙ h.declared;
   declared_nodes = e.declared_nodes ∙ h.declared_nodes;
-}
-
-pub same_further : (x y z : Store) → IsSame x y → IsSame y z → IsSame x z
-same_further x y z e f = record {
-  logic = f.logic ∙ e.logic;
-  options = f.options ∙ e.options;
-  marks = f.marks ∙ e.marks;
-  terms = f.terms ∙ e.terms;
-  sorts = f.sorts ∙ e.sorts;
-  table = f.table ∙ e.table;
-  constants = f.constants ∙ e.constants;
-  first = f.first ∙ e.first;
-  in_force = f.in_force ∙ e.in_force;
-  names = f.names ∙ e.names;
-  assumed = f.assumed ∙ e.assumed;
-  declared = f.declared ∙ e.declared;
-  declared_nodes = f.declared_nodes ∙ e.declared_nodes;
 }
 
 -- nodes came, the same was kept, and they went

@@ -1,5 +1,5 @@
 -- Items with terms, and where their faults are.
-use Rattle.std.proofs.Common.{◌≡◌, ℕ, suc, ◌+◌, Bool, true, false, List, [], ◌∷◌, ◌++◌, All, map, drop, length, if◌then◌else◌, Result, Ok, Err, refl, sym, ap, ◌∙◌, subst}
+use Rattle.std.proofs.Common.{◌≡◌, ℕ, ◌+◌, Bool, true, false, List, [], ◌∷◌, ◌++◌, All, map, drop, length, if◌then◌else◌, Result, Ok, Err, refl, sym, ap, ◌∙◌, subst}
 use Rattle.std.proofs.lemmas.List.Elements.{All-nil, All-append}
 use Rattle.ffc_lex.specs.declared.tokens.TokenKind.TheVariants as kinds
 use Rattle.ffc_term.specs.declared.node.Node.{Node}
@@ -8,14 +8,14 @@ use Rattle.ffc_smt.specs.Trees.{Word, Tree, Leaf, Group, Trees, Empty, First, it
 use Rattle.ffc_smt.specs.FaultLaws.{IsAtOneOf}
 use Rattle.ffc_smt.specs.Meaning.{Env}
 use Rattle.ffc_smt.specs.Terms.{Parameter, Term}
-use Rattle.ffc_smt.specs.Faults.{Fault, word_fault, Read, Sound, Faulty, faults, faulty, read_map, both, behind, last, item}
+use Rattle.ffc_smt.specs.Faults.{Fault, Read, Sound, Faulty, faults, faulty, read_map, both, behind, last, item}
 use Rattle.ffc_smt.specs.Scopes.{State, scope_of}
 use Rattle.ffc_smt.specs.TermReading.{Sorted, is_sort, term_read}
 use Rattle.ffc_smt.specs.CommandReading.{limits, of_sort, term_of_sort}
 use Rattle.ffc_smt.proofs.ConstantLemmas.{meant_constants_any}
 use Rattle.ffc_smt.proofs.PlaceLemmas.{each_from}
 use Rattle.ffc_smt.proofs.TermWalk.{reads_term}
-use Rattle.ffc_smt.proofs.WalkLemmas.{EachToken, MayFail, EachIn, each_front, one_fault}
+use Rattle.ffc_smt.proofs.WalkLemmas.{EachToken, MayFail, each_front, one_fault}
 use Rattle.ffc_words.specs.declared.faults.TakeStop.{TakeStop}
 use Rattle.ffc_words.specs.declared.faults.TakeStop.TheVariants as stop
 use Rattle.ffc_words.specs.Words.{IsTreeAt, AreItemsAt, word_at, fault_of}

@@ -41,9 +41,6 @@ text_goes_on words i end k bytes more less few e =
     ∙ ap (λ v. bytes ++ ((space_between k w.kind ++ w.bytes) ++ v)) (kind_alone (record no_word { kind = w.kind }) w rest refl)
     ∙ ap (λ ws. bytes ++ spelled k ws) (sym (next_coming words i end less few))
 
-pub text_begins : (words : List Word) (start end : ℕ) → [] ++ spelled kinds.LeftParen (coming words start end) ≡ text_of (coming words start end)
-text_begins words start end = sym (text_is (coming words start end))
-
 none_coming : (words : List Word) (end : ℕ) → coming words end end ≡ []
 none_coming words end = let e : end - end ≡ 0 = omega arith in ap (λ n. take n (drop end words)) e
 

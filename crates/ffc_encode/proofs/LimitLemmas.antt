@@ -1,10 +1,10 @@
 -- A polynomial has at most as many terms as any list that it is written as, and no term of a higher degree.
-use Rattle.std.proofs.Common.{◌≡◌, ◌≢◌, ℕ, zero, suc, ◌+◌, ◌*◌, ◌%◌, ◌<◌, ◌≤◌, max, cond, Bool, true, false, List, [], ◌∷◌, ◌++◌, length, fold, refl, sym, ap, ◌∙◌, inl, inr, arith, length-append, Result, Ok, Err, IsErrOf}
+use Rattle.std.proofs.Common.{◌≡◌, ◌≢◌, ℕ, suc, ◌+◌, ◌*◌, ◌%◌, ◌<◌, ◌≤◌, max, cond, Bool, true, false, List, [], ◌∷◌, ◌++◌, length, fold, refl, sym, ap, ◌∙◌, inl, inr, arith, length-append, Result, Err, IsErrOf}
 use Rattle.std.proofs.Math.Nat.{zero-mod}
-use Rattle.ffc_ring.specs.Monomial.{Monomial, degree, mono_mul, same_monomial}
+use Rattle.ffc_ring.specs.Monomial.{Monomial, degree, same_monomial}
 use Rattle.ffc_ring.specs.Polynomial.{Terms, SamePolynomial, written, coefficient, term_product, product, PassesDegree, PassesTerms, IsNoneOf, AreItsMonomials}
 use Rattle.ffc_ring.proofs.MonomialLemmas.{degree-mono_mul}
-use Rattle.ffc_ring.proofs.PolynomialLemmas.{without, written-at, written-off, written-without_off, cases_monomial}
+use Rattle.ffc_ring.proofs.PolynomialLemmas.{without, written-off, written-without_off, cases_monomial}
 use Rattle.ffc_poly.specs.declared.stop.PolyStop.{PolyStop}
 use Rattle.ffc_poly.specs.declared.stop.PolyStop.TheVariants.{DegreeOver, TermsOver, Memory}
 use Rattle.ffc_poly.specs.Ordered.{AreWithin}

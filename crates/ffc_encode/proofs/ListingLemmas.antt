@@ -1,5 +1,5 @@
 -- The clauses of a node, listed in turn, are those of its schemes.
-use Rattle.std.proofs.Common.{◌≡◌, ℕ, zero, suc, ◌+◌, ◌<◌, Bool, List, [], ◌∷◌, ◌++◌, length, map, take, drop, get_or, All, Option, Some, None, slice_get, refl, sym, ap, ap₂, ◌∙◌, subst, arith, append_assoc, append-nil, length-take, not}
+use Rattle.std.proofs.Common.{◌≡◌, ℕ, zero, suc, ◌+◌, ◌<◌, Bool, List, [], ◌∷◌, ◌++◌, length, map, take, drop, get_or, All, Option, Some, None, slice_get, refl, sym, ap, ap₂, ◌∙◌, arith, append_assoc, append-nil, length-take, not}
 use Rattle.std.specs.Prelude.{flat_map}
 use Rattle.std.specs.List.{range_with_len}
 use Rattle.std.proofs.lemmas.List.{take_more, length-map}
@@ -11,12 +11,12 @@ use Rattle.ffc_term.specs.declared.value.Value.{Value}
 use Rattle.ffc_term.specs.Nodes.{IsNodeAt}
 use Rattle.ffc_term.specs.Tables.{IsTable, second_equality}
 use Rattle.ffc_clause.specs.Clauses.{Clause}
-use Rattle.ffc_rules.specs.Schemes.{one, schemes, schemes_at, scheme_clauses, scheme_clause, all_schemes}
+use Rattle.ffc_rules.specs.Schemes.{schemes, schemes_at, scheme_clauses, scheme_clause, all_schemes}
 use Rattle.ffc_rules.specs.Clauses.{IsTrueClause}
 use Rattle.ffc_rules.proofs.SchemeLemmas.{scheme_true}
 use Rattle.ffc_encode.specs.declared.clauses.NodeClause.{NodeClause}
 use Rattle.ffc_encode.specs.Clauses.{clause_of, clause_if, clauses_at, node_clauses, IsTrueAlways}
-use Rattle.ffc_encode.specs.Listing.{counted, indexed, numbered, child_clauses, gate}
+use Rattle.ffc_encode.specs.Listing.{counted, indexed, numbered, child_clauses}
 
 -- ---- lists by number
 
@@ -133,16 +133,6 @@ pub map_push : {X Y : Type 0} (f : X → Y) (xs : List X) (x : X) → map f (xs 
 map_push f [] x = refl
 map_push f (y ∷ xs) x = ap (λ l. f y ∷ l) (map_push f xs x)
 
-pub rows_more : (v i : ℕ) (rows : List Clause) (row : Clause) (old now new : List NodeClause) → i < length rows → row ≡ get_or rows i row → now ≡ old ++ numbered v 0 (map one (take i rows)) → new ≡ now ++ clause_of v i 0 row ∷ [] → new ≡ old ++ numbered v 0 (map one (take (i + 1) rows))
-rows_more v i rows row old now new inside is e f =
-    let f_of = λ (scheme : ℕ) (clauses : List Clause). indexed v scheme 0 clauses in
-    let before : List (List Clause) = map one (take i rows) in
-    let many : 0 + length before ≡ i = omega (arith, length-map (take i rows) one, length-take i rows) in
-    let longer : map one (take (i + 1) rows) ≡ before ++ one row ∷ [] = ap (map one) (take_more rows i row inside ∙ ap (λ x. take i rows ++ x ∷ []) (sym is)) ∙ map_push one (take i rows) row in
-    f ∙ ap (λ l. l ++ clause_of v i 0 row ∷ []) e
-    ∙ append_assoc old (numbered v 0 before) (clause_of v i 0 row ∷ [])
-    ∙ ap (λ l. old ++ l) (sym (ap (numbered v 0) longer ∙ counted_more f_of 0 before (one row) ∙ ap (λ k. numbered v 0 before ++ indexed v k 0 (one row)) many))
-
 pub children_more : (v i : ℕ) (all : Bool) (ids : List ℕ) (id : ℕ) (old now new : List NodeClause) → i < length ids → id ≡ get_or ids i id → now ≡ old ++ indexed v 0 0 (child_clauses v all (take i ids)) → new ≡ now ++ clause_of v 0 i ((not all, v) ∷ (all, id) ∷ []) ∷ [] → new ≡ old ++ indexed v 0 0 (child_clauses v all (take (i + 1) ids))
 children_more v i all ids id old now new inside is e f =
     let f_of = λ (index : ℕ) (lits : Clause). clause_of v 0 index lits ∷ [] in
@@ -153,10 +143,6 @@ children_more v i all ids id old now new inside is e f =
     f ∙ ap (λ l. l ++ clause_of v 0 i (of id) ∷ []) e
     ∙ append_assoc old (indexed v 0 0 before) (clause_of v 0 i (of id) ∷ [])
     ∙ ap (λ l. old ++ l) (sym (ap (indexed v 0 0) longer ∙ counted_more f_of 0 before (of id) ∙ ap (λ k. indexed v 0 0 before ++ clause_of v 0 k (of id) ∷ []) many))
-
-pub gate_listed : (v : ℕ) (all : Bool) (ids : List ℕ) (lits : Clause) (old mid new : List NodeClause) → mid ≡ old ++ indexed v 0 0 (child_clauses v all ids) → new ≡ mid ++ clause_of v 1 0 lits ∷ [] → lits ≡ (all, v) ∷ map (λ a. (not all, a)) ids → new ≡ old ++ numbered v 0 (gate v all ids)
-gate_listed v all ids lits old mid new e f g =
-    f ∙ ap₂ (λ m l. m ++ clause_of v 1 0 l ∷ []) e g ∙ append_assoc old (indexed v 0 0 (child_clauses v all ids)) (clause_of v 1 0 ((all, v) ∷ map (λ a. (not all, a)) ids) ∷ [])
 
 -- the clauses of a node that is there
 pub node_listed : (ns : List Node) (v : ℕ) (n : Node) (old new : List NodeClause) → IsNodeAt ns v n → new ≡ old ++ numbered v 0 (schemes v n) → new ≡ old ++ clauses_at ns v
@@ -173,8 +159,3 @@ other_schemes v (Xor x y) a b c d e f g h k = absurd (g x y refl)
 other_schemes v (IteBool x y z) a b c d e f g h k = absurd (h x y z refl)
 other_schemes v (IteField x y z) a b c d e f g h k = absurd (k x y z refl)
 other_schemes v _ a b c d e f g h k = refl
-
-pub nodes_more : (ns : List Node) (ids : List ℕ) (i id : ℕ) (now new : List NodeClause) → i < length ids → id ≡ get_or ids i id → now ≡ node_clauses ns (take i ids) → new ≡ now ++ clauses_at ns id → new ≡ node_clauses ns (take (i + 1) ids)
-nodes_more ns ids i id now new inside is e f =
-    f ∙ ap (λ l. l ++ clauses_at ns id) e ∙ ap (λ l. node_clauses ns (take i ids) ++ l) (sym (append-nil (clauses_at ns id)))
-    ∙ sym (ap (node_clauses ns) (take_more ids i id inside ∙ ap (λ x. take i ids ++ x ∷ []) (sym is)) ∙ flat_map-append (clauses_at ns) (take i ids) (id ∷ []))

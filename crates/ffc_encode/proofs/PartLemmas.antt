@@ -1,7 +1,7 @@
 -- The parts of a node within the limits are field nodes within the limits, and so are the products of some of its factors.
 use Rattle.std.proofs.Common.{Bool, true, false, cond, map, ◌≡◌, ℕ, zero, suc, ◌+◌, ◌*◌, ◌<◌, ◌≤◌, List, [], ◌∷◌, ◌++◌, length, take, get_or, sum_by, All, Option, Some, None, IfSome, Result, Ok, Err, IfOk, OnOk, refl, sym, ap, ap₂, ◌∙◌, subst, arith, get_or-take, mul_assoc, one-mul}
 use Rattle.std.proofs.Math.Nat.{mul-le-mul}
-use Rattle.std.proofs.lemmas.List.Elements.{All-head, All-tail, All-append, All-map, All-cons, All-nil}
+use Rattle.std.proofs.lemmas.List.Elements.{All-head, All-tail, All-append, All-map, All-nil}
 use Rattle.std.specs.List.Sorted.{IsPermutation}
 use Rattle.std.specs.declared.cmp.Ordering.{Ordering}
 use Rattle.std.specs.declared.cmp.Ordering.TheVariants.{Less, Equal, Greater}
@@ -214,20 +214,12 @@ more_visits ns p xs old new some are is =
     let Has : Visit → Type 0 = λ x. IsWithin ns p x.node in
     All-permutation Has (xs ++ old) new is (All-append Has xs old some are)
 
-pub one_visit : (ns : List Node) (p : ℕ) (x : Visit) (old new : List Visit) → old ≡ [] → IsWithin ns p x.node → IsPermutation (x ∷ old) new → AreVisited ns p new
-one_visit ns p x old new none is waits =
-    let Has : Visit → Type 0 = λ y. IsWithin ns p y.node in
-    more_visits ns p (x ∷ []) old new (All-cons Has x [] is (All-nil Has)) (subst (All Has) (sym none) (All-nil Has)) waits
-
 -- the node that is taken, and those that are left
 pub visit_taken : (ns : List Node) (p : ℕ) (x : Visit) (old new : List Visit) → IsPermutation old (x ∷ new) → AreVisited ns p old → IsWithin ns p x.node × AreVisited ns p new
 visit_taken ns p x old new is are =
     let Has : Visit → Type 0 = λ y. IsWithin ns p y.node in
     let all : All Has (x ∷ new) = All-permutation Has old (x ∷ new) is are in
     (All-head Has x new all, All-tail Has x new all)
-
-pub all_reversed : (ns : List Node) (p : ℕ) (xs ys : List ℕ) → IsPermutation xs ys → All (IsWithin ns p) xs → All (IsWithin ns p) ys
-all_reversed ns p xs ys is are = All-permutation (IsWithin ns p) xs ys is are
 
 pub on_ok : {T E : Type 0} (r : Result T E) (P Q : Type 0) → (P → Q) → OnOk r P → OnOk r Q
 on_ok (Ok x) P Q f h = f h

@@ -236,10 +236,6 @@ get_or-any (x ∷ xs) (suc i) d e h = get_or-any xs i d e (omega arith)
 pub left_at : {X : Type 0} (xs : List X) (i : ℕ) (x : X) → i < length xs → x ≡ get_or xs i x → drop i xs ≡ x ∷ drop (i + 1) xs
 left_at xs i x h e = drop-cons xs i x h ∙ ap₂ ◌∷◌ (sym e) (ap (λ k. drop k xs) (sym (add-one i)))
 
-pub empty_list : {X : Type 0} (xs : List X) (n : ℕ) → length xs ≡ n → n ≡ 0 → xs ≡ []
-empty_list [] n e z = refl
-empty_list (x ∷ xs) n e z = absurd (omega arith)
-
 -- the first is of this node
 pub of_node : (xs : List Owed) (x : Owed) (n node : ℕ) → length xs ≡ n → 0 < n → x ≡ get_or xs 0 x → x.node ≡ node → IsOfNode node xs
 of_node [] x n node long some e h = absurd (omega arith)
@@ -248,10 +244,6 @@ of_node (y ∷ xs) x n node long some e h = ap (λ (z : Owed). z.node) (sym e) �
 pub top_node : (xs : List Owed) (y : Owed) (node : ℕ) → IsOfNode node xs → y ≡ get_or xs 0 y → y.node ≡ node
 top_node [] y node is e = absurd is
 top_node (x ∷ xs) y node is e = ap (λ (z : Owed). z.node) e ∙ is
-
-pub node_waits : (xs : List Owed) (n node : ℕ) → IsOfNode node xs → length xs ≡ n → n ≡ 0 → ⊥
-node_waits [] n node is e z = is
-node_waits (x ∷ xs) n node is e z = omega arith
 
 pub first_taken : (p : ℕ) (old new : List Owed) (x : Owed) (w u : ℕ) → IsPermutation old (x ∷ new) → w ≡ u % p → u ≡ x.weight → Takes p old (owed_of x.node w) new
 first_taken p old new x w u is e f = record {

@@ -1,5 +1,5 @@
 -- The laws of arithmetic modulo p, for any p: those of a commutative ring on the numbers below p, and those of powers.
-use Rattle.std.proofs.Common.{◌≡◌, ℕ, suc, ◌+◌, ◌-◌, ◌*◌, ◌%◌, ◌^◌, ◌<◌, ◌≤◌, sym, ap, ap₂, ◌∙◌, arith, le_of_lt, mod-lt, add_assoc}
+use Rattle.std.proofs.Common.{◌≡◌, ℕ, suc, ◌+◌, ◌-◌, ◌*◌, ◌%◌, ◌^◌, ◌<◌, ◌≤◌, sym, ap, ◌∙◌, arith, le_of_lt, mod-lt, add_assoc}
 use Rattle.std.proofs.Math.Nat.{add_comm, mul_comm, mul_assoc, mod-add-mod, add-mod-mod, mod-eq_of_lt, mod_self, mul-zero, zero-mod, pow-zero, pow-succ', add-mod, mul-add}
 use Rattle.std.proofs.lemmas.Nat.{mul-mod_first, mul-mod_second, mul-mod, pow-mod, pow-add}
 use Rattle.ffc_field.specs.Modular.{add_mod, sub_mod, mul_mod, neg_mod, pow_mod}
@@ -56,29 +56,10 @@ pow_mod-suc p a e = ap (λ n. n % p) (pow-succ' a e) ∙ sym (mul-mod_second a (
 pub pow_mod-add : (p a e f : ℕ) → pow_mod p a (e + f) ≡ mul_mod p (pow_mod p a e) (pow_mod p a f)
 pow_mod-add p a e f = ap (λ n. n % p) (pow-add a e f) ∙ mul-mod (a ^ e) (a ^ f) p
 
-pub pow_mod-mod : (p a e : ℕ) → pow_mod p (a % p) e ≡ pow_mod p a e
-pow_mod-mod p a e = pow-mod a e p
-
 pub pow_mod-mul : (p a e f : ℕ) → pow_mod p a (e * f) ≡ pow_mod p (pow_mod p a e) f
 pow_mod-mul p a e f = ap (λ n. n % p) (pow-mul a e f) ∙ sym (pow-mod (a ^ e) f p)
 
 -- ---- what follows, for terms over residues
-
-pub add_mod-zero_first : (p a : ℕ) → a < p → add_mod p 0 a ≡ a
-add_mod-zero_first p a below = add_mod-comm p 0 a ∙ add_mod-zero p a below
-
-pub add_mod-mod_first : (p a b : ℕ) → add_mod p (a % p) b ≡ add_mod p a b
-add_mod-mod_first p a b = mod-add-mod a p b
-
-pub add_mod-mod_second : (p a b : ℕ) → add_mod p a (b % p) ≡ add_mod p a b
-add_mod-mod_second p a b = add-mod-mod a b p
-
-pub add_mod-swap : (p a b c d : ℕ) →
-    add_mod p (add_mod p a b) (add_mod p c d) ≡ add_mod p (add_mod p a c) (add_mod p b d)
-add_mod-swap p a b c d =
-    sym (add-mod (a + b) (c + d) p)
-    ∙ ap (λ n. n % p) (let same : a + b + (c + d) ≡ a + c + (b + d) = omega arith in same)
-    ∙ add-mod (a + c) (b + d) p
 
 add_mod-back : (p x c : ℕ) → x < p → c ≤ p → x ≡ add_mod p (add_mod p x c) (neg_mod p c)
 add_mod-back p x c below within =
@@ -102,30 +83,6 @@ neg_mod-only p a b within below zero =
 pub neg_mod-zero : (p : ℕ) → neg_mod p 0 ≡ 0
 neg_mod-zero p = ap (λ n. n % p) (let whole : p - 0 ≡ p = omega arith in whole) ∙ mod_self p
 
-pub neg_mod-neg : (p a : ℕ) → a < p → neg_mod p (neg_mod p a) ≡ a
-neg_mod-neg p a below =
-    let neg_below : neg_mod p a < p = mod-lt (p - a) (omega arith)
-    in sym (neg_mod-only p (neg_mod p a) a (le_of_lt neg_below) below
-    (add_mod-comm p (neg_mod p a) a ∙ add_mod-neg p a (le_of_lt below)))
-
-pub neg_mod-add : (p a b : ℕ) → a < p → b < p → neg_mod p (add_mod p a b) ≡ add_mod p (neg_mod p a) (neg_mod p b)
-neg_mod-add p a b a_below b_below =
-    let positive : 0 < p = omega arith
-    in sym (neg_mod-only p (add_mod p a b) (add_mod p (neg_mod p a) (neg_mod p b))
-    (le_of_lt (mod-lt (a + b) positive)) (mod-lt (neg_mod p a + neg_mod p b) positive)
-    (add_mod-swap p a b (neg_mod p a) (neg_mod p b)
-    ∙ ap₂ (λ m n. add_mod p m n) (add_mod-neg p a (le_of_lt a_below)) (add_mod-neg p b (le_of_lt b_below))
-    ∙ add_mod-zero p 0 positive))
-
-pub mul_mod-neg : (p a b : ℕ) → b < p → mul_mod p a (neg_mod p b) ≡ neg_mod p (mul_mod p a b)
-mul_mod-neg p a b below =
-    let positive : 0 < p = omega arith
-    in neg_mod-only p (mul_mod p a b) (mul_mod p a (neg_mod p b))
-    (le_of_lt (mod-lt (a * b) positive)) (mod-lt (a * neg_mod p b) positive)
-    (sym (mul_mod-add p a b (neg_mod p b))
-    ∙ ap (λ n. mul_mod p a n) (add_mod-neg p b (le_of_lt below))
-    ∙ mul_mod-zero p a)
-
 pub sub_mod-self : (p a : ℕ) → a ≤ p → sub_mod p a a ≡ 0
 sub_mod-self p a within = sub_mod-add_neg p a a ∙ add_mod-neg p a within
 
@@ -147,19 +104,3 @@ mul_mod-zero_first p a = mul_mod-comm p 0 a ∙ mul_mod-zero p a
 
 pub mul_mod-mod_first : (p a b : ℕ) → mul_mod p (a % p) b ≡ mul_mod p a b
 mul_mod-mod_first p a b = mul-mod_first a b p
-
-pub mul_mod-mod_second : (p a b : ℕ) → mul_mod p a (b % p) ≡ mul_mod p a b
-mul_mod-mod_second p a b = mul-mod_second a b p
-
-pub mul_mod-add_first : (p a b c : ℕ) → mul_mod p (add_mod p a b) c ≡ add_mod p (mul_mod p a c) (mul_mod p b c)
-mul_mod-add_first p a b c =
-    mul_mod-comm p (add_mod p a b) c
-    ∙ mul_mod-add p c a b
-    ∙ ap₂ (λ m n. add_mod p m n) (mul_mod-comm p c a) (mul_mod-comm p c b)
-
-pub mul_mod-sub : (p a b c : ℕ) → c < p → mul_mod p a (sub_mod p b c) ≡ sub_mod p (mul_mod p a b) (mul_mod p a c)
-mul_mod-sub p a b c below =
-    ap (λ n. mul_mod p a n) (sub_mod-add_neg p b c)
-    ∙ mul_mod-add p a b (neg_mod p c)
-    ∙ ap (λ n. add_mod p (mul_mod p a b) n) (mul_mod-neg p a c below)
-    ∙ sym (sub_mod-add_neg p (mul_mod p a b) (mul_mod p a c))

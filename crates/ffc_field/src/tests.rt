@@ -480,7 +480,7 @@ impl ForField for Describe {
 
     ghost can_run = { λ _ _. Unit {0} };
 
-    ghost gives = { λ _ order told. told.0 ≡ order };
+    ghost gives = { λ _ order given. given.0 ≡ order };
 
     fn run<F: Field>(self) -> (u64, u64) {
         (F::ORDER, F::of(3).mul(F::of(5)).residue())

@@ -13,7 +13,7 @@ use Rattle.ffc_lex.specs.declared.tokens.Place.{Place}
 use Rattle.ffc_lex.specs.declared.tokens.Token.{Token as TokenRecord}
 use Rattle.ffc_lex.specs.declared.faults.LexFault.{LexFault}
 use Rattle.ffc_lex.specs.declared.faults.LexStop.{LexStop}
-use Rattle.ffc_lex.specs.declared.faults.LexStop.TheVariants.{Fault, Memory}
+use Rattle.ffc_lex.specs.declared.faults.LexStop.TheVariants.{Fault}
 use Rattle.ffc_lex.specs.declared.modes.Mode.{Mode}
 use Rattle.ffc_lex.specs.declared.modes.Mode.TheVariants as modes
 use Rattle.ffc_lex.specs.Limits.{max_bytes, max_depth}
@@ -191,10 +191,6 @@ stop_at stop code p q n text s e place h = subst (λ t. AfterStop t n text s) (s
 pub stop_after : (r : Result (Option (List TokenRecord)) LexStop) (stop : LexStop) (n : ℕ) (text : List ℕ) (s : Scan) → IsErrAnd r (λ e. e ≡ stop) → AfterStop stop n text s → AfterTake r n text s
 stop_after (Ok x) stop n text s e h = absurd e
 stop_after (Err other) stop n text s e h = subst (λ t. AfterStop t n text s) (sym e) h
-
--- out of memory, which changes nothing
-pub stop_memory : (stop : LexStop) (n : ℕ) (text : List ℕ) (s : Scan) → stop ≡ Memory → IsReady n text s → AfterStop stop n text s
-stop_memory stop n text s e h = subst (λ t. AfterStop t n text s) (sym e) h
 
 -- the state with one more open parenthesis, with one fewer, and without a form that was given
 abbrev pub deepened : Place → Scan → Scan

@@ -44,7 +44,7 @@ past_place b place = by_test (b == 10)
 module _ (text : List ℕ) where
   -- the token ends before so many bytes after the place, and begins to the left of it
   abbrev IsBehind : Place → ℕ → Token → Type 0
-  IsBehind place behind t = (t.start + t.length ≤ place.index + behind) × IsPlaceBefore t.line t.column place.line place.column
+  IsBehind place later t = (t.start + t.length ≤ place.index + later) × IsPlaceBefore t.line t.column place.line place.column
 
   abbrev IsOpened : List Token → Type 0
   IsOpened tokens = (first : Token) × (others : List Token) × (tokens ≡ first ∷ others) × (first.kind ≡ kinds.LeftParen)
@@ -52,19 +52,19 @@ module _ (text : List ℕ) where
   abbrev HasDepth : ℕ → List Token → Type 0
   HasDepth depth tokens = ((depth ≡ 0) × (tokens ≡ [])) ⊎ ((0 < depth) × IsOpened tokens)
 
-  pub record IsPlaced (place : Place) (behind : ℕ) (o : Open) : Type 0 where
+  pub record IsPlaced (place : Place) (later : ℕ) (o : Open) : Type 0 where
     pub order : AllPairs IsLeftOf o.tokens
-    pub behind_it : All (IsBehind place behind) o.tokens
+    pub behind_it : All (IsBehind place later) o.tokens
     pub depth : HasDepth o.depth o.tokens
 
   behind_next : (c : ℕ) (place : Place) (k n : ℕ) (t : Token) → k ≤ n + 1 → IsBehind place k t → IsBehind (past c place) n t
   behind_next c place k n t le h =
       (let end : t.start + t.length ≤ place.index + k = h.0 in omega arith, place_trans t.line t.column place.line place.column (past c place).line (past c place).column h.1 (past_place c place))
 
-  one_further : (c : ℕ) (place : Place) (behind : ℕ) (o : Open) → IsPlaced place (suc behind) o → IsPlaced (past c place) behind o
-  one_further c place behind o h = record {
+  one_further : (c : ℕ) (place : Place) (later : ℕ) (o : Open) → IsPlaced place (suc later) o → IsPlaced (past c place) later o
+  one_further c place later o h = record {
     order = h.order;
-    behind_it = All-weaker (IsBehind place (suc behind)) (IsBehind (past c place) behind) (λ t g. behind_next c place (suc behind) behind t (omega arith) g) o.tokens h.behind_it;
+    behind_it = All-weaker (IsBehind place (suc later)) (IsBehind (past c place) later) (λ t g. behind_next c place (suc later) later t (omega arith) g) o.tokens h.behind_it;
     depth = h.depth;
   }
 
@@ -174,10 +174,10 @@ module _ (text : List ℕ) where
   abbrev AllInOrder : Reading → Type 0
   AllInOrder reading = All (IsInOrder text) reading.forms
 
-  read_good : (bytes : List ℕ) (behind : ℕ) (place : Place) (o : Open) → place.index + length bytes ≡ length text → IsPlaced place behind o → AllInOrder (read bytes behind place o)
+  read_good : (bytes : List ℕ) (later : ℕ) (place : Place) (o : Open) → place.index + length bytes ≡ length text → IsPlaced place later o → AllInOrder (read bytes later place o)
   unfolding read
-  read_good [] behind place o e h = All-nil (IsInOrder text)
-  read_good (c ∷ cs) (suc behind) place o e h = read_good cs behind (past c place) o (omega arith) (one_further c place behind o h)
+  read_good [] later place o e h = All-nil (IsInOrder text)
+  read_good (c ∷ cs) (suc later) place o e h = read_good cs later (past c place) o (omega arith) (one_further c place later o h)
   read_good (c ∷ cs) zero place o e h =
       let rest : place.index + 1 + length cs ≡ length text = omega arith in
       by_next (next_at (c ∷ cs) place o) (next_good c (c ∷ cs) place o (omega arith) h) (λ n left g. read_good cs n (past c place) left rest g)

@@ -25,7 +25,7 @@ const MAX_DEAD: usize = 4096;
 pub struct Lexer {
     alloc: Global,
     /// The text so far.
-    told: GhostText,
+    input: GhostText,
     /// The text without the bytes that were dropped.
     window: Vec<u8>,
     scanner: Scanner,
@@ -41,9 +41,9 @@ impl Model for Lexer {
 
     ghost Value = { Lexing };
 
-    ghost view = { λ l. record { text = l.told.bytes; given = l.given; fault = l.fault; finished = l.finished } };
+    ghost view = { λ l. record { text = l.input.bytes; given = l.given; fault = l.fault; finished = l.finished } };
 
-    ghost invariant = { λ l. IsKept l.told.bytes l.given l.fault l.scanner l.window.items l.form.bytes.items
+    ghost invariant = { λ l. IsKept l.input.bytes l.given l.fault l.scanner l.window.items l.form.bytes.items
         l.form.start l.form.end };
 }
 
@@ -54,7 +54,7 @@ impl Lexer {
     {
         Lexer {
             alloc,
-            told: GhostText::new(),
+            input: GhostText::new(),
             window: Vec::new(alloc),
             scanner: Scanner::new(alloc),
             given: 0,
@@ -84,7 +84,7 @@ impl Lexer {
         let taken = piece.len().min(MAX_BYTES as usize + 1 - length);
         let piece = &piece[..taken];
         self.window.extend_from_slice(piece)?;
-        self.told.append(piece);
+        self.input.append(piece);
         Ok(())
     }
 

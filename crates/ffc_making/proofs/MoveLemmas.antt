@@ -54,9 +54,3 @@ moved_all stack locals before kept ids whole count all more last m =
     nothing : (xs : List ℕ) → length xs ≡ 0 → xs ≡ []
     nothing [] e = refl
     nothing (x ∷ xs) e = absurd (omega (arith, e))
-
-pub move_none : (stack locals before kept ids whole : List ℕ) (count all : ℕ) → count < all → AreLast whole kept ids all → stack ≡ [] → IsMoving stack locals before kept ids count → ⊥
-move_none stack locals before kept ids whole count all less last e m =
-    let some = not_moved stack locals before kept ids whole count all less last m in
-    let short : length kept + length m.left ≡ 0 = sym (length-append kept m.left) ∙ ap length (sym m.stack_is ∙ e) in
-    omega (arith, short, some)

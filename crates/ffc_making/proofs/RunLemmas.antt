@@ -320,9 +320,9 @@ module _ (first : List Node) (symbols : Env Meaning) (cs : List Sort) (count : �
     run_terms k (AndTerm t ts) locals (s ∷ ss) env nodes before stack base calls n ops rest are sounds fine further low g =
         let m = made env nodes t in
         let others = all_made env m.nodes ts in
-        let behind = by_stack (stack ++ m.id ∷ others.ids) ((stack ++ m.id ∷ []) ++ others.ids) rest base others.nodes calls _ (sym (append_assoc stack (m.id ∷ []) others.ids)) g in
+        let later = by_stack (stack ++ m.id ∷ others.ids) ((stack ++ m.id ∷ []) ++ others.ids) rest base others.nodes calls _ (sym (append_assoc stack (m.id ∷ []) others.ids)) g in
         let runs = run_terms k ts locals ss env m.nodes before (stack ++ m.id ∷ []) base calls are.2 are.1 rest are.4 sounds.1 (fine_one t locals s env nodes sounds.0 fine)
-        (extends_further first nodes m.nodes further (made_extends t env nodes)) low behind in
+        (extends_further first nodes m.nodes further (made_extends t env nodes)) low later in
         let heavy : weights (AndTerm t ts) ≡ weight t + weights ts = refl in
         loosen (k + 2 * weights ts + 2 * weight t) (k + 2 * weights (AndTerm t ts)) _ _ (omega (arith, heavy)) (by_ops (ops ++ rest) (are.0 ++ (are.1 ++ rest)) base nodes calls stack _ (ap (λ o. o ++ rest) are.6 ∙ append_assoc are.0 are.1 rest)
         (run_term (k + 2 * weights ts) t locals s env nodes before stack base calls are.0 (are.1 ++ rest) are.3 sounds.0 fine further low runs))

@@ -1,8 +1,6 @@
 -- The laws of divisor masks.
-use Rattle.std.proofs.Common.{◌≡◌, ◌≢◌, ◌⊎◌, ℕ, suc, ◌+◌, ◌-◌, ◌%◌, ◌^◌, ◌<◌, ◌≤◌, min, max, [], ◌∷◌, ◌++◌, refl, sym, ap, ◌∙◌, inl, inr, arith, mod-lt}
+use Rattle.std.proofs.Common.{◌≡◌, ◌≢◌, ◌⊎◌, ℕ, suc, ◌+◌, ◌-◌, ◌%◌, ◌^◌, ◌<◌, ◌≤◌, min, max, [], ◌∷◌, ◌++◌, refl, sym, ap, ◌∙◌, inl, inr, arith}
 use Rattle.std.proofs.lemmas.Bool.{cases_eq, cases_lt}
-use Rattle.std.proofs.lemmas.Nat.{or_lt}
-use Rattle.std.proofs.Math.Pow.{pow-lt}
 use Rattle.std.proofs.lemmas.Nat.Bits.{same_from_bits, bit_at_or, bit_at_and, bit_at_not, bit_at-zero, bit_at-lt, bit_at-pow_same, bit_at-pow_other, bit_at_above}
 use Rattle.std.specs.Int.{bit_at, bit_not, w32}
 use Rattle.std.specs.Int.RustNames.{bit_or}
@@ -39,13 +37,6 @@ mask-push [] p = or_none (2 ^ (p.0 % 32)) ∙ sym (or_first_none (2 ^ (p.0 % 32)
 mask-push (q ∷ m) p =
     ap (bit_or (2 ^ (q.0 % 32))) (mask-push m p) ∙ sym (or_three (2 ^ (q.0 % 32)) (mask_of m) (2 ^ (p.0 % 32)))
 
-pow_fits : (i : ℕ) → i < 32 → 2 ^ i < 2 ^ 32
-pow_fits i h = pow-lt h
-
-pub mask_fits : (m : Monomial) → mask_of m < 2 ^ 32
-mask_fits [] = omega arith
-mask_fits (p ∷ m) = or_lt 32 (2 ^ (p.0 % 32)) (mask_of m) (pow_fits (p.0 % 32) (mod-lt p.0 (omega arith))) (mask_fits m)
-
 -- ---- which bits are set
 
 at_most_one : (x y : ℕ) → x ≡ 1 → y < 2 → max x y ≡ 1
@@ -54,8 +45,8 @@ at_most_one x y e h = omega arith
 one_not_none : (x : ℕ) → x ≡ 1 → x ≡ 0 → ⊥
 one_not_none x e f = omega arith
 
-behind : (low : ℕ) (p : ℕ × ℕ) (m : Monomial) {i : ℕ} → IsMonomialFrom low (p ∷ m) → (x : ℕ) × (exponent m x ≢ 0) × (x % 32 ≡ i) → (x : ℕ) × (exponent (p ∷ m) x ≢ 0) × (x % 32 ≡ i)
-behind low p m v (x, h, e) =
+after : (low : ℕ) (p : ℕ × ℕ) (m : Monomial) {i : ℕ} → IsMonomialFrom low (p ∷ m) → (x : ℕ) × (exponent m x ≢ 0) × (x % 32 ≡ i) → (x : ℕ) × (exponent (p ∷ m) x ≢ 0) × (x % 32 ≡ i)
+after low p m v (x, h, e) =
     elim (cases_eq x p.0) [
       | inl here ↦ absurd (h (exponent-below (suc p.0) m x v.2 (omega arith)))
       | inr there ↦ (x, (λ none. h (sym (exponent-there p m x there) ∙ none)), e)
@@ -88,7 +79,7 @@ variable_of_bit low [] i v h = absurd (h (bit_at-zero i))
 variable_of_bit low (p ∷ m) i v h =
     elim (cases_eq (p.0 % 32) i) [
       | inl here ↦ (p.0, (λ none. omega (arith, exponent-here p m p.0 refl, none, v.1)), here)
-      | inr there ↦ behind low p m v (variable_of_bit (suc p.0) m i v.2 (λ none. h (bit_of_others p m i there ∙ none)))
+      | inr there ↦ after low p m v (variable_of_bit (suc p.0) m i v.2 (λ none. h (bit_of_others p m i there ∙ none)))
     ]
 
 -- ---- masks of products, least common multiples and multiples

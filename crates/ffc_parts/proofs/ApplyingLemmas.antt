@@ -106,13 +106,6 @@ one_of [] h = absurd (omega arith)
 one_of (a ∷ []) h = refl
 one_of (a ∷ b ∷ ids) h = absurd (omega arith)
 
-pub three_of : (ids : List ℕ) → length ids ≡ 3 → ids ≡ get_or ids 0 0 ∷ get_or ids 1 0 ∷ get_or ids 2 0 ∷ []
-three_of [] h = absurd (omega arith)
-three_of (a ∷ []) h = absurd (omega arith)
-three_of (a ∷ b ∷ []) h = absurd (omega arith)
-three_of (a ∷ b ∷ c ∷ []) h = refl
-three_of (a ∷ b ∷ c ∷ d ∷ ids) h = absurd (omega arith)
-
 pub same_length : (ns : List Node) (ss : List Sort) (ids : List ℕ) → AreSortsAt ns ss ids → length ids ≡ length ss
 same_length ns [] [] h = refl
 same_length ns [] (a ∷ ids) h = absurd h

@@ -16,7 +16,7 @@ use Rattle.ffc_smt.specs.Making.{Made, interned, equality, equality_of, differen
 use Rattle.ffc_smt.specs.Asking.{IsSortAt}
 use Rattle.ffc_smt.proofs.Extends.{Extends, longer, sort_stays, interned_at, interned_extends, exclusive_extends, implication_extends, extends_same, extends_further, neighbours_extend, differences_from_extend, differences_extend}
 use Rattle.ffc_smt.proofs.InterningLemmas.{interned_absent, interning_is_one}
-use Rattle.ffc_parts.specs.Growing.{Grows, IsLeft, Makes, AreAlike, AreAllAt, AreDone, AreLeft, IsGoing, implied}
+use Rattle.ffc_parts.specs.Growing.{Grows, IsLeft, Makes, AreAllAt, AreDone, AreLeft, IsGoing, implied}
 
 abbrev the_all : List Node → List ℕ → AllMade
 the_all nodes ids = record { nodes = nodes; ids = ids }
@@ -64,14 +64,8 @@ left_wider old mid new part whole cause g further h = record {
   grows = grows_further old mid new g h.grows;
 }
 
-pub left_memory : (old new : List Node) (whole : Made) (cause : TermStop) → Grows old new → cause ≡ stop.Memory → IsLeft old new whole cause
-left_memory old new whole cause g e = record { full = λ c. cc; grows = g }
-
 pub sort_at_stays : (old new : List Node) (s : Sort) (a : ℕ) → Grows old new → IsSortAt old s a → IsSortAt new s a
 sort_at_stays old new s a g h = (let long = longer old new (extended old new g) in omega (arith, h.0, long), sort_stays old new a (extended old new g) h.0 ∙ h.1)
-
-pub alike_stays : (old new : List Node) (a b : ℕ) → Grows old new → AreAlike old a b → AreAlike new a b
-alike_stays old new a b g h = record { sort = h.sort; first = sort_at_stays old new h.sort a g h.first; second = sort_at_stays old new h.sort b g h.second }
 
 -- Nodes of Boolean sort
 
@@ -86,10 +80,6 @@ equality_by_sort (sort.Field p) ns new a b id e = bool_at ns new (node.Eq a b) i
 pub equality_at : (ns new : List Node) (a b id : ℕ) → equality ns a b ≡ record { nodes = new; id = id } → IsSortAt new sort.Bool id
 unfolding equality
 equality_at ns new a b id e = equality_by_sort (sort_at ns a) ns new a b id e
-
-pub difference_at : (ns new : List Node) (a b id : ℕ) → difference ns a b ≡ record { nodes = new; id = id } → IsSortAt new sort.Bool id
-unfolding difference
-difference_at ns new a b id e = let m = equality ns a b in bool_at m.nodes new (node.Not m.id) id e (λ ss. refl)
 
 pub implication_at : (ns new : List Node) (a b id : ℕ) → implication ns a b ≡ record { nodes = new; id = id } → IsSortAt new sort.Bool id
 unfolding implication
@@ -165,9 +155,6 @@ implied_front old (a ∷ rest) (suc k) h =
     extends_further (implied old (drop k rest)).nodes (implied old rest).nodes (implied old (a ∷ rest)).nodes (implied_front old rest k (omega arith)) (implied_tail old a rest (omega arith))
 
 -- Several nodes
-
-pub going_begins : (ns : List Node) (wanted : AllMade) (before : List ℕ) → IsTable ns → IsGoing ns ns wanted wanted before before
-going_begins ns wanted before table = record { ids = []; whole = refl; listed = sym (append-nil before); grows = grows_same ns table }
 
 pub going_more : (old mid new : List Node) (wanted now next : AllMade) (before so_far after more : List ℕ) → IsGoing old mid wanted now before so_far → Grows mid new
     → now ≡ record { nodes = next.nodes; ids = more ++ next.ids } → after ≡ so_far ++ more → IsGoing old new wanted next before after

@@ -73,9 +73,6 @@ zero_term p c m n e =
       | inr there ↦ ap (λ k. k % p) (written-off n (c, m) [] there) ∙ coefficient-none p n
     ]
 
-pub PassesDegree-zero_term : (p limit c : ℕ) (m : Monomial) (b : Terms) → c ≡ 0 → PassesDegree p limit ((c, m) ∷ []) b → ⊥
-PassesDegree-zero_term p limit c m b e (k, n, hk, hn, over) = hk (zero_term p c m k e)
-
 -- the test for length 0 is the test for zero
 pub zero_test : (ts : Terms) (n : ℕ) → n ≡ length ts → (eqb n 0 ≡ true → ts ≡ []) × (ts ≡ [] → eqb n 0 ≡ true)
 zero_test [] n e = (λ _. refl, λ _. eq-eqb n 0 e)

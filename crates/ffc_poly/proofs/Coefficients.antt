@@ -35,12 +35,6 @@ pub PassesDegree-within : (p limit d e : ℕ) (a b : Terms) → AreWithin d a �
 PassesDegree-within p limit d e a b v w h (m, n, hm, hn, over) =
     omega (arith, degree_within p d a m v hm, degree_within p e b n w hn)
 
-pub PassesDegree-nothing_left : (p limit : ℕ) (b : Terms) → PassesDegree p limit [] b → ⊥
-PassesDegree-nothing_left p limit b (m, n, hm, hn, over) = hm (coefficient-none p m)
-
-pub PassesDegree-nothing_right : (p limit : ℕ) (a : Terms) → PassesDegree p limit a [] → ⊥
-PassesDegree-nothing_right p limit a (m, n, hm, hn, over) = hn (coefficient-none p n)
-
 pub RowFits-within : (limit d : ℕ) (m : Monomial) (ts : Terms) → AreWithin d ts → degree m + d ≤ limit → RowFits limit m ts
 RowFits-within limit d m [] w h = tt
 RowFits-within limit d m (t ∷ ts) w h = (omega (arith, w.0), RowFits-within limit d m ts w.1 h)
@@ -63,10 +57,6 @@ pub IsOrdered-at : (p : ℕ) (cmp : Monomial → Monomial → Ordering) (limit :
 IsOrdered-at p cmp limit [] i h g = absurd (omega arith)
 IsOrdered-at p cmp limit (t ∷ a) zero h g = (h.0, h.1)
 IsOrdered-at p cmp limit (t ∷ a) (suc i) h g = IsOrdered-at p cmp limit a i h.5 (omega arith)
-
-pub ProductFits-nothing : (limit : ℕ) (a : Terms) → ProductFits limit a []
-ProductFits-nothing limit [] = tt
-ProductFits-nothing limit (t ∷ a) = (tt, ProductFits-nothing limit a)
 
 IsAbove-front : (cmp : Monomial → Monomial → Ordering) (m : Monomial) (x y : Terms) → IsAbove cmp m (x ++ y) → IsAbove cmp m x
 IsAbove-front cmp m [] y h = tt

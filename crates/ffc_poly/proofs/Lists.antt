@@ -1,9 +1,8 @@
 -- Lists of terms over the elements of a field, seen as terms of residues.
-use Rattle.std.proofs.Common.{◌≡◌, ℕ, zero, suc, ◌+◌, ◌<◌, ◌≤◌, List, [], ◌∷◌, ◌++◌, length, get_or, take, drop, refl, sym, ap, ap₂, ◌∙◌, subst, inl, inr, arith, append_assoc, drop-cons, add-one, take-append-drop}
-use Rattle.std.specs.declared.cmp.Ordering.{Ordering}
+use Rattle.std.proofs.Common.{◌≡◌, ℕ, zero, suc, ◌+◌, ◌<◌, ◌≤◌, List, [], ◌∷◌, ◌++◌, length, get_or, take, drop, refl, sym, ap, ap₂, ◌∙◌, inl, inr, arith, append_assoc, drop-cons, add-one, take-append-drop}
 use Rattle.ffc_ring.specs.Monomial.{Monomial, degree}
 use Rattle.ffc_ring.specs.Polynomial.{Terms}
-use Rattle.ffc_poly.specs.Ordered.{residues, IsOrdered, AreWithin, HasDegree}
+use Rattle.ffc_poly.specs.Ordered.{residues, AreWithin, HasDegree}
 
 -- an element pushed is in front of what is left
 pub pushed : {A : Type 0} (out out' : List A) (x : A) (left all : List A) → out' ≡ out ++ x ∷ [] → out ++ (x ∷ left) ≡ all → out' ++ left ≡ all
@@ -26,11 +25,6 @@ module _ {F : Type 0} (value : F → ℕ) where
   pub residues-push : (out out' : List (F × Monomial)) (k : F) (m : Monomial) (r : ℕ) (n : Monomial) → out' ≡ out ++ (k, m) ∷ [] → value k ≡ r → m ≡ n → residues value out' ≡ residues value out ++ (r, n) ∷ []
   residues-push out out' k m r n e v w =
       ap (residues value) e ∙ residues-append out ((k, m) ∷ []) ∙ ap₂ (λ (x : ℕ) (y : Monomial). residues value out ++ (x, y) ∷ []) v w
-
--- what is after the first term
-pub residues-rest : {F : Type 0} (value : F → ℕ) (p : ℕ) (cmp : Monomial → Monomial → Ordering) (limit : ℕ) (ts rest : List (F × Monomial)) (t : F × Monomial) → ts ≡ t ∷ rest → IsOrdered p cmp limit (residues value ts) → IsOrdered p cmp limit (residues value rest)
-residues-rest value p cmp limit ts rest t is h =
-    let first : IsOrdered p cmp limit (residues value (t ∷ rest)) = subst (λ k. IsOrdered p cmp limit (residues value k)) is h in first.5
 
 -- one element more is taken
 pub taken_at : {A : Type 0} (xs : List A) (i : ℕ) (x : A) → i < length xs → x ≡ get_or xs i x → take (i + 1) xs ≡ take i xs ++ x ∷ []

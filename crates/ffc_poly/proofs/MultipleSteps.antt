@@ -44,10 +44,6 @@ multiplied-one p c m (t ∷ b) positive =
 pub row_at : (m : Monomial) (j : ℕ) (b : Terms) (row : List Monomial) → j < length b → row ≡ next_product m (drop j b) → get_or row 0 [] ≡ mono_mul m (get_or b j (0, [])).1
 row_at m j b row h e = ap (λ r. get_or r 0 []) (e ∙ ap (next_product m) (drop_more b j (0, []) h))
 
-pub row_is_there : (m : Monomial) (j : ℕ) (b : Terms) (row : List Monomial) → j < length b → row ≡ next_product m (drop j b) → 0 < length row
-row_is_there m j b row h e =
-    let one : length row ≡ 1 = ap length (e ∙ ap (next_product m) (drop_more b j (0, []) h)) in omega arith
-
 -- the rest of the products fits
 pub RowFits-rest : (limit : ℕ) (m : Monomial) (j : ℕ) (b : Terms) → j < length b → RowFits limit m (drop j b) → RowFits limit m (drop (j + 1) b)
 RowFits-rest limit m j b h fits = (subst (RowFits limit m) (drop_more b j (0, []) h) fits).1

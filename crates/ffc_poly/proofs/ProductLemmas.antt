@@ -1,10 +1,9 @@
 -- Products with a term, and halves of a product and of a sum.
-use Rattle.std.proofs.Common.{◌≡◌, ◌≢◌, ℕ, ◌+◌, ◌*◌, ◌%◌, ◌<◌, Bool, true, false, cond, [], ◌∷◌, ◌++◌, refl, sym, ap, ap₂, ◌∙◌, inl, inr, arith, mod-lt, eq-eqb, ne_eqb, one-mul}
+use Rattle.std.proofs.Common.{◌≡◌, ◌≢◌, ℕ, ◌+◌, ◌*◌, ◌%◌, ◌<◌, Bool, true, false, cond, [], ◌∷◌, ◌++◌, refl, ap, ap₂, ◌∙◌, arith, mod-lt, one-mul}
 use Rattle.std.proofs.lemmas.Nat.{mul-mod_first}
-use Rattle.std.proofs.lemmas.Bool.{cases_eq}
 use Rattle.std.specs.declared.cmp.Ordering.{Ordering}
 use Rattle.ffc_field.specs.Modular.{mul_mod, IsPrime}
-use Rattle.ffc_ring.specs.Monomial.{Monomial, IsMonomial, mono_mul, same_monomial}
+use Rattle.ffc_ring.specs.Monomial.{Monomial, IsMonomial, mono_mul}
 use Rattle.ffc_ring.specs.Polynomial.{Terms, written, SamePolynomial, term_product, scaled}
 use Rattle.ffc_ring.proofs.MonomialLemmas.{mono_mul_comm, IsMonomial-mono_mul, degree-mono_mul}
 use Rattle.ffc_ring.proofs.PolynomialLemmas.{weighted, weighted-term_product, SamePolynomial-from_weighted, sum_alike, same_sums}
@@ -58,10 +57,3 @@ SamePolynomial-halves p r x y front back all h f b whole m =
 nothing : (b : Bool) (k : ℕ) → k ≡ 0 → cond b k 0 + 0 ≡ 0
 nothing true k e = omega arith
 nothing false k e = refl
-
-pub SamePolynomial-kept : (p k : ℕ) (m : Monomial) → SamePolynomial p (kept k m []) ((k, m) ∷ [])
-SamePolynomial-kept p k m =
-    elim (cases_eq k 0) [
-      | inl zero_k ↦ rw (eq-eqb k 0 zero_k) (λ n. ap (λ j. j % p) (sym (nothing (same_monomial m n) k zero_k)))
-      | inr other ↦ rw (ne_eqb k 0 other) (λ n. refl)
-    ]

@@ -116,12 +116,12 @@ constant_listed ns pairs p formed are differ has =
 -- Values of constants' nodes
 
 -- a value of a constant's sort is one of its values
-fits_sort : (told : List Sort) (n : Node) (v : Value) → is_constant n ≡ true → IsOfSort (sort_of_node told n) v → IsValueFor n v
-fits_sort told (BoolConst k) (value.Bool b) const of = tt
-fits_sort told (BoolConst k) (value.Field m) const of = of
-fits_sort told (FieldConst k p) (value.Bool b) const of = of
-fits_sort told (FieldConst k p) (value.Field m) const of = of
-fits_sort told _ v const of = absurd (false≢true const)
+fits_sort : (known : List Sort) (n : Node) (v : Value) → is_constant n ≡ true → IsOfSort (sort_of_node known n) v → IsValueFor n v
+fits_sort known (BoolConst k) (value.Bool b) const of = tt
+fits_sort known (BoolConst k) (value.Field m) const of = of
+fits_sort known (FieldConst k p) (value.Bool b) const of = of
+fits_sort known (FieldConst k p) (value.Field m) const of = of
+fits_sort known _ v const of = absurd (false≢true const)
 
 -- the value of a constant's node is one of its values
 pub value_fits : (ns : List Node) (A : List Value) (id : ℕ) → IsTable ns → IsConstantAt ns id → IsValueFor (node_at ns id) (value_at ns A id)
@@ -143,23 +143,23 @@ number_fits (FieldConst k p) (value.Bool b) fits = absurd fits
 number_fits _ v fits = absurd fits
 
 -- a constant that is given a value of its own has it
-given_value : (p : ℕ) (B told : List Value) (n : Node) (v : Value) → IsValueFor n v → value_in B (number_of_constant n) ≡ value_of_number n (number_of_value v) → value_of_node p B told n ≡ v
-given_value p B told (BoolConst k) (value.Bool true) fits e = ap (λ w. value.Bool (truth w)) e
-given_value p B told (BoolConst k) (value.Bool false) fits e = ap (λ w. value.Bool (truth w)) e
-given_value p B told (FieldConst k q) (value.Field m) fits e =
+given_value : (p : ℕ) (B known : List Value) (n : Node) (v : Value) → IsValueFor n v → value_in B (number_of_constant n) ≡ value_of_number n (number_of_value v) → value_of_node p B known n ≡ v
+given_value p B known (BoolConst k) (value.Bool true) fits e = ap (λ w. value.Bool (truth w)) e
+given_value p B known (BoolConst k) (value.Bool false) fits e = ap (λ w. value.Bool (truth w)) e
+given_value p B known (FieldConst k q) (value.Field m) fits e =
     ap (λ w. value.Field (cond (ltb (residue w) q) (residue w) 0)) e ∙ ap (λ b. value.Field (cond b m 0)) (lt-ltb m q fits)
-given_value p B told (BoolConst k) (value.Field m) fits e = absurd fits
-given_value p B told (FieldConst k q) (value.Bool b) fits e = absurd fits
-given_value p B told _ v fits e = absurd fits
+given_value p B known (BoolConst k) (value.Field m) fits e = absurd fits
+given_value p B known (FieldConst k q) (value.Bool b) fits e = absurd fits
+given_value p B known _ v fits e = absurd fits
 
 -- each of these nodes with its value as a number
 abbrev pub values_listed : List Node → List Value → List ℕ → List (ℕ × ℕ)
 values_listed ns A ids = map (λ id. (id, number_of_value (value_at ns A id))) ids
 
-node_agrees : (p : ℕ) (A B told other : List Value) (n : Node) → is_constant n ≡ true → value_in A (number_of_constant n) ≡ value_in B (number_of_constant n) → value_of_node p A told n ≡ value_of_node p B other n
-node_agrees p A B told other (BoolConst k) const same = ap (λ v. value.Bool (truth v)) same
-node_agrees p A B told other (FieldConst k q) const same = ap (λ v. value.Field (cond (ltb (residue v) q) (residue v) 0)) same
-node_agrees p A B told other _ const same = absurd (false≢true const)
+node_agrees : (p : ℕ) (A B known other : List Value) (n : Node) → is_constant n ≡ true → value_in A (number_of_constant n) ≡ value_in B (number_of_constant n) → value_of_node p A known n ≡ value_of_node p B other n
+node_agrees p A B known other (BoolConst k) const same = ap (λ v. value.Bool (truth v)) same
+node_agrees p A B known other (FieldConst k q) const same = ap (λ v. value.Field (cond (ltb (residue v) q) (residue v) 0)) same
+node_agrees p A B known other _ const same = absurd (false≢true const)
 
 -- assignments that give a constant the same give its node the same value
 pub constant_agrees : (ns : List Node) (A B : List Value) (id : ℕ) → IsTable ns → IsConstantAt ns id → value_of_constant ns A id ≡ value_of_constant ns B id → value_at ns A id ≡ value_at ns B id

@@ -74,8 +74,8 @@ end_counts : (wanted : ℕ) (p : Progress) (rest : List ℕ) → IsComplete (end
 unfolding end_at IsComplete
 end_counts wanted p rest is = by_size (nat_lt MAX_BYTES (length rest)) (is_complete p.place p.complete wanted) refl is
   where
-    by_size : (long behind : Bool) → is_complete p.place p.complete wanted ≡ behind → IsComplete (cond long (cut_end (next_at wanted p rest) p) (cond behind (end_after rest p) (Open (fault_at 4 p)))) → p.complete ≡ wanted
-    by_size true behind e is = absurd (cut_never (next_at wanted p rest) p is)
+    by_size : (long beyond : Bool) → is_complete p.place p.complete wanted ≡ beyond → IsComplete (cond long (cut_end (next_at wanted p rest) p) (cond beyond (end_after rest p) (Open (fault_at 4 p)))) → p.complete ≡ wanted
+    by_size true beyond e is = absurd (cut_never (next_at wanted p rest) p is)
     by_size false true e is = behind_all p.place p.complete wanted e
     by_size false false e is = absurd is
 

@@ -1,6 +1,6 @@
 -- Assignments of constants: the one that lists values, and the one of each number. In the assignment of a number the
 -- constants have its digits, the least first, each below its constant's number of values.
-use Rattle.std.specs.Prelude.{ℕ, ◌<◌, ◌/◌, ◌%◌, false, Bool, ◌==◌, if◌then◌else◌, List, [], ◌∷◌, map, All}
+use Rattle.std.specs.Prelude.{ℕ, ◌<◌, ◌/◌, ◌%◌, false, Bool, ◌==◌, if◌then◌else◌, List, [], ◌∷◌, map}
 use Rattle.std.specs.List.{list_any, list_all, range_with_len}
 use Rattle.ffc_term.specs.declared.node.Node.{Node}
 use Rattle.ffc_term.specs.declared.node.Node.TheVariants.{BoolConst, FieldConst}
@@ -62,7 +62,3 @@ abbrev pub IsValueFor : Node → Value → Type 0
 IsValueFor (BoolConst k) (value.Bool b) = Unit {0}
 IsValueFor (FieldConst k p) (value.Field n) = n < p
 IsValueFor _ _ = ⊥
-
--- An assignment fits constants where it gives each of them one of its values.
-abbrev pub FitsConstants : List Node → List ℕ → List Value → Type 0
-FitsConstants nodes ids assignment = All (λ id. IsValueFor (node_at nodes id) (value_of_constant nodes assignment id)) ids

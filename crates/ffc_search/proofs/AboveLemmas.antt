@@ -106,9 +106,6 @@ above_ends base now down above =
 
 -- Steps of a search
 
-pub stays_same : {F O : Type 0} (floor : ℕ) (old new : Stack F O) → new ≡ old → StaysAbove floor old new
-stays_same floor old new same = λ base deep above. subst (IsAbove base) (sym same) above
-
 pub stays_both : {F O : Type 0} (floor : ℕ) (a b c : Stack F O) → StaysAbove floor a b → StaysAbove floor b c → StaysAbove floor a c
 stays_both floor a b c first second = λ base deep above. second base deep (first base deep above)
 

@@ -138,9 +138,6 @@ each_last P (y ∷ xs) x all last = (all.0, each_last P xs x all.1 last)
 pub each_more : {A : Type 0} (P : A → Type 0) (xs : List A) (i : ℕ) (x : A) → i < length xs → x ≡ get_or xs i x → AllByRecursion P (take i xs) → P x → AllByRecursion P (take (i + 1) xs)
 each_more P xs i x h at all here = subst (AllByRecursion P) (sym (taken_at xs i x h at)) (each_last P (take i xs) x all here)
 
-pub each_whole : {A : Type 0} (P : A → Type 0) (xs : List A) (i : ℕ) → i ≡ length xs → AllByRecursion P (take i xs) → AllByRecursion P xs
-each_whole P xs i e all = subst (AllByRecursion P) (ap (λ n. take n xs) e ∙ take-length xs) all
-
 each_weaker : {A : Type 0} (P Q : A → Type 0) → ((x : A) → P x → Q x) → (xs : List A) → AllByRecursion P xs → AllByRecursion Q xs
 each_weaker P Q f [] all = tt
 each_weaker P Q f (x ∷ xs) all = (f x all.0, each_weaker P Q f xs all.1)

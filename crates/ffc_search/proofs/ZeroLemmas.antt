@@ -78,9 +78,3 @@ point_set value (x ∷ xs) (suc k) a (suc y) h = elim (cases_eq y k) [
   | inl here ↦ point_set value xs k a y (omega arith) ∙ (cond-true _ _ _ (eq-eqb y k here) ∙ sym (cond-true _ _ _ (eq-eqb (suc y) (suc k) (ap suc here))))
   | inr there ↦ point_set value xs k a y (omega arith) ∙ (cond-false _ _ _ (ne_eqb y k there) ∙ sym (cond-false _ _ _ (ne_eqb (suc y) (suc k) (omega arith))))
 ]
-
--- the point of the lists from a place on
-pub point_from : {F : Type 0} (value : F → ℕ) (vars : List ℕ) (values : List F) (i v : ℕ) (a : F) (x : ℕ) → i < length vars → length values ≡ length vars → v ≡ get_or vars i v → a ≡ get_or values i a
-    → point_at (drop i vars) (map value (drop i values)) x ≡ (if x == v then value a else point_at (drop (i + 1) vars) (map value (drop (i + 1) values)) x)
-point_from value vars values i v a x h same var val =
-    ap₂ (λ vs bs. point_at vs (map value bs) x) (left_at vars i v h var) (left_at values i a (omega arith) val)

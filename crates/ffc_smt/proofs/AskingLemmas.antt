@@ -27,12 +27,12 @@ one_step : (ns : List Node) (n : Node) → AreSteps ns (interned ns n).nodes (as
 one_step ns n = All-cons (IsStep ns (interned ns n).nodes) (ask ns n) [] (extends_same ns, extends_same (interned ns n).nodes) (All-nil (IsStep ns (interned ns n).nodes))
 
 wider : (start first last final : List Node) (asks : List Ask) → Extends start first → Extends last final → AreSteps first last asks → AreSteps start final asks
-wider start first last final asks before behind h =
-    All-weaker (IsStep first last) (IsStep start final) (λ k g. (extends_further start first k.before before g.0, extends_further (interned k.before k.node).nodes last final g.1 behind)) asks h
+wider start first last final asks before later h =
+    All-weaker (IsStep first last) (IsStep start final) (λ k g. (extends_further start first k.before before g.0, extends_further (interned k.before k.node).nodes last final g.1 later)) asks h
 
 then_steps : (start mid final : List Node) (asks more : List Ask) → Extends start mid → Extends mid final → AreSteps start mid asks → AreSteps mid final more → AreSteps start final (asks ++ more)
-then_steps start mid final asks more before behind h g =
-    All-append (IsStep start final) asks more (wider start start mid final asks (extends_same start) behind h) (wider start mid final final more before (extends_same final) g)
+then_steps start mid final asks more before later h g =
+    All-append (IsStep start final) asks more (wider start start mid final asks (extends_same start) later h) (wider start mid final final more before (extends_same final) g)
 
 equality_steps : (ns : List Node) (a b : ℕ) → AreSteps ns (equality ns a b).nodes (equality_asks ns a b)
 unfolding equality

@@ -163,10 +163,10 @@ module _ (text : List ℕ) where
   abbrev AllTrees : Reading → Type 0
   AllTrees reading = All HasTree reading.forms
 
-  pub read_good : (bytes : List ℕ) (behind : ℕ) (place : Place) (o : Open) → IsOpen o → AllTrees (read bytes behind place o)
+  pub read_good : (bytes : List ℕ) (later : ℕ) (place : Place) (o : Open) → IsOpen o → AllTrees (read bytes later place o)
   unfolding read
-  read_good [] behind place o h = All-nil HasTree
-  read_good (c ∷ cs) (suc behind) place o h = read_good cs behind (past c place) o h
+  read_good [] later place o h = All-nil HasTree
+  read_good (c ∷ cs) (suc later) place o h = read_good cs later (past c place) o h
   read_good (c ∷ cs) zero place o h =
       by_next (next_at (c ∷ cs) place o) (next_good (c ∷ cs) place o h) (λ n left g. read_good cs n (past c place) left g)
       (read_good cs 0 (past c place) (outside (past c place)) (outside_open (past c place)))

@@ -41,9 +41,6 @@ absent_before front rest new n k formed e at late has =
     let same : there.0 ≡ k = formed.single there.0 k n (subst (λ ns. IsNodeAt ns there.0 n) (sym e) (IsNodeAt-append front rest there.0 n there.1)) at in
     omega arith
 
-second_same : (t a b : ℕ) → a ≡ b → second_equality t a b ≡ t + 1
-second_same t a b e = grind (arith, nat_tests)
-
 second_other : (t a b : ℕ) → (a ≡ b → ⊥) → second_equality t a b ≡ t + 2
 second_other t a b e = grind (arith, nat_tests)
 
@@ -56,10 +53,10 @@ nodes_other t c a b e = ap (λ r. IteField c a b ∷ Eq t a ∷ r) (let test : (
 -- where the `ite` is there, so are its equalities
 pub choice_there : (ns : List Node) (p c a b id : ℕ) → IsTable ns → IsNodeAt ns id (IteField c a b) → choice (sort.Field p) ns c a b ≡ record { nodes = ns; id = id }
 choice_there ns p c a b id table at =
-    let behind = table.equalities id c a b at in
+    let later = table.equalities id c a b at in
     ap (with_equalities a b) (interned_there ns (IteField c a b) id table.well_formed at)
-    ∙ ap (with_second id b) (interned_there ns (Eq id a) (id + 1) table.well_formed behind.0)
-    ∙ ap (λ m. with_table id m.nodes) (interned_there ns (Eq id b) (second_equality id a b) table.well_formed behind.1)
+    ∙ ap (with_second id b) (interned_there ns (Eq id a) (id + 1) table.well_formed later.0)
+    ∙ ap (λ m. with_table id m.nodes) (interned_there ns (Eq id b) (second_equality id a b) table.well_formed later.1)
 
 pub two_behind : (old : List Node) (x y : Node) → (old ++ x ∷ []) ++ y ∷ [] ≡ old ++ x ∷ y ∷ []
 two_behind old x y = append_assoc old (x ∷ []) (y ∷ [])
@@ -74,7 +71,7 @@ choice_put old new p c a b table at absent is =
     let t = length old in
     let x = IteField c a b in
     let formed = table.well_formed in
-    let behind = table.equalities t c a b at in
+    let later = table.equalities t c a b at in
     let one = old ++ x ∷ [] in
     let two = one ++ Eq t a ∷ [] in
     let more = (if a == b then [] else Eq t b ∷ []) in
@@ -82,17 +79,17 @@ choice_put old new p c a b table at absent is =
     let long_two : length two ≡ t + 2 = omega (arith, long_one, length-append one (Eq t a ∷ [])) in
     let from_one : new ≡ one ++ Eq t a ∷ more = is ∙ sym (append_assoc old (x ∷ []) (Eq t a ∷ more)) in
     let from_two : new ≡ two ++ more = from_one ∙ sym (append_assoc one (Eq t a ∷ []) more) in
-    let no_first : Contains one (Eq t a) → ⊥ = absent_before one (Eq t a ∷ more) new (Eq t a) (t + 1) formed from_one behind.0 (omega (arith, long_one)) in
+    let no_first : Contains one (Eq t a) → ⊥ = absent_before one (Eq t a ∷ more) new (Eq t a) (t + 1) formed from_one later.0 (omega (arith, long_one)) in
     ap (with_equalities a b) (interned_absent old x absent)
     ∙ ap (with_second t b) (interned_absent one (Eq t a) no_first)
     ∙ ⊎_elim
     (λ same.
     let whole : new ≡ two = is ∙ ap (λ r. old ++ r) (nodes_same t c a b same) ∙ sym (two_behind old x (Eq t a)) in
-    let there : IsNodeAt new (second_equality t a b) (Eq t b) = behind.1 in
+    let there : IsNodeAt new (second_equality t a b) (Eq t b) = later.1 in
     ap (λ m. with_table t m.nodes) (subst (λ ns. interned ns (Eq t b) ≡ with_table (second_equality t a b) new) whole (interned_there new (Eq t b) (second_equality t a b) formed there)))
     (λ other.
     let whole : new ≡ two ++ Eq t b ∷ [] = is ∙ ap (λ r. old ++ r) (nodes_other t c a b other) ∙ sym (three_behind old x (Eq t a) (Eq t b)) in
-    let no_second : Contains two (Eq t b) → ⊥ = absent_before two (Eq t b ∷ []) new (Eq t b) (t + 2) formed whole (subst (λ k. IsNodeAt new k (Eq t b)) (second_other t a b other) behind.1) (omega (arith, long_two)) in
+    let no_second : Contains two (Eq t b) → ⊥ = absent_before two (Eq t b ∷ []) new (Eq t b) (t + 2) formed whole (subst (λ k. IsNodeAt new k (Eq t b)) (second_other t a b other) later.1) (omega (arith, long_two)) in
     ap (λ m. with_table t m.nodes) (interned_absent two (Eq t b) no_second) ∙ ap (with_table t) (sym whole))
     (cases_eq a b)
 

@@ -28,10 +28,6 @@ pub residue_of_value : (x : Element) → value_residue (value_of x) ≡ residue 
 residue_of_value (TruthValue b) = refl
 residue_of_value (FieldValue p n) = refl
 
-pub order_of_element : (x : Element) → order_of_sort (sort_of x) ≡ order x
-order_of_element (TruthValue b) = refl
-order_of_element (FieldValue p n) = refl
-
 -- an element of a field
 pub field_element : (x : Element) (q : ℕ) → sort_of x ≡ sort.Field q → sort.Field (order x) ≡ sort_of x
 field_element (TruthValue b) q e = cc

@@ -473,14 +473,14 @@ module _ (l : Limits) (s : State) (h : IsScopedState s) where
   unfolding after
   next_is_scoped t c e =
       let speaks = subst (λ r. IfSound r Speaks) e (command_speaks t) in
-      let told = subst (λ r. IfSound r (IsTold Anywhere l s t)) e (command_told t) in
-      let parts = changed_parts l c s (parts_of s h) speaks told.1 in
+      let stated = subst (λ r. IfSound r (IsTold Anywhere l s t)) e (command_told t) in
+      let parts = changed_parts l c s (parts_of s h) speaks stated.1 in
       record {
         early = parts.early;
         global = parts.global;
         numbered = parts.numbered;
         scoped = parts.scoped;
-        order = first_named_good s.first_order (named_orders c t) h.order told.0;
+        order = first_named_good s.first_order (named_orders c t) h.order stated.0;
       }
 
 pub first_is_scoped : IsScopedState first_state

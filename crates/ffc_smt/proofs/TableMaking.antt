@@ -216,8 +216,8 @@ module _ (cs : List Sort) (count : ℕ) where
       let others = differences first.nodes rest in
       let more = differences_extend rest first.nodes in
       let before = differences_from_good rest ns a s h.0 h.1 good (room_before first.nodes others.nodes more room) in
-      let behind = differences_good rest first.nodes s (all_at_stays rest ns first.nodes s (differences_from_extend rest ns a) h.1) before.0 room in
-      (behind.0, all_at_append first.ids others.ids others.nodes sort.Bool (all_at_stays first.ids first.nodes others.nodes sort.Bool more before.1) behind.1)
+      let after = differences_good rest first.nodes s (all_at_stays rest ns first.nodes s (differences_from_extend rest ns a) h.1) before.0 room in
+      (after.0, all_at_append first.ids others.ids others.nodes sort.Bool (all_at_stays first.ids first.nodes others.nodes sort.Bool more before.1) after.1)
 
   conjoined_good : (m : AllMade) → 0 < length m.ids → AllMakes m sort.Bool → Room (conjoined m).nodes → Makes (conjoined m) sort.Bool
   conjoined_good m some h room = bool_made m.nodes (node.And m.ids) (λ ss. refl) h.0 (booleans m.ids m.nodes some h.1) tt room

@@ -122,10 +122,6 @@ pub on_ok : {T E : Type 0} (r : Result T E) (P : T → Type 0) (Q : Type 0) → 
 on_ok (Ok x) P Q f h = f x h
 on_ok (Err e) P Q f h = tt
 
-pub on_any : {T E : Type 0} (r : Result T E) (Q : Type 0) → Q → OnOk r Q
-on_any (Ok x) Q h = h
-on_any (Err e) Q h = tt
-
 -- What is written is accepted
 
 none_broken : (budget : ℕ) (checks : List TableCheck) (entries : List Entry) (number line : ℕ) → AreEntries budget checks entries → first_broken limits (map node_check checks) (numbered_from number line entries) ≡ None

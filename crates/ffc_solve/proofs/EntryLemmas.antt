@@ -2,13 +2,11 @@
 use Rattle.std.proofs.Common.{◌≡◌, ℕ, ◌+◌, ◌^◌, ◌<◌, ◌≤◌, List, [], ◌∷◌, ◌++◌, length, codes, refl, sym, ap, ◌∙◌, subst, arith, lit≤, true}
 use Rattle.std.proofs.lemmas.List.{length-append}
 use Rattle.std.proofs.lemmas.Fmt.{length-decimal-le}
-use Rattle.ffc_cert.specs.declared.entries.Entry.{Entry}
-use Rattle.ffc_cert.specs.declared.entries.Entry.TheVariants.{Sat, UnsatCases, UnsatSteps, Unknown}
+use Rattle.ffc_cert.specs.declared.entries.Entry.TheVariants.{Unknown}
 use Rattle.ffc_cert.specs.declared.entries.Cause.{Cause}
 use Rattle.ffc_cert.specs.declared.entries.Cause.TheVariants.{Degree, Terms, Steps, Memory}
 use Rattle.ffc_cert.specs.Ranges.{IsCause}
 use Rattle.ffc_cert.specs.Spelling.{number, cause_items, entry_text}
-use Rattle.ffc_cert.specs.WellFormed.{IsReadable}
 use Rattle.ffc_term.specs.declared.check.Check.{Check}
 use Rattle.ffc_smt.specs.TableChecks.{TableCheck, declared_nodes, nodes_in_force}
 use Rattle.ffc_rules.specs.Causes.{is_cause_within}
@@ -17,7 +15,7 @@ use Rattle.ffc_rules.specs.Judging.{node_check}
 use Rattle.ffc_check.specs.Judged as judged
 use Rattle.ffc_theory.specs.declared.stop.DecideStop.{DecideStop}
 use Rattle.ffc_theory.specs.declared.stop.DecideStop.TheVariants as stops
-use Rattle.ffc_theory.specs.Stops.{cause_of, IsCaused, IsVerdict, MayBeDecided}
+use Rattle.ffc_theory.specs.Stops.{cause_of, IsCaused}
 use Rattle.ffc_solve.specs.Solving.{IsRight}
 use Rattle.ffc_solve.proofs.RememberLemmas.{cause_for}
 
@@ -25,16 +23,6 @@ use Rattle.ffc_solve.proofs.RememberLemmas.{cause_for}
 pub same_check : (a : Check) (c : TableCheck) → a.table.now ≡ c.nodes → a.declared.now ≡ declared_nodes c → a.in_force.now ≡ nodes_in_force c → a.first_order ≡ c.check.first_order
     → judged.node_check a ≡ node_check c
 same_check a c nodes declared in_force order = λ i. record { nodes = nodes i; declared = declared i; in_force = in_force i; first_order = order i }
-
--- an entry that decides
-pub decided_right : (budget : ℕ) (a : NodeCheck) (c : TableCheck) (entry : Entry) → a ≡ node_check c → IsReadable 2 entry → EntryOk a entry → IsVerdict entry → MayBeDecided budget a → IsRight budget c entry
-decided_right budget a c (Sat pairs) same readable right is may =
-    record { readable = readable; right = subst (λ n. EntryOk n (Sat pairs)) same right; caused = tt; allowed = subst (MayBeDecided budget) same may }
-decided_right budget a c UnsatCases same readable right is may =
-    record { readable = readable; right = subst (λ n. EntryOk n UnsatCases) same right; caused = tt; allowed = subst (MayBeDecided budget) same may }
-decided_right budget a c (UnsatSteps lines) same readable right is may =
-    record { readable = readable; right = subst (λ n. EntryOk n (UnsatSteps lines)) same right; caused = tt; allowed = subst (MayBeDecided budget) same may }
-decided_right budget a c (Unknown cause) same readable right is may = absurd is
 
 -- Causes
 

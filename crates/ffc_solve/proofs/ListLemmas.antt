@@ -80,10 +80,6 @@ check_at_end [] rest check (suc k) e = absurd (omega arith)
 check_at_end (c ∷ checks) rest check zero e = absurd (omega arith)
 check_at_end (c ∷ checks) rest check (suc k) e = check_at_end checks rest check k (omega arith)
 
-pub texts-push : (entries : List Entry) (entry : Entry) → flat_map entry_text (entries ++ entry ∷ []) ≡ flat_map entry_text entries ++ entry_text entry
-texts-push [] entry = append-nil (entry_text entry)
-texts-push (x ∷ entries) entry = ap (λ t. entry_text x ++ t) (texts-push entries entry) ∙ sym (append_assoc (entry_text x) (flat_map entry_text entries) (entry_text entry))
-
 pub texts-append : (entries more : List Entry) → flat_map entry_text (entries ++ more) ≡ flat_map entry_text entries ++ flat_map entry_text more
 texts-append [] more = refl
 texts-append (x ∷ entries) more = ap (λ t. entry_text x ++ t) (texts-append entries more) ∙ sym (append_assoc (entry_text x) (flat_map entry_text entries) (flat_map entry_text more))

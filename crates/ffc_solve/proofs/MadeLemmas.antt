@@ -1,9 +1,9 @@
 -- What is left where a generated script is answered, and the line after its answers.
-use Rattle.std.proofs.Common.{◌≡◌, ℕ, inl, inr, Bool, cond, List, [], ◌++◌, length, take, drop, Option, Some, refl, sym, ap, ◌∙◌, subst, arith, append_assoc, append-nil}
+use Rattle.std.proofs.Common.{◌≡◌, ℕ, inl, inr, Bool, cond, List, [], ◌++◌, length, take, drop, Option, Some, refl, sym, ap, ◌∙◌, subst, append_assoc, append-nil}
 use Rattle.std.specs.List.{flat_map}
 use Rattle.std.specs.Option.{IfSome}
 use Rattle.std.proofs.lemmas.List.{take-append-drop}
-use Rattle.ffc_base.specs.Outside.{Appends, AppendsPrefix, Becomes, Rose}
+use Rattle.ffc_base.specs.Outside.{Appends, AppendsPrefix, Becomes}
 use Rattle.ffc_cert.specs.declared.entries.Entry.{Entry}
 use Rattle.ffc_cert.specs.Spelling.{entry_text, header, text_of}
 use Rattle.ffc_smt.specs.Scripts.{Script, reads}
@@ -51,11 +51,6 @@ made_cut budget size b refused s co c1 cn oo o1 on first h told =
 
 pub made_silent : (budget size : ℕ) (b : List ℕ) (refused : Bool) (s : Dialogue) (co c1 cn oo on : Option (List ℕ)) → Becomes (header 2) co c1 → IsAnswered budget b refused s c1 cn oo on → IsStopped budget (Some size) b co cn oo on
 made_silent budget size b refused s co c1 cn oo on first h = made_cut budget size b refused s co c1 cn oo on on first h (AppendsPrefix-none (made_answer (Some size) h.entries) on)
-
--- a source that never fails gives no fault
-pub never_rose : Rose 0 0 → ⊥
-never_rose (inl less) = omega (arith, less)
-never_rose (inr last) = omega (arith, last)
 
 pub told_at : (o : Option (List ℕ)) (b : List ℕ) (P : List ℕ → Type 0) → o ≡ Some b → IfSome o P → P b
 told_at o b P e h = subst (λ o. IfSome o P) e h

@@ -1,11 +1,11 @@
 -- Pieces of a script.
-use Rattle.std.proofs.Common.{◌≡◌, ℕ, zero, suc, ◌+◌, ◌≤◌, List, [], ◌++◌, length, take, drop, Option, Some, None, refl, sym, ap, ◌∙◌, subst, arith, append_assoc, length-append}
+use Rattle.std.proofs.Common.{◌≡◌, ℕ, ◌+◌, ◌≤◌, List, [], ◌++◌, length, take, drop, Option, Some, None, refl, sym, ap, ◌∙◌, subst, arith, append_assoc, length-append}
 use Rattle.std.specs.Option.{IfSome}
 use Rattle.std.proofs.lemmas.List.{take-append-drop, take_all, length-take}
 use Rattle.ffc_base.specs.Outside.{MovesFront}
 use Rattle.ffc_lex.specs.Lexing.{extended}
 use Rattle.ffc_solve.specs.Solving.{EndsSoon, IsTaken}
-use Rattle.ffc_solve.specs.Underway.{HasRead, IsAtEnd}
+use Rattle.ffc_solve.specs.Underway.{HasRead}
 
 -- what a read moved was read
 pub HasRead-moved : (n : ℕ) (buffer : List ℕ) (x y : Option (List ℕ)) → MovesFront n buffer x y → HasRead x y (take n buffer)
@@ -20,17 +20,6 @@ taken_moved n buffer (Some bytes) y before m few short =
 
 abbrev none_left : List ℕ
 none_left = []
-
-drop-nothing : (k : ℕ) → drop k none_left ≡ none_left
-drop-nothing zero = refl
-drop-nothing (suc k) = refl
-
--- nothing was left
-pub AtEnd-moved : (n : ℕ) (buffer : List ℕ) (x y : Option (List ℕ)) → n ≡ 0 → MovesFront n buffer x y → IsAtEnd x y
-AtEnd-moved n buffer None y e m = tt
-AtEnd-moved n buffer (Some bytes) y e m =
-    let none : bytes ≡ [] = m.3 e in
-    (none, m.2 ∙ ap (λ (b : List ℕ). Some (drop n b)) none ∙ ap Some (drop-nothing n))
 
 -- one piece after another
 pub HasRead-more : (first now new : Option (List ℕ)) (text piece : List ℕ) → HasRead first now text → HasRead now new piece → HasRead first new (text ++ piece)

@@ -1,6 +1,5 @@
 -- Lines that are marked one after another, and the paths that lead to them.
-use Rattle.std.proofs.Common.{◌≡◌, ◌⊎◌, ℕ, zero, suc, ◌+◌, ◌<◌, ◌≤◌, Bool, true, false, List, [], ◌∷◌, ◌++◌, length, get_or, take, refl, sym, ap, ◌∙◌, subst, inl, inr, arith, length-set, get_or-set_same, get_or-set_other, Result, Ok, Err, IfOk}
-use Rattle.std.proofs.Math.ListN.{set}
+use Rattle.std.proofs.Common.{◌≡◌, ◌⊎◌, ℕ, zero, suc, ◌+◌, ◌<◌, ◌≤◌, Bool, true, false, List, [], ◌∷◌, ◌++◌, length, get_or, take, refl, sym, ap, ◌∙◌, subst, inl, inr, arith, Result, Ok, Err, IfOk}
 use Rattle.std.proofs.lemmas.Bool.{cases_eq, false≢true}
 use Rattle.std.proofs.lemmas.List.{take_more}
 use Rattle.ffc_ring.specs.Polynomial.{Terms}
@@ -10,20 +9,6 @@ use Rattle.ffc_stack.specs.Generators.{parts_at, Names, IsPath, LeadsTo}
 use Rattle.ffc_stack.specs.Marks.{IsMarked, IsMarkedBy, IsMarkedFrom, IsReachedTo}
 
 -- marks
-
-pub marked_there : (k : ℕ) (old : List Bool) → k < length old → IsMarked k old (set old k true)
-marked_there k old h = record {
-  len = length-set old k true;
-  here = λ _. get_or-set_same old k true false h;
-  others = λ j other. get_or-set_other old k j true false other;
-}
-
-pub marked_nowhere : (k : ℕ) (old : List Bool) → length old ≤ k → IsMarked k old old
-marked_nowhere k old h = record {
-  len = refl;
-  here = λ g. absurd (omega (arith, h, g));
-  others = λ j other. refl;
-}
 
 pub marked_within : (marks : List Bool) (n : ℕ) → get_or marks n false ≡ true → n < length marks
 marked_within [] n e = absurd (false≢true e)
@@ -46,14 +31,6 @@ names_first (p ∷ ps) t k (inr rest) = inr (names_first ps t k rest)
 names_last : (ps : Parts) (t : ℕ × Terms) (k : ℕ) → t.0 ≡ k → Names (ps ++ t ∷ []) k
 names_last [] t k e = inl e
 names_last (p ∷ ps) t k e = inr (names_last ps t k e)
-
-pub marked_by_none : (old : List Bool) → IsMarkedBy [] old old
-marked_by_none old = record {
-  len = refl;
-  kept = λ h e. e;
-  named = λ h within none. absurd none;
-  only = λ h e. inl e;
-}
 
 marked_by_push : (ps : Parts) (t : ℕ × Terms) (old mid new : List Bool) → IsMarkedBy ps old mid → IsMarked t.0 mid new → IsMarkedBy (ps ++ t ∷ []) old new
 marked_by_push ps t old mid new v w =

@@ -1,5 +1,5 @@
 -- Levels that begin, go on and end.
-use Rattle.std.proofs.Common.{◌≡◌, ◌≢◌, ℕ, zero, suc, ◌+◌, ◌<◌, ◌≤◌, List, [], ◌∷◌, ◌++◌, length, take, drop, get_or, refl, sym, ap, ap₂, ◌∙◌, subst, arith, append-nil, append_assoc, length-append}
+use Rattle.std.proofs.Common.{◌≡◌, ◌≢◌, ℕ, zero, suc, ◌<◌, ◌≤◌, List, [], ◌∷◌, ◌++◌, length, take, drop, get_or, refl, sym, ap, ap₂, ◌∙◌, subst, arith, append-nil, append_assoc, length-append}
 use Rattle.std.proofs.Math.Seq.{take-append_seam, drop-append_seam}
 use Rattle.std.proofs.lemmas.List.{take-append-le, drop-append-le, take-append-drop, take-take, length-take-le, same_from_push}
 use Rattle.std.specs.List.{Contains}
@@ -10,7 +10,7 @@ use Rattle.ffc_basis.specs.declared.line.Line.{Line}
 use Rattle.ffc_basis.specs.Completed.{AreAdded, IsFront}
 use Rattle.ffc_basis.specs.Lines.{Parts, polys_of, AreLines, AreGenerators, IsAddedTo}
 use Rattle.ffc_stack.specs.Stacks.{Stack, stack_of, own, generators, HaveParts, AreMarks, HaveNoneBelow, levels_from, joined, LeadToLive, IsBegun, IsPushed, IsCompletedWith, GoesOn, IsPopped}
-use Rattle.ffc_stack.specs.Generators.{IsPath, IsGenerator, LeadsTo}
+use Rattle.ffc_stack.specs.Generators.{IsPath, IsGenerator}
 use Rattle.ffc_stack.proofs.MarkLemmas.{names_below}
 
 -- generators among lines

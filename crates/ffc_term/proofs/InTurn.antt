@@ -6,14 +6,14 @@ use Rattle.ffc_term.specs.declared.node.Node.{Node}
 use Rattle.ffc_term.specs.Nodes.{IsNodeAt, in_turn, in_turn_from}
 
 module _ {X : Type 0} (tell : List X → Node → X) where
-  pub in_turn_from-append : (told : List X) (ns ms : List Node) → in_turn_from tell told (ns ++ ms) ≡ in_turn_from tell (in_turn_from tell told ns) ms
-  in_turn_from-append told [] ms = refl
-  in_turn_from-append told (n ∷ ns) ms = in_turn_from-append (told ++ tell told n ∷ []) ns ms
+  pub in_turn_from-append : (known : List X) (ns ms : List Node) → in_turn_from tell known (ns ++ ms) ≡ in_turn_from tell (in_turn_from tell known ns) ms
+  in_turn_from-append known [] ms = refl
+  in_turn_from-append known (n ∷ ns) ms = in_turn_from-append (known ++ tell known n ∷ []) ns ms
 
-  pub length-in_turn_from : (told : List X) (ns : List Node) → length (in_turn_from tell told ns) ≡ length told + length ns
-  length-in_turn_from told [] = omega arith
-  length-in_turn_from told (n ∷ ns) =
-      omega (arith, length-in_turn_from (told ++ tell told n ∷ []) ns, length-append told (tell told n ∷ []))
+  pub length-in_turn_from : (known : List X) (ns : List Node) → length (in_turn_from tell known ns) ≡ length known + length ns
+  length-in_turn_from known [] = omega arith
+  length-in_turn_from known (n ∷ ns) =
+      omega (arith, length-in_turn_from (known ++ tell known n ∷ []) ns, length-append known (tell known n ∷ []))
 
   -- as many as there are nodes
   pub length-in_turn : (ns : List Node) → length (in_turn tell ns) ≡ length ns
@@ -23,13 +23,13 @@ module _ {X : Type 0} (tell : List X → Node → X) where
   pub in_turn-push : (ns : List Node) (n : Node) → in_turn tell (ns ++ n ∷ []) ≡ in_turn tell ns ++ tell (in_turn tell ns) n ∷ []
   in_turn-push ns n = in_turn_from-append [] ns (n ∷ [])
 
-  take-in_turn_from : (told : List X) (ns : List Node) → take (length told) (in_turn_from tell told ns) ≡ told
-  take-in_turn_from told [] = take_all (length told) told (omega arith)
-  take-in_turn_from told (n ∷ ns) =
-      let longer : List X = told ++ tell told n ∷ [] in
+  take-in_turn_from : (known : List X) (ns : List Node) → take (length known) (in_turn_from tell known ns) ≡ known
+  take-in_turn_from known [] = take_all (length known) known (omega arith)
+  take-in_turn_from known (n ∷ ns) =
+      let longer : List X = known ++ tell known n ∷ [] in
       let all : List X = in_turn_from tell longer ns in
-      let fits : length told ≤ length longer = omega (arith, length-append told (tell told n ∷ [])) in
-      sym (take-take (length told) (length longer) all fits) ∙ ap (take (length told)) (take-in_turn_from longer ns) ∙ take_at told (tell told n ∷ []) (length told) refl
+      let fits : length known ≤ length longer = omega (arith, length-append known (tell known n ∷ [])) in
+      sym (take-take (length known) (length longer) all fits) ∙ ap (take (length known)) (take-in_turn_from longer ns) ∙ take_at known (tell known n ∷ []) (length known) refl
 
   -- further nodes change nothing
   pub take-in_turn-append : (ns ms : List Node) → take (length ns) (in_turn tell (ns ++ ms)) ≡ in_turn tell ns
@@ -52,15 +52,15 @@ module _ {X : Type 0} (tell : List X → Node → X) where
       let all : List X = in_turn tell ns in
       let inside : id < length ns = slice_get_within ns id n at in
       let front : take (id + 1) ns ≡ take id ns ++ n ∷ [] = take_more ns id n inside ∙ ap (λ x. take id ns ++ x ∷ []) (get_or_from_slice_get ns id n n at) in
-      let told : take (id + 1) all ≡ in_turn tell (take id ns) ++ tell (in_turn tell (take id ns)) n ∷ [] = sym (in_turn-take (id + 1) ns) ∙ ap (in_turn tell) front ∙ in_turn-push (take id ns) n in
+      let known : take (id + 1) all ≡ in_turn tell (take id ns) ++ tell (in_turn tell (take id ns)) n ∷ [] = sym (in_turn-take (id + 1) ns) ∙ ap (in_turn tell) front ∙ in_turn-push (take id ns) n in
       let before : length (in_turn tell (take id ns)) ≡ id = omega (arith, length-in_turn (take id ns), length-take id ns) in
-      sym (get_or-take (id + 1) all id d (omega arith)) ∙ ap (λ xs. get_or xs id d) told ∙ get_or_push (in_turn tell (take id ns)) (tell (in_turn tell (take id ns)) n) d id before ∙ ap (λ xs. tell xs n) (in_turn-take id ns)
+      sym (get_or-take (id + 1) all id d (omega arith)) ∙ ap (λ xs. get_or xs id d) known ∙ get_or_push (in_turn tell (take id ns)) (tell (in_turn tell (take id ns)) n) d id before ∙ ap (λ xs. tell xs n) (in_turn-take id ns)
 
   -- what is stated depends on `tell` only at the places of the nodes
-  pub in_turn_from-agree : (other : List X → Node → X) (told : List X) (ns : List Node) → ((xs : List X) (n : Node) → length xs < length told + length ns → tell xs n ≡ other xs n) → in_turn_from tell told ns ≡ in_turn_from other told ns
-  in_turn_from-agree other told [] agree = refl
-  in_turn_from-agree other told (n ∷ ns) agree =
-      let longer : List X = told ++ tell told n ∷ [] in
-      let one : tell told n ≡ other told n = agree told n (omega arith) in
-      let rest : in_turn_from tell longer ns ≡ in_turn_from other longer ns = in_turn_from-agree other longer ns (λ xs m short. agree xs m (omega (arith, length-append told (tell told n ∷ [])))) in
-      rest ∙ ap (λ x. in_turn_from other (told ++ x ∷ []) ns) one
+  pub in_turn_from-agree : (other : List X → Node → X) (known : List X) (ns : List Node) → ((xs : List X) (n : Node) → length xs < length known + length ns → tell xs n ≡ other xs n) → in_turn_from tell known ns ≡ in_turn_from other known ns
+  in_turn_from-agree other known [] agree = refl
+  in_turn_from-agree other known (n ∷ ns) agree =
+      let longer : List X = known ++ tell known n ∷ [] in
+      let one : tell known n ≡ other known n = agree known n (omega arith) in
+      let rest : in_turn_from tell longer ns ≡ in_turn_from other longer ns = in_turn_from-agree other longer ns (λ xs m short. agree xs m (omega (arith, length-append known (tell known n ∷ [])))) in
+      rest ∙ ap (λ x. in_turn_from other (known ++ x ∷ []) ns) one

@@ -8,13 +8,13 @@ use Rattle.ffc_term.specs.declared.node.Node.TheVariants.{IteField, Eq}
 use Rattle.ffc_term.specs.declared.table.TermStop.{TermStop}
 use Rattle.ffc_term.specs.Nodes.{IsNodeAt}
 use Rattle.ffc_term.specs.Tables.{Fits, IsFieldAt, AreOfOneField, IsWellFormed, IsInterned, IsIteInterned, HasEqualities, second_equality, ite_nodes, most_nodes}
-use Rattle.ffc_term.proofs.NodeLemmas.{IsNodeAt-from_Contains, Contains-from_IsNodeAt, IsNodeAt-append, IsNodeAt-last, IsNodeAt-push, IsNodeAt-unique}
+use Rattle.ffc_term.proofs.NodeLemmas.{IsNodeAt-from_Contains, IsNodeAt-append, IsNodeAt-last, IsNodeAt-push, IsNodeAt-unique}
 use Rattle.ffc_term.proofs.TableLemmas.{sort_at-append, sort_at-last, IsWellFormed-push}
 use Rattle.ffc_term.proofs.WalkLemmas.{child_below, All-two}
 
 -- what was asked for and was not there comes after the others
 pub new_from_IsInterned : (old new : List Node) (n : Node) (id : ℕ) → IsInterned old new n id → ¬ (Contains old n) → (new ≡ old ++ n ∷ []) × (id ≡ length old)
-new_from_IsInterned old new n id told none = ⊎_elim (λ was. absurd (none was.0)) (λ is. (is.1, is.2)) told.added
+new_from_IsInterned old new n id known none = ⊎_elim (λ was. absurd (none was.0)) (λ is. (is.1, is.2)) known.added
 
 -- an equality of a node with itself or a later one is nowhere
 pub no_equality : (ns : List Node) (t x : ℕ) → IsWellFormed ns → length ns ≤ t + 1 → ¬ (Contains ns (Eq t x))
@@ -82,48 +82,45 @@ module _ (ns : List Node) (c a b : ℕ) (formed : IsWellFormed ns) (fits : Fits 
 
   -- the table and the number after the `ite` was put
   pub ite_put : (one : List Node) (t : ℕ) → IsInterned ns one (IteField c a b) t → (one ≡ ns ++ IteField c a b ∷ []) × (t ≡ length ns)
-  ite_put one t told = new_from_IsInterned ns one (IteField c a b) t told new
+  ite_put one t known = new_from_IsInterned ns one (IteField c a b) t known new
 
   pub first_fits : (one : List Node) (t : ℕ) → IsInterned ns one (IteField c a b) t → Fits one (Eq t a)
-  first_fits one t told =
-      let p = ite_put one t told in
+  first_fits one t known =
+      let p = ite_put one t known in
       rw (p.0, p.1) (fits_first ns c a b fits)
 
   -- the table after its first equality was put
   pub first_put : (one two : List Node) (t k : ℕ) → IsInterned ns one (IteField c a b) t → IsInterned one two (Eq t a) k → two ≡ (ns ++ IteField c a b ∷ []) ++ Eq (length ns) a ∷ []
-  first_put one two t k told next =
-      let p = ite_put one t told in
+  first_put one two t k known next =
+      let p = ite_put one t known in
       let here : IsInterned (ns ++ IteField c a b ∷ []) two (Eq (length ns) a) k = subst (λ i. IsInterned (ns ++ IteField c a b ∷ []) two (Eq i a) k) p.1 (subst (λ xs. IsInterned xs two (Eq t a) k) p.0 next) in
       (new_from_IsInterned (ns ++ IteField c a b ∷ []) two (Eq (length ns) a) k here first_new).0
 
   pub second_fits : (one two : List Node) (t k : ℕ) → IsInterned ns one (IteField c a b) t → IsInterned one two (Eq t a) k → Fits two (Eq t b)
-  second_fits one two t k told next =
-      rw (first_put one two t k told next, (ite_put one t told).1) (fits_second ns c a b fits)
+  second_fits one two t k known next =
+      rw (first_put one two t k known next, (ite_put one t known).1) (fits_second ns c a b fits)
 
   -- the table after its second equality was put
   pub second_put : (one two three : List Node) (t k l : ℕ) → ¬ (a ≡ b) → IsInterned ns one (IteField c a b) t → IsInterned one two (Eq t a) k → IsInterned two three (Eq t b) l → three ≡ ((ns ++ IteField c a b ∷ []) ++ Eq (length ns) a ∷ []) ++ Eq (length ns) b ∷ []
-  second_put one two three t k l other told next last =
+  second_put one two three t k l other known next last =
       let both : List Node = (ns ++ IteField c a b ∷ []) ++ Eq (length ns) a ∷ [] in
-      let here : IsInterned both three (Eq (length ns) b) l = subst (λ i. IsInterned both three (Eq i b) l) (ite_put one t told).1 (subst (λ xs. IsInterned xs three (Eq t b) l) (first_put one two t k told next) last) in
+      let here : IsInterned both three (Eq (length ns) b) l = subst (λ i. IsInterned both three (Eq i b) l) (ite_put one t known).1 (subst (λ xs. IsInterned xs three (Eq t b) l) (first_put one two t k known next) last) in
       let none : ¬ (Contains both (Eq (length ns) b)) = no_second_equality (ns ++ IteField c a b ∷ []) (length ns) a b first_formed (omega (arith, length-append ns (IteField c a b ∷ []))) other in
       (new_from_IsInterned both three (Eq (length ns) b) l here none).0
 
   pub same_ok : (one two : List Node) (t k : ℕ) → a ≡ b → IsInterned ns one (IteField c a b) t → IsInterned one two (Eq t a) k → (two ≡ ns ++ ite_nodes t c a b) × (t ≡ length ns)
-  same_ok one two t k same told next =
-      let p = ite_put one t told in
-      (first_put one two t k told next ∙ append_assoc ns (IteField c a b ∷ []) (Eq (length ns) a ∷ []) ∙ ap (λ xs. ns ++ xs) (sym (ite_nodes-same (length ns) c a b same)) ∙ ap (λ i. ns ++ ite_nodes i c a b) (sym p.1), p.1)
+  same_ok one two t k same known next =
+      let p = ite_put one t known in
+      (first_put one two t k known next ∙ append_assoc ns (IteField c a b ∷ []) (Eq (length ns) a ∷ []) ∙ ap (λ xs. ns ++ xs) (sym (ite_nodes-same (length ns) c a b same)) ∙ ap (λ i. ns ++ ite_nodes i c a b) (sym p.1), p.1)
 
   pub other_ok : (one two three : List Node) (t k l : ℕ) → ¬ (a ≡ b) → IsInterned ns one (IteField c a b) t → IsInterned one two (Eq t a) k → IsInterned two three (Eq t b) l → (three ≡ ns ++ ite_nodes t c a b) × (t ≡ length ns)
-  other_ok one two three t k l other told next last =
-      let p = ite_put one t told in
-      (second_put one two three t k l other told next last ∙ append_assoc (ns ++ IteField c a b ∷ []) (Eq (length ns) a ∷ []) (Eq (length ns) b ∷ []) ∙ append_assoc ns (IteField c a b ∷ []) (Eq (length ns) a ∷ Eq (length ns) b ∷ []) ∙ ap (λ xs. ns ++ xs) (sym (ite_nodes-other (length ns) c a b other)) ∙ ap (λ i. ns ++ ite_nodes i c a b) (sym p.1), p.1)
+  other_ok one two three t k l other known next last =
+      let p = ite_put one t known in
+      (second_put one two three t k l other known next last ∙ append_assoc (ns ++ IteField c a b ∷ []) (Eq (length ns) a ∷ []) (Eq (length ns) b ∷ []) ∙ append_assoc ns (IteField c a b ∷ []) (Eq (length ns) a ∷ Eq (length ns) b ∷ []) ∙ ap (λ xs. ns ++ xs) (sym (ite_nodes-other (length ns) c a b other)) ∙ ap (λ i. ns ++ ite_nodes i c a b) (sym p.1), p.1)
 
 -- the nodes before stay at the front
 pub take_front : (ns new ms : List Node) → new ≡ ns ++ ms → take (length ns) new ≡ ns
 take_front ns new ms is = ap (take (length ns)) is ∙ take_at ns ms (length ns) refl
-
-pub take_front-two : (ns new : List Node) (x y : Node) → new ≡ (ns ++ x ∷ []) ++ y ∷ [] → take (length ns) new ≡ ns
-take_front-two ns new x y is = take_front ns new (x ∷ y ∷ []) (is ∙ append_assoc ns (x ∷ []) (y ∷ []))
 
 -- the equalities of the `ite` k with the branches a and b come after it
 abbrev pub EqualitiesAt : List Node → ℕ → ℕ → ℕ → Type 0
@@ -171,8 +168,8 @@ module _ (ns : List Node) (c a b : ℕ) where
       ⊎_elim (λ before. which_same k d e f before) (λ last. absurd (ite_not_eq d e f (length ns) b last.1)) (IsNodeAt-push ((ns ++ IteField c a b ∷ []) ++ Eq (length ns) a ∷ []) (Eq (length ns) b) k (IteField d e f) at)
 
   moved : (new : List Node) (k e f : ℕ) → EqualitiesAt new (length ns) a b → (k ≡ length ns) × (e ≡ a) × (f ≡ b) → EqualitiesAt new k e f
-  moved new k e f behind is =
-      subst (λ i. EqualitiesAt new i e f) (sym is.0) (subst (λ x. EqualitiesAt new (length ns) x f) (sym is.1) (subst (λ y. EqualitiesAt new (length ns) a y) (sym is.2) behind))
+  moved new k e f beyond is =
+      subst (λ i. EqualitiesAt new i e f) (sym is.0) (subst (λ x. EqualitiesAt new (length ns) x f) (sym is.1) (subst (λ y. EqualitiesAt new (length ns) a y) (sym is.2) beyond))
 
   with_same : a ≡ b → HasEqualities ns → HasEqualities ((ns ++ IteField c a b ∷ []) ++ Eq (length ns) a ∷ [])
   with_same same old k d e f at =
@@ -195,13 +192,9 @@ module _ (ns : List Node) (c a b : ℕ) where
 
 -- the same for what the call answers
 pub HasEqualities-ite_result : (r : Result ℕ TermStop) (old new : List Node) (c a b : ℕ) → HasEqualities old → IfOk r (IsIteInterned old new c a b) → OnErr r (new ≡ old) → HasEqualities new
-HasEqualities-ite_result (Ok id) old new c a b told interned same =
-    ⊎_elim (λ was. subst HasEqualities (sym was.1) told) (λ is. HasEqualities-ite old c a b new id told (is.1, is.2)) interned.added
-HasEqualities-ite_result (Err e) old new c a b told interned same = subst HasEqualities (sym same) told
-
--- what the call answers where the `ite` was there, and where it was put
-pub IsIteInterned-found : (ns : List Node) (c a b id : ℕ) → IsNodeAt ns id (IteField c a b) → IsIteInterned ns ns c a b id
-IsIteInterned-found ns c a b id at = record { at = at; added = inl (Contains-from_IsNodeAt ns id (IteField c a b) at, refl) }
+HasEqualities-ite_result (Ok id) old new c a b known interned same =
+    ⊎_elim (λ was. subst HasEqualities (sym was.1) known) (λ is. HasEqualities-ite old c a b new id known (is.1, is.2)) interned.added
+HasEqualities-ite_result (Err e) old new c a b known interned same = subst HasEqualities (sym same) known
 
 pub IsIteInterned-new : (ns new : List Node) (c a b id : ℕ) → ¬ (Contains ns (IteField c a b)) → (new ≡ ns ++ ite_nodes id c a b) × (id ≡ length ns) → IsIteInterned ns new c a b id
 IsIteInterned-new ns new c a b id none is =

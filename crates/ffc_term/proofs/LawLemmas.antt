@@ -32,8 +32,8 @@ order_at-append ns ms id inside = ap order_of_sort (sort_at-append ns ms id insi
 values_front : (ns ms : List Node) (A : List Value) → take (length ns) (values (ns ++ ms) A) ≡ values ns A
 unfolding values
 values_front ns ms A =
-    let long = λ (told : List Value) (n : Node). value_of_node (order_at (ns ++ ms) (length told)) A told n in
-    let short = λ (told : List Value) (n : Node). value_of_node (order_at ns (length told)) A told n in
+    let long = λ (known : List Value) (n : Node). value_of_node (order_at (ns ++ ms) (length known)) A known n in
+    let short = λ (known : List Value) (n : Node). value_of_node (order_at ns (length known)) A known n in
     sym (in_turn-take long (length ns) (ns ++ ms)) ∙ ap (in_turn long) (take_at ns ms (length ns) refl)
     ∙ in_turn_from-agree long short [] ns (λ xs n within. ap (λ p. value_of_node p A xs n) (order_at-append ns ms (length xs) (omega arith)))
 
@@ -102,7 +102,7 @@ either_below true x y p one two = one
 either_below false x y p one two = two
 
 -- what is stated of the children of a node, of their sorts and values
-module _ (ns : List Node) (A : List Value) (vs : List Value) (told : (c p : ℕ) → IsFieldAt ns p c → IsOfSort (sort.Field p) (value_in vs c)) (orders : (c p : ℕ) → IsFieldAt ns p c → 0 < p) where
+module _ (ns : List Node) (A : List Value) (vs : List Value) (known : (c p : ℕ) → IsFieldAt ns p c → IsOfSort (sort.Field p) (value_in vs c)) (orders : (c p : ℕ) → IsFieldAt ns p c → 0 < p) where
   computed : (c p n : ℕ) → IsFieldAt ns p c → IsOfSort (sort_at ns c) (value.Field (n % order_of_sort (sort_at ns c)))
   computed c p n is = subst (λ s. IsOfSort s (value.Field (n % order_of_sort s))) (sym is.1) (mod-lt n (orders c p is))
 
@@ -125,7 +125,7 @@ module _ (ns : List Node) (A : List Value) (vs : List Value) (told : (c p : ℕ)
       let p : ℕ = fits.1.order in
       let left : IsFieldAt ns p a = fits.1.each 0 0 (omega arith) in
       let right : IsFieldAt ns p b = fits.1.each 1 0 (omega arith) in
-      subst (λ s. IsOfSort s (value.Field (if truth_in vs c then residue_in vs a else residue_in vs b))) (sym left.1) (either_below (truth_in vs c) (residue_in vs a) (residue_in vs b) p (residue_below p (value_in vs a) (told a p left)) (residue_below p (value_in vs b) (told b p right)))
+      subst (λ s. IsOfSort s (value.Field (if truth_in vs c then residue_in vs a else residue_in vs b))) (sym left.1) (either_below (truth_in vs c) (residue_in vs a) (residue_in vs b) p (residue_below p (value_in vs a) (known a p left)) (residue_below p (value_in vs b) (known b p right)))
   value_is_of_sort (Eq a b) fits = tt
   value_is_of_sort (Add ids) fits = computed (get_or ids 0 0) fits.order (sum_by (residue_in vs) ids) (fits.each 0 0 fits.some)
   value_is_of_sort (Mul ids) fits = computed (get_or ids 0 0) fits.order (product_by (residue_in vs) ids) (fits.each 0 0 fits.some)
@@ -140,11 +140,11 @@ of_sort_below (suc k) ns A id formed below inside =
     let before : List Node = take id ns in
     let is : sort_at ns id ≡ sort_of_node (sorts before) n = sort_at-is ns id n at in
     let short : length before ≡ id = omega (arith, length-take id ns) in
-    let told = λ (c p : ℕ) (there : IsFieldAt before p c).
+    let known = λ (c p : ℕ) (there : IsFieldAt before p c).
     let early : c < id = omega (arith, there.0, short) in
     subst (λ s. IsOfSort s (value_at ns A c)) (sym (sort_at-take id ns c early) ∙ there.1) (of_sort_below k ns A c formed (omega arith) (omega arith)) in
     let orders = λ (c p : ℕ) (there : IsFieldAt before p c). IsOrder-positive p (IsOrder-from_IsFieldAt before c p (IsWellFormed-take id ns formed) there) in
-    let all : IsOfSort (sort_of_node (sorts before) n) (value_of_node (order_of_sort (sort_of_node (sorts before) n)) A (values ns A) n) = value_is_of_sort before A (values ns A) told orders n (formed.fits id n at) in
+    let all : IsOfSort (sort_of_node (sorts before) n) (value_of_node (order_of_sort (sort_of_node (sorts before) n)) A (values ns A) n) = value_is_of_sort before A (values ns A) known orders n (formed.fits id n at) in
     subst (λ v. IsOfSort (sort_at ns id) v) (sym (value_at-is ns A id n formed at)) (subst (λ s. IsOfSort s (value_of_node (order_of_sort s) A (values ns A) n)) (sym is) all)
 
 -- the value of each node is of the node's sort

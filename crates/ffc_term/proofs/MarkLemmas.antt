@@ -144,5 +144,5 @@ pub IsNoneMarked-join : (marks : List Bool) (from between to : ℕ) → IsNoneMa
 IsNoneMarked-join marks from between to low high k least below is =
     elim (cases_lt k between) as (λ _. ⊥) [
       | inl before ↦ low k least before is
-      | inr behind ↦ high k behind below is
+      | inr after ↦ high k after below is
     ]

@@ -9,10 +9,6 @@ use Rattle.ffc_term.specs.Keeping.{capped}
 use Rattle.ffc_term.proofs.InTurn.{in_turn-push, in_turn-take, length-in_turn}
 use Rattle.ffc_term.proofs.ListLemmas.{min-min_mul}
 
--- one more summand or factor, under a cap
-pub capped_sum : (c s total d r next : ℕ) → r ≡ min c (s + d) → s ≡ min total c → next ≡ total + d → r ≡ min next c
-capped_sum c s total d r next is so after = omega arith
-
 number_in-capped : (numbers : List ℕ) (id : ℕ) → number_in (map capped numbers) id ≡ capped (number_in numbers id)
 number_in-capped [] id = refl
 number_in-capped (x ∷ numbers) zero = refl

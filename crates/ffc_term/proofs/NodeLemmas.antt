@@ -83,8 +83,8 @@ same_node (Bitsum xs) _ h = absurd (false≢true h)
 -- the place at which a node is found
 pub IsNodeAt-from_position : (nodes : List Node) (n : Node) (id : ℕ) → position ((by_parts.ghosts).eq n) nodes ≡ Some id → IsNodeAt nodes id n
 IsNodeAt-from_position nodes n id found =
-    let told = position-Some ((by_parts.ghosts).eq n) nodes id n found in
-    slice_get-get_or nodes id n told.0 ∙ ap Some (sym (same_node n (get_or nodes id n) told.1))
+    let known = position-Some ((by_parts.ghosts).eq n) nodes id n found in
+    slice_get-get_or nodes id n known.0 ∙ ap Some (sym (same_node n (get_or nodes id n) known.1))
 
 -- a node that is not found is nowhere
 pub not_Contains-from_any : (nodes : List Node) (n : Node) → list_any ((by_parts.ghosts).eq n) nodes ≡ false → ¬ (Contains nodes n)
@@ -124,7 +124,7 @@ IsNodeAt-push ns n id m at =
     let bound : id < length ns + 1 = omega (arith, length-append ns (n ∷ [])) in
     elim (cases_lt id (length ns)) as (λ _. IsNodeAt ns id m ⊎ ((id ≡ length ns) × (m ≡ n))) [
       | inl before ↦ inl (IsNodeAt-append_left ns (n ∷ []) id m before at)
-      | inr behind ↦
+      | inr after ↦
           let here : id ≡ length ns = omega arith in
           inr (here, IsNodeAt-unique (ns ++ n ∷ []) id m n at (subst (λ i. IsNodeAt (ns ++ n ∷ []) i n) (sym here) (IsNodeAt-last ns n)))
     ]
@@ -135,12 +135,6 @@ IsNodeAt-from_take k ns id n at =
     let short : id < k = omega (arith, length-take k ns) in
     let here : id < length ns = omega (arith, length-take k ns) in
     (short, slice_get-get_or ns id n here ∙ ap Some (sym (get_or-take k ns id n short) ∙ get_or_from_slice_get (take k ns) id n n at))
-
-pub IsNodeAt-take : (k : ℕ) (ns : List Node) (id : ℕ) (n : Node) → id < k → IsNodeAt ns id n → IsNodeAt (take k ns) id n
-IsNodeAt-take k ns id n short at =
-    let here : id < length ns = slice_get_within ns id n at in
-    let inside : id < length (take k ns) = omega (arith, length-take k ns) in
-    slice_get-get_or (take k ns) id n inside ∙ ap Some (get_or-take k ns id n short ∙ get_or_from_slice_get ns id n n at)
 
 -- what an insertion by `==` leaves
 pub record IsInserted (old new : List Node) (n : Node) (id : ℕ) (added : Bool) : Type 0 where

@@ -113,12 +113,12 @@ IsWellFormed-take k ns old = record {
 }
 
 pub AreKept-push : (ns : List Node) (kept : List Kept) (n : Node) (k : Kept) → AreKept ns kept → IsKeptOf kept n k → AreKept (ns ++ n ∷ []) (kept ++ k ∷ [])
-AreKept-push ns kept n k old told = record {
+AreKept-push ns kept n k old known = record {
   sorts_are =
-      map_push (λ (x : Kept). x.sort) kept k ∙ ap (λ s. kept_sorts kept ++ s ∷ []) told.sort_is
+      map_push (λ (x : Kept). x.sort) kept k ∙ ap (λ s. kept_sorts kept ++ s ∷ []) known.sort_is
       ∙ ap (λ xs. xs ++ sort_of_node xs n ∷ []) old.sorts_are ∙ sym (sorts-push ns n);
-  degrees_are = map_push (λ (x : Kept). x.degree) kept k ∙ degrees_more ns n (kept_degrees kept) k.degree old.degrees_are told.degree_is;
-  lengths_are = map_push (λ (x : Kept). x.length) kept k ∙ lengths_more ns n (kept_lengths kept) k.length old.lengths_are told.length_is;
+  degrees_are = map_push (λ (x : Kept). x.degree) kept k ∙ degrees_more ns n (kept_degrees kept) k.degree old.degrees_are known.degree_is;
+  lengths_are = map_push (λ (x : Kept). x.length) kept k ∙ lengths_more ns n (kept_lengths kept) k.length old.lengths_are known.length_is;
 }
 
 pub AreKept-take : (i : ℕ) (ns : List Node) (kept : List Kept) → AreKept ns kept → AreKept (take i ns) (take i kept)
@@ -130,19 +130,19 @@ AreKept-take i ns kept old = record {
 
 -- a new node with what is kept of it, put after the others
 pub Store-push : (keys new : List Node) (kept later : List Kept) (n : Node) (k : Kept) → IsWellFormed keys → AreKept keys kept → Fits keys n → Contains keys n ⊎ IsNumbered keys n → ¬ (length keys ≡ most_nodes) → ¬ (Contains keys n) → new ≡ keys ++ n ∷ [] → IsKeptOf kept n k → later ≡ kept ++ k ∷ [] → IsWellFormed new × AreKept new later
-Store-push keys new kept later n k old told fits numbered room none longer kept_of behind =
+Store-push keys new kept later n k old known fits numbered room none longer kept_of rest =
     let bound : length keys ≤ most_nodes = old.within in
     let number : IsNumbered keys n = ⊎_elim (λ has. absurd (none has)) (λ is. is) numbered in
-    rw (longer, behind) (IsWellFormed-push keys n old fits number none (omega arith), AreKept-push keys kept n k told kept_of)
+    rw (longer, rest) (IsWellFormed-push keys n old fits number none (omega arith), AreKept-push keys kept n k known kept_of)
 
 pub AreKept-length : (ns : List Node) (kept : List Kept) → AreKept ns kept → length kept ≡ length ns
-AreKept-length ns kept told = sym (length-map kept (λ k. k.sort)) ∙ ap length told.sorts_are ∙ length-sorts ns
+AreKept-length ns kept known = sym (length-map kept (λ k. k.sort)) ∙ ap length known.sorts_are ∙ length-sorts ns
 
 -- the sort that is kept of a node
 pub AreKept-sort : (ns : List Node) (kept : List Kept) → AreKept ns kept → (id : ℕ) (k : Kept) → id < length ns → k ≡ get_or kept id k → k.sort ≡ sort_at ns id
-AreKept-sort ns kept told id k inside read =
-    let within : id < length kept = omega (arith, AreKept-length ns kept told) in
-    ap (λ (x : Kept). x.sort) read ∙ sym (get_or-map (λ (x : Kept). x.sort) kept id k sort.Bool within) ∙ ap (λ xs. get_or xs id sort.Bool) told.sorts_are
+AreKept-sort ns kept known id k inside read =
+    let within : id < length kept = omega (arith, AreKept-length ns kept known) in
+    ap (λ (x : Kept). x.sort) read ∙ sym (get_or-map (λ (x : Kept). x.sort) kept id k sort.Bool within) ∙ ap (λ xs. get_or xs id sort.Bool) known.sorts_are
 
 -- a new node that is no `ite` of field sort needs no equalities
 pub HasEqualities-push : (ns : List Node) (n : Node) → HasEqualities ns → ¬ (IsFieldIte n) → HasEqualities (ns ++ n ∷ [])
@@ -157,23 +157,23 @@ HasEqualities-nil t c a b at = absurd (none_at t (IteField c a b) at)
 
 -- what `intern` leaves of a node that is no `ite` of field sort
 pub HasEqualities-interned : (old new : List Node) (n : Node) (id : ℕ) → HasEqualities old → ¬ (IsFieldIte n) → IsInterned old new n id → HasEqualities new
-HasEqualities-interned old new n id told plain interned =
-    ⊎_elim (λ same. subst HasEqualities (sym same.1) told) (λ longer. subst HasEqualities (sym longer.1) (HasEqualities-push old n told plain)) interned.added
+HasEqualities-interned old new n id known plain interned =
+    ⊎_elim (λ same. subst HasEqualities (sym same.1) known) (λ longer. subst HasEqualities (sym longer.1) (HasEqualities-push old n known plain)) interned.added
 
 -- the same for what the call answers
 pub HasEqualities-result : (r : Result ℕ TermStop) (old new : List Node) (n : Node) → HasEqualities old → ¬ (IsFieldIte n) → IfOk r (IsInterned old new n) → OnErr r (new ≡ old) → HasEqualities new
-HasEqualities-result (Ok id) old new n told plain interned same = HasEqualities-interned old new n id told plain interned
-HasEqualities-result (Err e) old new n told plain interned same = subst HasEqualities (sym same) told
+HasEqualities-result (Ok id) old new n known plain interned same = HasEqualities-interned old new n id known plain interned
+HasEqualities-result (Err e) old new n known plain interned same = subst HasEqualities (sym same) known
 
 -- the degree and the length that are kept of a node
 pub AreKept-degree : (ns : List Node) (kept : List Kept) → AreKept ns kept → (id : ℕ) (k : Kept) → id < length ns → k ≡ get_or kept id k → k.degree ≡ capped (degree_at ns id)
-AreKept-degree ns kept told id k inside read =
-    let within : id < length kept = omega (arith, AreKept-length ns kept told) in
-    ap (λ (x : Kept). x.degree) read ∙ sym (get_or-map (λ (x : Kept). x.degree) kept id k 0 within) ∙ ap (λ xs. get_or xs id 0) told.degrees_are
+AreKept-degree ns kept known id k inside read =
+    let within : id < length kept = omega (arith, AreKept-length ns kept known) in
+    ap (λ (x : Kept). x.degree) read ∙ sym (get_or-map (λ (x : Kept). x.degree) kept id k 0 within) ∙ ap (λ xs. get_or xs id 0) known.degrees_are
     ∙ get_or-map capped (degrees ns) id 0 0 (omega (arith, length-degrees ns))
 
 pub AreKept-long : (ns : List Node) (kept : List Kept) → AreKept ns kept → (id : ℕ) (k : Kept) → id < length ns → k ≡ get_or kept id k → k.length ≡ capped (length_at ns id)
-AreKept-long ns kept told id k inside read =
-    let within : id < length kept = omega (arith, AreKept-length ns kept told) in
-    ap (λ (x : Kept). x.length) read ∙ sym (get_or-map (λ (x : Kept). x.length) kept id k 0 within) ∙ ap (λ xs. get_or xs id 0) told.lengths_are
+AreKept-long ns kept known id k inside read =
+    let within : id < length kept = omega (arith, AreKept-length ns kept known) in
+    ap (λ (x : Kept). x.length) read ∙ sym (get_or-map (λ (x : Kept). x.length) kept id k 0 within) ∙ ap (λ xs. get_or xs id 0) known.lengths_are
     ∙ get_or-map capped (lengths ns) id 0 0 (omega (arith, length-lengths ns))

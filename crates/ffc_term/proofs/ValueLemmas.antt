@@ -21,7 +21,6 @@ use Rattle.ffc_term.specs.Tables.{Fits, IsFieldAt, IsWellFormed, IsTable}
 use Rattle.ffc_term.specs.Checks.{IsClosed}
 use Rattle.ffc_term.specs.Values.{values, value_at, value_in, truth_in, residue_in, truth, residue, bit_sum_from, value_of_node, is_same_truth, HoldsValues}
 use Rattle.ffc_term.proofs.InTurn.{get_or-in_turn, length-in_turn}
-use Rattle.ffc_term.proofs.ListLemmas.{nothing_in}
 use Rattle.ffc_term.proofs.NodeLemmas.{IsNodeAt-get_or}
 use Rattle.ffc_term.proofs.TableLemmas.{sort_at-is, sort_at-take}
 use Rattle.ffc_term.proofs.WalkLemmas.{child_below}
@@ -147,11 +146,11 @@ module _ (vs ws : List Value) where
 
 pub length-values : (ns : List Node) (A : List Value) → length (values ns A) ≡ length ns
 unfolding values
-length-values ns A = length-in_turn (λ told n. value_of_node (order_at ns (length told)) A told n) ns
+length-values ns A = length-in_turn (λ found n. value_of_node (order_at ns (length found)) A found n) ns
 
 value_at_turn : (ns : List Node) (A : List Value) (id : ℕ) (n : Node) → IsNodeAt ns id n → value_at ns A id ≡ value_of_node (order_at ns (length (take id (values ns A)))) A (take id (values ns A)) n
 unfolding values
-value_at_turn ns A id n at = get_or-in_turn (λ told m. value_of_node (order_at ns (length told)) A told m) ns id n (value.Bool false) at
+value_at_turn ns A id n at = get_or-in_turn (λ found m. value_of_node (order_at ns (length found)) A found m) ns id n (value.Bool false) at
 
 -- the value of a node from those of the nodes before it
 value_at_front : (ns : List Node) (A : List Value) (id : ℕ) (n : Node) → IsNodeAt ns id n → value_at ns A id ≡ value_of_node (order_at ns id) A (take id (values ns A)) n
@@ -168,15 +167,8 @@ value_at-is ns A id n formed at =
 
 -- a list that holds the values of a node's children gives the node's value
 pub value_at-from_children : (ns : List Node) (A known : List Value) (id : ℕ) (n : Node) → IsWellFormed ns → IsNodeAt ns id n → ((c : ℕ) → Contains (children n) c → slice_get known c ≡ Some (value_at ns A c)) → value_of_node (order_at ns id) A known n ≡ value_at ns A id
-value_at-from_children ns A known id n formed at told =
-    value_of_node-agree known (values ns A) (order_at ns id) A n (λ c has. get_or_from_slice_get known c (value_at ns A c) (value.Bool false) (told c has)) ∙ sym (value_at-is ns A id n formed at)
-
-pub HoldsValues-none : (ns : List Node) (A : List Value) (old : List Value) → HoldsValues ns A [] old old
-HoldsValues-none ns A old = record {
-  long = refl;
-  written = λ id has. absurd (nothing_in id has);
-  kept = λ id none. refl;
-}
+value_at-from_children ns A known id n formed at found =
+    value_of_node-agree known (values ns A) (order_at ns id) A n (λ c has. get_or_from_slice_get known c (value_at ns A c) (value.Bool false) (found c has)) ∙ sym (value_at-is ns A id n formed at)
 
 slice_get-set_other : (xs : List Value) (i k : ℕ) (v : Value) → ¬ (k ≡ i) → slice_get (set xs i v) k ≡ slice_get xs k
 slice_get-set_other [] i k v other = refl
@@ -187,24 +179,24 @@ slice_get-set_other (x ∷ xs) (suc i) (suc k) v other = slice_get-set_other xs 
 
 -- one more value
 pub HoldsValues-more : (ns : List Node) (A : List Value) (nodes : List ℕ) (i : ℕ) (old new : List Value) (v : Value) → i < length nodes → get_or nodes i 0 < length new → HoldsValues ns A (take i nodes) old new → v ≡ value_at ns A (get_or nodes i 0) → HoldsValues ns A (take (i + 1) nodes) old (set new (get_or nodes i 0) v)
-HoldsValues-more ns A nodes i old new v inside within told is =
+HoldsValues-more ns A nodes i old new v inside within found is =
     let x : ℕ = get_or nodes i 0 in
     let front : take (i + 1) nodes ≡ take i nodes ++ x ∷ [] = take_more nodes i 0 inside in
     let here : slice_get (set new x v) x ≡ Some (value_at ns A x) = slice_get-get_or (set new x v) x v (omega (arith, length-set new x v)) ∙ ap Some (get_or-set_same new x v v within ∙ is) in
     rw front (record {
-      long = length-set new x v ∙ told.long;
+      long = length-set new x v ∙ found.long;
       written = λ id has. elim (cases_eq id x) as (λ _. slice_get (set new x v) id ≡ Some (value_at ns A id)) [
         | inl same ↦ subst (λ k. slice_get (set new x v) k ≡ Some (value_at ns A k)) (sym same) here
-        | inr other ↦ slice_get-set_other new x id v other ∙ told.written id (⊎_elim (λ before. before) (λ e. absurd (other (sym e))) (Contains-push_cases (take i nodes) x id has))
+        | inr other ↦ slice_get-set_other new x id v other ∙ found.written id (⊎_elim (λ before. before) (λ e. absurd (other (sym e))) (Contains-push_cases (take i nodes) x id has))
       ];
       kept = λ id none. elim (cases_eq id x) as (λ _. slice_get (set new x v) id ≡ slice_get old id) [
         | inl same ↦ absurd (none (subst (Contains (take i nodes ++ x ∷ [])) (sym same) (Contains-push (take i nodes) x)))
-        | inr other ↦ slice_get-set_other new x id v other ∙ told.kept id (λ before. none (Contains-append_left (take i nodes) (x ∷ []) id before))
+        | inr other ↦ slice_get-set_other new x id v other ∙ found.kept id (λ before. none (Contains-append_left (take i nodes) (x ∷ []) id before))
       ];
     })
 
 late : (nodes : List ℕ) (i c : ℕ) → IsStrictlyIncreasing nodes → i < length nodes → (has : Contains nodes c) → i ≤ has.0 → ¬ (c < get_or nodes i 0)
-late nodes i c rises inside has behind below =
+late nodes i c rises inside has after below =
     let read : get_or nodes has.0 0 ≡ c = get_or_default nodes has.0 0 c has.1 ∙ has.2 in
     elim (cases_eq i has.0) as (λ _. ⊥) [
       | inl same ↦ let e : get_or nodes i 0 ≡ c = ap (λ k. get_or nodes k 0) same ∙ read in omega arith
@@ -216,7 +208,7 @@ pub Contains-take : (nodes : List ℕ) (i c : ℕ) → IsStrictlyIncreasing node
 Contains-take nodes i c rises inside has below =
     elim (cases_lt has.0 i) as (λ _. Contains (take i nodes) c) [
       | inl before ↦ (has.0, omega (arith, length-take i nodes, has.1), get_or-take i nodes has.0 c before ∙ has.2)
-      | inr behind ↦ absurd (late nodes i c rises inside has behind below)
+      | inr after ↦ absurd (late nodes i c rises inside has after below)
     ]
 
 -- the children of the nodes of a closed list are in the table
@@ -228,16 +220,16 @@ closed_children_within ns nodes i len n closed inside long at k d within =
 
 -- the next node of a closed list gets its value from those of the nodes before it
 pub next_value : (ns : List Node) (A : List Value) (nodes : List ℕ) (i : ℕ) (old out : List Value) (v : Value) → IsClosed ns nodes → IsTable ns → i < length nodes → HoldsValues ns A (take i nodes) old out → ((n : Node) → IsNodeAt ns (get_or nodes i 0) n → v ≡ value_of_node (order_at ns (get_or nodes i 0)) A out n) → v ≡ value_at ns A (get_or nodes i 0)
-next_value ns A nodes i old out v closed table inside told is =
+next_value ns A nodes i old out v closed table inside found is =
     let x : ℕ = get_or nodes i 0 in
     let n : Node = get_or ns x True in
     let at : IsNodeAt ns x n = IsNodeAt-get_or ns x True (closed.within i 0 inside) in
     let known = λ (c : ℕ) (has : Contains (children n) c).
-    told.written c (Contains-take nodes i c closed.increasing inside (closed.closed x c n (Contains-get_or nodes i 0 inside) at has) (child_below ns x c n table.well_formed at has)) in
+    found.written c (Contains-take nodes i c closed.increasing inside (closed.closed x c n (Contains-get_or nodes i 0 inside) at has) (child_below ns x c n table.well_formed at has)) in
     is n at ∙ value_at-from_children ns A out x n table.well_formed at known
 
 -- one more node of a closed list is evaluated
 pub eval_step : (ns : List Node) (A : List Value) (nodes : List ℕ) (i : ℕ) (old out : List Value) (v : Value) → IsClosed ns nodes → IsTable ns → length old ≡ length ns → i < length nodes → HoldsValues ns A (take i nodes) old out → ((n : Node) → IsNodeAt ns (get_or nodes i 0) n → v ≡ value_of_node (order_at ns (get_or nodes i 0)) A out n) → HoldsValues ns A (take (i + 1) nodes) old (set out (get_or nodes i 0) v)
-eval_step ns A nodes i old out v closed table long inside told is =
+eval_step ns A nodes i old out v closed table long inside found is =
     let x : ℕ = get_or nodes i 0 in
-    HoldsValues-more ns A nodes i old out v inside (subst (λ m. x < m) (sym (told.long ∙ long)) (closed.within i 0 inside)) told (next_value ns A nodes i old out v closed table inside told is)
+    HoldsValues-more ns A nodes i old out v inside (subst (λ m. x < m) (sym (found.long ∙ long)) (closed.within i 0 inside)) found (next_value ns A nodes i old out v closed table inside found is)

@@ -1,5 +1,5 @@
 -- A form that a lexer just gave is the last one.
-use Rattle.std.proofs.Common.{◌≡◌, ℕ, suc, ◌+◌, List, Option, Some, None, refl, sym, ap, ◌∙◌, arith}
+use Rattle.std.proofs.Common.{◌≡◌, ℕ, suc, ◌+◌, List, Option, Some, None, sym, ap, ◌∙◌, arith}
 use Rattle.ffc_lex.specs.declared.faults.LexFault.{LexFault}
 use Rattle.ffc_lex.specs.declared.tokens.Token.{Token}
 use Rattle.ffc_lex.specs.Lexing.{Lexing, due_form, next_form_of}

@@ -94,10 +94,6 @@ tokens_some t = let e = ap length (tokens_front t) in omega arith
 abbrev pub closed : Trees → Word → List Word
 closed ts closing = tokens_of_items ts ++ closing ∷ []
 
--- ends with what follows
-pub closed_rest : (ts : Trees) (closing : Word) (rest : List Word) → closed ts closing ++ rest ≡ tokens_of_items ts ++ closing ∷ rest
-closed_rest ts closing rest = append_assoc (tokens_of_items ts) (closing ∷ []) rest
-
 abbrev pub FaultsAtTree : {A : Type 0} → (Tree → Read A) → Type 0
 FaultsAtTree read = (t : Tree) → Each (IsAt (tokens_of t)) (faults (read t))
 

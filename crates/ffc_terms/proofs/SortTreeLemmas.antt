@@ -27,9 +27,6 @@ use Rattle.ffc_terms.proofs.ItemLemmas.{answer, outcome_map, opens_leaf, closes_
 
 -- Names that are no parentheses
 
-symbol_right : (k : TokenKind) → k ≡ kinds.RightParen → is_symbol k ≡ false
-symbol_right k e = ap is_symbol e
-
 pub is_word_paren : (word : List ℕ) (w : Word) (k : TokenKind) → w.kind ≡ k → is_symbol k ≡ false → is_word word w ≡ false
 is_word_paren word w k e n = ap (λ b. (b && is_reserved_word w.bytes) && bytes_eq w.bytes word) (ap is_symbol e ∙ n)
 

@@ -1,5 +1,5 @@
 -- Walking over words.
-use Rattle.std.proofs.Common.{◌≡◌, ℕ, zero, suc, ◌+◌, ◌-◌, ◌<◌, ◌≤◌, Result, Ok, Err, List, [], ◌∷◌, length, drop, refl, sym, ap, ◌∙◌, arith}
+use Rattle.std.proofs.Common.{◌≡◌, ℕ, suc, ◌+◌, ◌-◌, ◌<◌, ◌≤◌, Result, Ok, Err, List, ◌∷◌, length, drop, refl, sym, ap, ◌∙◌, arith}
 use Rattle.ffc_term.specs.declared.node.Sort.{Sort}
 use Rattle.ffc_smt.specs.Meaning.{Env}
 use Rattle.std.proofs.lemmas.List.{drop_all}
@@ -14,26 +14,12 @@ use Rattle.ffc_terms.specs.declared.values.Value.{Value}
 use Rattle.ffc_terms.specs.Walking.{Walking, Going, Done, Failed, moved, step, goes_on, Steps, run, RunsAs}
 use Rattle.ffc_terms.proofs.SortLemmas.{words_from}
 
-drop_all_or : {A : Type 0} (xs : List A) (n : ℕ) → drop (length xs - (length xs - n)) xs ≡ drop n xs
-drop_all_or [] zero = refl
-drop_all_or [] (suc n) = let e : 0 - (0 - suc n) ≡ 0 = omega arith in ap (λ k. drop k []) e
-drop_all_or (x ∷ xs) zero = let e : suc (length xs) - (suc (length xs) - 0) ≡ 0 = omega arith in ap (λ k. drop k (x ∷ xs)) e
-drop_all_or (x ∷ xs) (suc n) = let e : suc (length xs) - (suc (length xs) - suc n) ≡ suc (length xs - (length xs - n)) = omega arith in ap (λ k. drop k (x ∷ xs)) e ∙ drop_all_or xs n
-
--- what is cut to be that much shorter
-pub cut_is_drop : {A : Type 0} (xs : List A) (n count left : ℕ) → count ≡ length xs → left ≡ count - n → drop (length xs - left) xs ≡ drop n xs
-cut_is_drop xs n count left c l = let e : length xs - left ≡ length xs - (length xs - n) = omega arith in ap (λ k. drop k xs) e ∙ drop_all_or xs n
-
 -- one more is moved
 pub moved_one : (x : List ℕ × Sort) (from rest onto more : Env Sort) (count i : ℕ) → i < count → from ≡ x ∷ rest → more ≡ x ∷ onto
     → moved (count - (i + 1)) rest more ≡ moved (count - i) from onto
 moved_one x from rest onto more count i h e f =
     let n : count - i ≡ suc (count - (i + 1)) = omega arith in
     ap (λ v. moved (count - (i + 1)) rest v) f ∙ sym (ap (λ k. moved k from onto) n ∙ ap (λ v. moved (suc (count - (i + 1))) v onto) e)
-
-pub moved_none : (onto : Env Sort) (n : ℕ) → moved n [] onto ≡ ([], onto)
-moved_none onto zero = refl
-moved_none onto (suc n) = refl
 
 -- Reading on, a word
 

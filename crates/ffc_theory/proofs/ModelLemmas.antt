@@ -28,10 +28,10 @@ same_bool true false e = absurd (omega arith)
 same_bool false true e = absurd (omega arith)
 
 -- constants' nodes have one value where they are given one number
-node_same : (p : ℕ) (A B told other : List Value) (n : Node) → is_constant n ≡ true → number_for n (value_in A (number_of_constant n)) ≡ number_for n (value_in B (number_of_constant n)) → value_of_node p A told n ≡ value_of_node p B other n
-node_same p A B told other (BoolConst k) const same = ap value.Bool (same_bool (truth_in A k) (truth_in B k) same)
-node_same p A B told other (FieldConst k q) const same = ap value.Field same
-node_same p A B told other _ const same = absurd (false≢true const)
+node_same : (p : ℕ) (A B known other : List Value) (n : Node) → is_constant n ≡ true → number_for n (value_in A (number_of_constant n)) ≡ number_for n (value_in B (number_of_constant n)) → value_of_node p A known n ≡ value_of_node p B other n
+node_same p A B known other (BoolConst k) const same = ap value.Bool (same_bool (truth_in A k) (truth_in B k) same)
+node_same p A B known other (FieldConst k q) const same = ap value.Field same
+node_same p A B known other _ const same = absurd (false≢true const)
 
 constant_same : (ns : List Node) (A B : List Value) (id : ℕ) → IsTable ns → IsConstantAt ns id → number_given ns A id ≡ number_given ns B id → value_at ns A id ≡ value_at ns B id
 constant_same ns A B id table (n, at, const) same =

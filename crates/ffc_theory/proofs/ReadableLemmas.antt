@@ -33,10 +33,6 @@ pub increase : (least : ℕ) (powers : List (ℕ × ℕ)) → IncreaseFrom least
 increase least [] from = tt
 increase least (p ∷ powers) from = (all_above (p.0 + 1) p.0 powers (omega arith) from.1, increase (p.0 + 1) powers from.1)
 
-pub next_variable : (powers : List (ℕ × ℕ)) (i least : ℕ) (d : ℕ × ℕ) → i < length powers → least ≤ (get_or powers i d).0
-    → (IncreaseFrom least (drop i powers) → IncreaseFrom 0 powers) → IncreaseFrom ((get_or powers i d).0 + 1) (drop (i + 1) powers) → IncreaseFrom 0 powers
-next_variable powers i least d inside here so_far rest = so_far (subst (IncreaseFrom least) (sym (drop_more powers i d inside)) (here, rest))
-
 -- Lines in their order
 
 chosen : {A : Type 0} (b : Bool) (x y : A) → ◌≡◌ {A = Option A} (cond b (Some x) None) (Some y) → (b ≡ true) × (x ≡ y)

@@ -119,14 +119,14 @@ within-normal d (suc n) p (t ∷ ts) is =
 
 -- ---- one node
 
-module _ (before : List Node) (polys : List Terms) (ds ls : List ℕ) (p id : ℕ) (told : (c : ℕ) → IsFieldAt before p c → IsWithin (number_in ds c) (number_in ls c) (poly_in polys c)) where
+module _ (before : List Node) (polys : List Terms) (ds ls : List ℕ) (p id : ℕ) (within : (c : ℕ) → IsFieldAt before p c → IsWithin (number_in ds c) (number_in ls c) (poly_in polys c)) where
   sum_within : (ids : List ℕ) → All (IsFieldAt before p) ids → IsWithin (greatest_by (number_in ds) ids) (sum_by (number_in ls) ids) (sum_of polys ids)
   sum_within [] are = record { low = omega arith; few = omega arith }
   sum_within (c ∷ ids) are =
       let d : ℕ = greatest_by (number_in ds) (c ∷ ids) in
       let top : d ≡ max (number_in ds c) (greatest_by (number_in ds) ids) = greatest_by-cons (number_in ds) c ids in
       let all : sum_by (number_in ls) (c ∷ ids) ≡ number_in ls c + sum_by (number_in ls) ids = sum_by-cons (number_in ls) c ids in
-      let first : IsWithin d (number_in ls c) (poly_in polys c) = within_more (number_in ds c) (number_in ls c) d (number_in ls c) (poly_in polys c) (omega arith) (omega arith) (told c (All-head (IsFieldAt before p) c ids are)) in
+      let first : IsWithin d (number_in ls c) (poly_in polys c) = within_more (number_in ds c) (number_in ls c) d (number_in ls c) (poly_in polys c) (omega arith) (omega arith) (within c (All-head (IsFieldAt before p) c ids are)) in
       let rest : IsWithin d (sum_by (number_in ls) ids) (sum_of polys ids) = within_more (greatest_by (number_in ds) ids) (sum_by (number_in ls) ids) d (sum_by (number_in ls) ids) (sum_of polys ids) (omega arith) (omega arith) (sum_within ids (All-tail (IsFieldAt before p) c ids are)) in
       subst (λ n. IsWithin d n (sum_of polys (c ∷ ids))) (sym all) (within-append d (number_in ls c) (sum_by (number_in ls) ids) (poly_in polys c) (sum_of polys ids) first rest)
 
@@ -136,7 +136,7 @@ module _ (before : List Node) (polys : List Terms) (ds ls : List ℕ) (p id : �
       let d : ℕ = greatest_by (number_in ds) (c ∷ ids) in
       let top : d ≡ max (number_in ds c) (greatest_by (number_in ds) ids) = greatest_by-cons (number_in ds) c ids in
       let all : sum_by (number_in ls) (c ∷ ids) ≡ number_in ls c + sum_by (number_in ls) ids = sum_by-cons (number_in ls) c ids in
-      let first : IsWithin d (number_in ls c) (scaled (2 ^ i) (poly_in polys c)) = within_more (number_in ds c) (number_in ls c) d (number_in ls c) (scaled (2 ^ i) (poly_in polys c)) (omega arith) (omega arith) (within-scaled (number_in ds c) (number_in ls c) (2 ^ i) (poly_in polys c) (told c (All-head (IsFieldAt before p) c ids are))) in
+      let first : IsWithin d (number_in ls c) (scaled (2 ^ i) (poly_in polys c)) = within_more (number_in ds c) (number_in ls c) d (number_in ls c) (scaled (2 ^ i) (poly_in polys c)) (omega arith) (omega arith) (within-scaled (number_in ds c) (number_in ls c) (2 ^ i) (poly_in polys c) (within c (All-head (IsFieldAt before p) c ids are))) in
       let rest : IsWithin d (sum_by (number_in ls) ids) (bit_sum_of (i + 1) polys ids) = within_more (greatest_by (number_in ds) ids) (sum_by (number_in ls) ids) d (sum_by (number_in ls) ids) (bit_sum_of (i + 1) polys ids) (omega arith) (omega arith) (bits_within (i + 1) ids (All-tail (IsFieldAt before p) c ids are)) in
       subst (λ n. IsWithin d n (bit_sum_of i polys (c ∷ ids))) (sym all) (within-append d (number_in ls c) (sum_by (number_in ls) ids) (scaled (2 ^ i) (poly_in polys c)) (bit_sum_of (i + 1) polys ids) first rest)
 
@@ -145,7 +145,7 @@ module _ (before : List Node) (polys : List Terms) (ds ls : List ℕ) (p id : �
   product_within (c ∷ ids) are =
       subst (λ n. IsWithin (sum_by (number_in ds) (c ∷ ids)) n (product_of polys (c ∷ ids))) (sym (product_by-cons (number_in ls) c ids))
       (subst (λ d. IsWithin d (number_in ls c * product_by (number_in ls) ids) (product_of polys (c ∷ ids))) (sym (sum_by-cons (number_in ds) c ids))
-      (within-product (number_in ds c) (number_in ls c) (sum_by (number_in ds) ids) (product_by (number_in ls) ids) (poly_in polys c) (product_of polys ids) (told c (All-head (IsFieldAt before p) c ids are)) (product_within ids (All-tail (IsFieldAt before p) c ids are))))
+      (within-product (number_in ds c) (number_in ls c) (sum_by (number_in ds) ids) (product_by (number_in ls) ids) (poly_in polys c) (product_of polys ids) (within c (All-head (IsFieldAt before p) c ids are)) (product_within ids (All-tail (IsFieldAt before p) c ids are))))
 
   node_within : (n : Node) → Fits before n → sort_of_node (sorts before) n ≡ sort.Field p → IsWithin (degree_of_node ds n) (length_of_node ls n) (expanded p id polys n)
   node_within (FieldConst k q) fits is = record { low = omega arith; few = omega arith }
@@ -153,7 +153,7 @@ module _ (before : List Node) (polys : List Terms) (ds ls : List ℕ) (p id : �
   node_within (IteField c a b) fits is = record { low = omega arith; few = omega arith }
   node_within (Add ids) fits is = sum_within ids (of_order before p ids fits (first_order before p ids fits is))
   node_within (Mul ids) fits is = product_within ids (of_order before p ids fits (first_order before p ids fits is))
-  node_within (Neg a) fits is = within-scaled (number_in ds a) (number_in ls a) (p - 1) (poly_in polys a) (told a (of_order before p (a ∷ []) fits (first_order before p (a ∷ []) fits is) 0 0 (omega arith)))
+  node_within (Neg a) fits is = within-scaled (number_in ds a) (number_in ls a) (p - 1) (poly_in polys a) (within a (of_order before p (a ∷ []) fits (first_order before p (a ∷ []) fits is) 0 0 (omega arith)))
   node_within (Bitsum ids) fits is = bits_within 0 ids (of_order before p ids fits (first_order before p ids fits is))
   node_within _ fits is = absurd (boolean_field p is)
 
@@ -178,7 +178,7 @@ bounded_below (suc k) ns p id below table is =
     let ls : List ℕ = take id (lengths ns) in
     let short : length before ≡ id = omega (arith, length-take id ns, is.0) in
     let order : order_at ns id ≡ p = ap order_of_sort is.1 in
-    let told = λ (c : ℕ) (there : IsFieldAt before p c).
+    let within = λ (c : ℕ) (there : IsFieldAt before p c).
     let early : c < id = omega (arith, there.0, short) in
     let inside : IsFieldAt ns p c = (omega (arith, is.0), sym (sort_at-take id ns c early) ∙ there.1) in
     let is_within : IsWithin (degree_at ns c) (length_at ns c) (poly_at ns c) = bounded_below k ns p c (omega arith) table inside in
@@ -186,7 +186,7 @@ bounded_below (suc k) ns p id below table is =
     (subst (λ m. IsWithin (number_in ds c) m (poly_at ns c)) (sym (get_or-take id (lengths ns) c 0 early))
     (subst (λ d. IsWithin d (length_at ns c) (poly_at ns c)) (sym (get_or-take id (degrees ns) c 0 early)) is_within)) in
     let here : IsWithin (degree_of_node ds n) (length_of_node ls n) (poly_of_node p id polys n) =
-    within-normal (degree_of_node ds n) (length_of_node ls n) p (expanded p id polys n) (node_within before polys ds ls p id told n (table.well_formed.fits id n at) (sym (sort_at-is ns id n at) ∙ is.1))
+    within-normal (degree_of_node ds n) (length_of_node ls n) p (expanded p id polys n) (node_within before polys ds ls p id within n (table.well_formed.fits id n at) (sym (sort_at-is ns id n at) ∙ is.1))
     in subst (λ ts. IsWithin (degree_at ns id) (length_at ns id) ts) (sym (poly_at-is ns id n at ∙ ap (λ q. poly_of_node q id polys n) order))
     (subst (λ m. IsWithin (degree_at ns id) m (poly_of_node p id polys n)) (sym (length_at-is ns id n at))
     (subst (λ d. IsWithin d (length_of_node ls n) (poly_of_node p id polys n)) (sym (degree_at-is ns id n at)) here))

@@ -59,9 +59,9 @@ variable_value p point x below =
     let one : point x ^ 1 ≡ point x = pow-suc (point x) 0 ∙ ap (λ n. n * point x) (pow-zero (point x)) ∙ one-mul (point x) in
     ap (λ n. (1 * (n * 1) + 0) % p) one ∙ ap (λ n. n % p) (let same : 1 * (point x * 1) + 0 ≡ point x = omega arith in same) ∙ mod-eq_of_lt below
 
-module _ (before : List Node) (A vs : List Value) (polys : List Terms) (p id : ℕ) (point : ℕ → ℕ) (positive : 0 < p) (told : (c : ℕ) → IsFieldAt before p c → poly_value p point (poly_in polys c) ≡ residue_in vs c) where
+module _ (before : List Node) (A vs : List Value) (polys : List Terms) (p id : ℕ) (point : ℕ → ℕ) (positive : 0 < p) (bounded : (c : ℕ) → IsFieldAt before p c → poly_value p point (poly_in polys c) ≡ residue_in vs c) where
   here_alike : (c : ℕ) → IsFieldAt before p c → value_sum point (poly_in polys c) % p ≡ residue_in vs c % p
-  here_alike c is = sym (mod-mod (value_sum point (poly_in polys c)) p) ∙ ap (λ n. n % p) (told c is)
+  here_alike c is = sym (mod-mod (value_sum point (poly_in polys c)) p) ∙ ap (λ n. n % p) (bounded c is)
 
   sum_value : (ids : List ℕ) → All (IsFieldAt before p) ids → value_sum point (sum_of polys ids) % p ≡ sum_by (residue_in vs) ids % p
   sum_value [] are = refl
@@ -92,7 +92,7 @@ module _ (before : List Node) (A vs : List Value) (polys : List Terms) (p id : �
 
   negated_value : (c : ℕ) → IsFieldAt before p c → poly_value p point (scaled (p - 1) (poly_in polys c)) ≡ neg_mod p (residue_in vs c)
   negated_value c is =
-      ap (λ n. n % p) (scaled_value (p - 1) (poly_in polys c)) ∙ negated_mod p (value_sum point (poly_in polys c)) positive ∙ ap (λ n. (p - n) % p) (told c is)
+      ap (λ n. n % p) (scaled_value (p - 1) (poly_in polys c)) ∙ negated_mod p (value_sum point (poly_in polys c)) positive ∙ ap (λ n. (p - n) % p) (bounded c is)
 
   node_value : (n : Node) → Fits before n → sort_of_node (sorts before) n ≡ sort.Field p → point id ≡ residue (value_of_node p A vs n) → point id < p → poly_value p point (expanded p id polys n) ≡ residue (value_of_node p A vs n)
   node_value (FieldConst k q) fits is here below = variable_value p point id below ∙ here
@@ -143,14 +143,14 @@ value_below (suc k) ns A p point id below table points is =
     let value : value_at ns A id ≡ value_of_node p A (values ns A) n = value_at-is ns A id n table.well_formed at ∙ ap (λ q. value_of_node q A (values ns A) n) order in
     let here : point id ≡ residue (value_of_node p A (values ns A) n) = points id is ∙ ap residue value in
     let small : point id < p = subst (λ m. m < p) (sym (points id is)) (node_below ns A p id table is) in
-    let told = λ (c : ℕ) (there : IsFieldAt before p c).
+    let bounded = λ (c : ℕ) (there : IsFieldAt before p c).
     let early : c < id = omega (arith, there.0, short) in
     let inside : IsFieldAt ns p c = (omega (arith, is.0), sym (sort_at-take id ns c early) ∙ there.1) in
     ap (poly_value p point) (get_or-take id (node_polys ns) c [] early) ∙ value_below k ns A p point c (omega arith) table points inside in
     ap (poly_value p point) (poly_at-is ns id n at)
     ∙ ap (λ q. poly_value p point (poly_of_node q id polys n)) order
     ∙ poly_value-normal p point (expanded p id polys n)
-    ∙ node_value before A (values ns A) polys p id point (IsOrder-positive p (IsOrder-from_IsFieldAt ns id p table.well_formed is)) told n (table.well_formed.fits id n at) (sym (sort_at-is ns id n at) ∙ is.1) here small
+    ∙ node_value before A (values ns A) polys p id point (IsOrder-positive p (IsOrder-from_IsFieldAt ns id p table.well_formed is)) bounded n (table.well_formed.fits id n at) (sym (sort_at-is ns id n at) ∙ is.1) here small
     ∙ ap residue (sym value)
 
 -- the polynomial of a node has the node's residue at a point that gives each node its own

@@ -108,22 +108,22 @@ each_more P Q more (t ∷ ts) each = ((each.0.0, has_more P Q more t.1 each.0.1)
 
 module _ (before : List Node) (polys : List Terms) (p id : ℕ) (P : ℕ → Type 0) where
   node_variables : (n : Node) → Fits before n → sort_of_node (sorts before) n ≡ sort.Field p → ((c : ℕ) → Contains (children n) c → IsFieldAt before p c → EachMonomial (Good P) (poly_in polys c)) → (is_variable n ≡ true → P id) → EachMonomial (Good P) (expanded p id polys n)
-  node_variables (FieldConst k q) fits is told here = (((omega arith, omega arith, tt), (here refl, tt)), tt)
-  node_variables (Num n q) fits is told here = ((tt, tt), tt)
-  node_variables (IteField c a b) fits is told here = (((omega arith, omega arith, tt), (here refl, tt)), tt)
-  node_variables (Add ids) fits is told here =
+  node_variables (FieldConst k q) fits is within here = (((omega arith, omega arith, tt), (here refl, tt)), tt)
+  node_variables (Num n q) fits is within here = ((tt, tt), tt)
+  node_variables (IteField c a b) fits is within here = (((omega arith, omega arith, tt), (here refl, tt)), tt)
+  node_variables (Add ids) fits is within here =
       let those = of_order before p ids fits (first_order before p ids fits is) in
-      each-sum (Good P) (tt, tt) (good-product P) polys ids (λ i d inside. told (get_or ids i d) (Contains-get_or ids i d inside) (those i d inside))
-  node_variables (Mul ids) fits is told here =
+      each-sum (Good P) (tt, tt) (good-product P) polys ids (λ i d inside. within (get_or ids i d) (Contains-get_or ids i d inside) (those i d inside))
+  node_variables (Mul ids) fits is within here =
       let those = of_order before p ids fits (first_order before p ids fits is) in
-      each-product_of (Good P) (tt, tt) (good-product P) polys ids (λ i d inside. told (get_or ids i d) (Contains-get_or ids i d inside) (those i d inside))
-  node_variables (Neg a) fits is told here =
+      each-product_of (Good P) (tt, tt) (good-product P) polys ids (λ i d inside. within (get_or ids i d) (Contains-get_or ids i d inside) (those i d inside))
+  node_variables (Neg a) fits is within here =
       let those = of_order before p (a ∷ []) fits (first_order before p (a ∷ []) fits is) in
-      each-term_product (Good P) (tt, tt) (good-product P) (p - 1) [] (poly_in polys a) (tt, tt) (told a (0, omega arith, refl) (those 0 0 (omega arith)))
-  node_variables (Bitsum ids) fits is told here =
+      each-term_product (Good P) (tt, tt) (good-product P) (p - 1) [] (poly_in polys a) (tt, tt) (within a (0, omega arith, refl) (those 0 0 (omega arith)))
+  node_variables (Bitsum ids) fits is within here =
       let those = of_order before p ids fits (first_order before p ids fits is) in
-      each-bit_sum (Good P) (tt, tt) (good-product P) polys 0 ids (λ i d inside. told (get_or ids i d) (Contains-get_or ids i d inside) (those i d inside))
-  node_variables _ fits is told here = absurd (boolean_field p is)
+      each-bit_sum (Good P) (tt, tt) (good-product P) polys 0 ids (λ i d inside. within (get_or ids i d) (Contains-get_or ids i d inside) (those i d inside))
+  node_variables _ fits is within here = absurd (boolean_field p is)
 
 -- ---- all nodes
 
@@ -149,7 +149,7 @@ variables_below (suc k) ns p id below table is =
     let polys : List Terms = take id (node_polys ns) in
     let short : length before ≡ id = omega (arith, length-take id ns, is.0) in
     let order : order_at ns id ≡ p = ap order_of_sort is.1 in
-    let told = λ (c : ℕ) (has : Contains (children n) c) (there : IsFieldAt before p c).
+    let within = λ (c : ℕ) (has : Contains (children n) c) (there : IsFieldAt before p c).
     let early : c < id = omega (arith, there.0, short) in
     let inside : IsFieldAt ns p c = (omega (arith, is.0), sym (sort_at-take id ns c early) ∙ there.1) in
     let below_it : EachMonomial (Good (IsInCone ns p c)) (poly_at ns c) = variables_below k ns p c (omega arith) table inside in
@@ -157,7 +157,7 @@ variables_below (suc k) ns p id below table is =
     (each_more (IsInCone ns p c) (IsInCone ns p id) (λ x in_cone. (in_cone.0, cone_of_child ns id c x n at has in_cone.1)) (poly_at ns c) below_it) in
     let here : EachMonomial (Good (IsInCone ns p id)) (poly_of_node p id polys n) =
     each-normal (Good (IsInCone ns p id)) (tt, tt) (good-product (IsInCone ns p id)) p (expanded p id polys n)
-    (node_variables before polys p id (IsInCone ns p id) n (table.well_formed.fits id n at) (sym (sort_at-is ns id n at) ∙ is.1) told (λ var. ((is, var), listed (0, omega arith, refl))))
+    (node_variables before polys p id (IsInCone ns p id) n (table.well_formed.fits id n at) (sym (sort_at-is ns id n at) ∙ is.1) within (λ var. ((is, var), listed (0, omega arith, refl))))
     in subst (EachMonomial (Good (IsInCone ns p id))) (sym (poly_at-is ns id n at ∙ ap (λ q. poly_of_node q id polys n) order)) here
 
 pub poly_at-variables : (ns : List Node) (p id : ℕ) → IsTable ns → IsFieldAt ns p id → EachMonomial (Good (IsInCone ns p id)) (poly_at ns id)

@@ -27,10 +27,6 @@ NormalIsSame = (p : ℕ) (ts : Terms) → SamePolynomial p (normal p ts) ts
 abbrev pub NormalIsNormal : Type 0
 NormalIsNormal = (p : ℕ) (ts : Terms) → 0 < p → IsNormal p (normal p ts)
 
--- the number of terms of a polynomial
-abbrev pub NormalLengthIsOne : Type 0
-NormalLengthIsOne = (p : ℕ) (a b : Terms) → IsNormal p a → IsNormal p b → SamePolynomial p a b → length a ≡ length b
-
 -- a point gives each node of the field of order p its residue under the assignment
 abbrev pub IsPointOf : List Node → List Value → ℕ → (ℕ → ℕ) → Type 0
 IsPointOf nodes assignment p point = (id : ℕ) → IsFieldAt nodes p id → point id ≡ residue (value_at nodes assignment id)

@@ -103,11 +103,11 @@ pub product_step : (p n x : ℕ) (a b c rest all : Coefficients) → SameUnivari
 product_step p n x a b c rest all e same k =
     let row = shifted n (multiple x b) in
     let later = shifted n (0 ∷ times rest b) in
-    let behind : coefficient_at (shifted (suc n) (times rest b)) k ≡ coefficient_at later k =
+    let beyond : coefficient_at (shifted (suc n) (times rest b)) k ≡ coefficient_at later k =
     ap (λ l. coefficient_at l k) (sym (shifted-cons n (times rest b))) in
     let joined : coefficient_at (plus (a ++ 0 ∷ []) row) k + coefficient_at later k ≡ coefficient_at (plus a (shifted n (times (x ∷ rest) b))) k =
     omega (arith, coefficient_at-plus (a ++ 0 ∷ []) row k, coefficient_at-zero_behind a k, coefficient_at-plus a (shifted n (times (x ∷ rest) b)) k, coefficient_at-shifted_plus n (multiple x b) (0 ∷ times rest b) k) in
-    ap (λ m. m % p) (coefficient_at-plus c (shifted (suc n) (times rest b)) k ∙ ap (λ m. coefficient_at c k + m) behind)
+    ap (λ m. m % p) (coefficient_at-plus c (shifted (suc n) (times rest b)) k ∙ ap (λ m. coefficient_at c k + m) beyond)
     ∙ sum_alike p (coefficient_at c k) (coefficient_at (plus (a ++ 0 ∷ []) row) k) (coefficient_at later k) (coefficient_at later k) (e k) refl
     ∙ ap (λ m. m % p) joined ∙ same k
 

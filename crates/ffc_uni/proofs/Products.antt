@@ -41,9 +41,6 @@ plus_associates p a b c k =
     ap (λ n. n % p)
     (omega (arith, coefficient_at-plus (plus a b) c k, coefficient_at-plus a b k, coefficient_at-plus a (plus b c) k, coefficient_at-plus b c k))
 
-plus_commutes : (p : ℕ) (a b : Coefficients) → SameUnivariate p (plus a b) (plus b a)
-plus_commutes p a b k = ap (λ n. n % p) (omega (arith, coefficient_at-plus a b k, coefficient_at-plus b a k))
-
 -- the first factor is a sum
 pub times_distributes : (p : ℕ) (a b c : Coefficients) → SameUnivariate p (times (plus a b) c) (plus (times a c) (times b c))
 times_distributes p a b c =

@@ -44,12 +44,12 @@ module _ {F : Type 0} (value : F → ℕ) where
   all_written xs i = sym (map-append value (take i xs) (drop i xs)) ∙ ap (map value) (take-append-drop i xs)
 
   -- what is written at a place comes after what was before it
-  pub written_at : (xs : List F) (i : ℕ) (y : F) (r : ℕ) (behind : Coefficients) → i < length xs → value y ≡ r → map value (take (i + 1) (set xs i y)) ++ behind ≡ map value (take i xs) ++ (r ∷ behind)
-  written_at xs i y r behind h v =
-      ap (λ k. map value k ++ behind) (take_more_set xs i y h)
-      ∙ ap (λ k. k ++ behind) (map-append value (take i xs) (y ∷ []))
-      ∙ append_assoc (map value (take i xs)) (value y ∷ []) behind
-      ∙ ap (λ k. map value (take i xs) ++ (k ∷ behind)) v
+  pub written_at : (xs : List F) (i : ℕ) (y : F) (r : ℕ) (later : Coefficients) → i < length xs → value y ≡ r → map value (take (i + 1) (set xs i y)) ++ later ≡ map value (take i xs) ++ (r ∷ later)
+  written_at xs i y r later h v =
+      ap (λ k. map value k ++ later) (take_more_set xs i y h)
+      ∙ ap (λ k. k ++ later) (map-append value (take i xs) (y ∷ []))
+      ∙ append_assoc (map value (take i xs)) (value y ∷ []) later
+      ∙ ap (λ k. map value (take i xs) ++ (k ∷ later)) v
 
   -- without a zero at the end
   pub zero_left_out : (p : ℕ) (xs : List F) (i : ℕ) (x : F) → i < length xs → x ≡ get_or xs i x → value x ≡ 0 → SameUnivariate p (map value (take i xs)) (map value (take (i + 1) xs))

@@ -1,5 +1,5 @@
 -- What the matches of the arguments have.
-use Rattle.std.proofs.Common.{◌≡◌, ℕ, true, List, Option, refl, ap, subst, ◌∙◌}
+use Rattle.std.proofs.Common.{◌≡◌, true, List, refl, ap, subst, ◌∙◌}
 use Rattle.clap.specs.declared.parser.matches.ArgMatches.{ArgMatches}
 use Rattle.clap.specs.Words.{App, Text, HasMatchesOf, is_simple, first_of, first_value, found_of, matches_of}
 use Rattle.clap.proofs.OnLiterals.{clap_on_literals}

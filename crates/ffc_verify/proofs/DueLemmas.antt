@@ -1,10 +1,6 @@
 -- What is due, from the script's end and the verdict on the certificate.
-use Rattle.std.proofs.Common.{◌≡◌, ◌⊎◌, inl, inr, ℕ, ◌<◌, ◌≤◌, Bool, List, [], ◌∷◌, ◌++◌, length, take, map, Some, None, Option, refl, sym, ap, ◌∙◌, subst, arith, append-nil, Result, Ok, Err, IfOk, IfErr}
+use Rattle.std.proofs.Common.{◌≡◌, ◌⊎◌, inl, inr, ℕ, ◌≤◌, Bool, List, ◌++◌, length, take, map, Some, None, Option, refl, sym, ap, ◌∙◌, subst, arith, append-nil, Result, Ok, Err, IfOk}
 use Rattle.std.specs.Option.{IfSome}
-use Rattle.std.specs.Prelude.{IsErrOf}
-use Rattle.ffc_verify.specs.declared.verify.AnswerStop.{AnswerStop}
-use Rattle.ffc_verify.specs.declared.verify.AnswerStop.TheVariants as stops
-use Rattle.std.proofs.lemmas.List.{take_all}
 use Rattle.ffc_base.specs.Outside.{Appends, AppendsPrefix, Rose}
 use Rattle.ffc_cert.specs.Reading.{reading_of}
 use Rattle.ffc_smt.specs.Scripts.{Script, End, Done, AtFault, reads}
@@ -21,11 +17,11 @@ use Rattle.ffc_verify.specs.declared.verify.CheckStatus.TheVariants as status
 use Rattle.ffc_verify.specs.declared.verify.Ending.{Ending}
 use Rattle.ffc_verify.specs.declared.verify.Ending.TheVariants as ending
 use Rattle.ffc_verify.specs.declared.verify.Answer.{Answer}
-use Rattle.ffc_verify.specs.Texts.{accepted_line, fault_line, refused_line}
+use Rattle.ffc_verify.specs.Texts.{accepted_line, fault_line}
 use Rattle.ffc_verify.specs.Due.{Due, cores_text, entries_for, judgement_due, due_at, due}
-use Rattle.ffc_verify.specs.Status.{IsAnswered, IsLeft, IsAtFault, SaysOfScript, AllHaveEntries}
-use Rattle.ffc_verify.specs.Ending.{status_of, status_at, due_of, verdict_due, EndedAs, IsEndedAs, EndsWith}
-use Rattle.ffc_verify.specs.Judged.{counts_in, cause_of, IsVerdict}
+use Rattle.ffc_verify.specs.Status.{IsLeft, SaysOfScript, AllHaveEntries}
+use Rattle.ffc_verify.specs.Ending.{status_of, due_of, verdict_due, EndedAs, IsEndedAs, EndsWith}
+use Rattle.ffc_verify.specs.Judged.{counts_in, IsVerdict}
 
 -- what is due looks at what the script says alone
 abbrev due_by : Bool → List ℕ → Script → Due
@@ -85,18 +81,6 @@ accepted_entries cores script certificate h =
     λ k c at. accepted_sound script certificate (record { done = both.0; counts = both.1.0; accepted = both.1.1 }) k c at
 
 -- Answers
-
-ended_verdict : (a : Answer) (v : Verdict) (end : End) → (due_of a).status ≡ (verdict_due v).status → end ≡ Done → IsEndedAs a end
-ended_verdict a v end e done = by_ending a.ending v e
-  where
-    by_ending : (x : Ending) (v : Verdict) → status_of x ≡ (verdict_due v).status → EndedAs x a end
-    by_ending ending.Accepted v h = done
-    by_ending ending.Refused v h = done
-    by_ending ending.ScriptRefused (verdict.Accepted t) h = cc
-    by_ending ending.ScriptRefused (verdict.Refused r) h = cc
-
-pub ended_as_verdict : (a : Answer) (v : Verdict) (end : End) → due_of a ≡ verdict_due v → end ≡ Done → IsEndedAs a end
-ended_as_verdict a v end e done = ended_verdict a v end (ap (λ d. d.status) e) done
 
 pub ended_at_fault : (a : Answer) (end : End) (at_line column code : ℕ) → due_of a ≡ record { status = status.ScriptRefused; text = fault_line at_line column code } → end ≡ AtFault at_line column code → IsEndedAs a end
 ended_at_fault a end at_line column code e is = by_ending a.ending (ap (λ d. d.status) e)
@@ -188,16 +172,8 @@ pub rose_later : (a b c : ℕ) → a ≤ b → Rose b c → Rose a c
 rose_later a b c le (inl h) = inl (omega arith)
 rose_later a b c le (inr h) = inr h
 
-pub rose_first : (a b c : ℕ) → Rose a b → b ≤ c → c ≤ 18446744073709551615 → Rose a c
-rose_first a b c (inl h) le top = inl (omega arith)
-rose_first a b c (inr h) le top = inr (omega arith)
-
 -- Results
 
 pub ok_by : {A S : Type 0} (r : Result A S) (P Q : A → Type 0) → IfOk r P → ((a : A) → P a → Q a) → IfOk r Q
 ok_by (Ok a) P Q h f = f a h
 ok_by (Err s) P Q h f = tt
-
-pub err_not : {A : Type 0} (r : Result A AnswerStop) (s : AnswerStop) (P : Type 0) → IfErr r (λ stop. stop ≡ stops.Memory) → (stops.Memory ≡ s → ⊥) → IsErrOf r s → P
-err_not (Ok a) s P h not e = cc
-err_not (Err x) s P h not e = let same : x ≡ s = cc in absurd (not (sym h ∙ same))

@@ -1,5 +1,5 @@
 -- A certificate gives no more entries than are wanted.
-use Rattle.std.proofs.Common.{◌≡◌, ℕ, ◌+◌, ◌==◌, ◌<◌, ◌≤◌, Bool, true, false, cond, List, [], ◌∷◌, length, take, Result, Ok, Err, refl, sym, subst, arith, codes, ◌⊎◌, inl, inr}
+use Rattle.std.proofs.Common.{◌≡◌, ℕ, ◌+◌, ◌==◌, ◌<◌, ◌≤◌, Bool, true, false, cond, List, [], ◌∷◌, length, take, Result, Ok, Err, refl, arith, codes}
 use Rattle.std.proofs.lemmas.Bool.{false≢true}
 use Rattle.std.proofs.lemmas.Bool.Decides.{nat_tests}
 use Rattle.std.specs.Str.{bytes_eq}
@@ -14,7 +14,7 @@ use Rattle.ffc_cert.specs.declared.progress.Place.{Place}
 use Rattle.ffc_cert.specs.declared.progress.Place.TheVariants.{Header, Between, Assignment, Refutation}
 use Rattle.ffc_cert.specs.declared.progress.Progress.{Progress}
 use Rattle.ffc_cert.specs.Lines.{opening_at, value_at, line_at}
-use Rattle.ffc_cert.specs.Reading.{Next, Halt, Move, Give, End, Complete, Open, Stopped, Reading, awaited_after, is_whole, begun, with_value, with_line, limited, after, header_line, opening_line, assignment_line, refutation_line, fault_at, next_in, next_at, read, read_parts, reading_of, origin, is_line_end, end_at}
+use Rattle.ffc_cert.specs.Reading.{Next, Halt, Move, Give, Stopped, Reading, awaited_after, is_whole, begun, with_value, with_line, limited, after, header_line, opening_line, assignment_line, refutation_line, fault_at, next_in, next_at, read, read_parts, reading_of, origin, is_line_end}
 
 -- an entry was begun, and is not complete
 abbrev is_within : Place → Bool

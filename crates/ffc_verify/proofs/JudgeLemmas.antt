@@ -1,31 +1,24 @@
 -- Entries judged one by one beside the checks, and the judgement of the whole certificate.
-use Rattle.std.proofs.Common.{◌≡◌, ◌⊎◌, inl, inr, ℕ, zero, suc, ◌+◌, ◌-◌, ◌<◌, ◌≤◌, Bool, true, false, List, [], ◌∷◌, ◌++◌, length, take, drop, map, Some, None, Option, slice_get, refl, sym, ap, ◌∙◌, subst, arith, append-nil, append_assoc}
+use Rattle.std.proofs.Common.{◌≡◌, ◌⊎◌, inl, inr, ℕ, zero, suc, ◌+◌, ◌<◌, ◌≤◌, Bool, true, false, List, [], ◌∷◌, ◌++◌, length, take, drop, map, Some, None, Option, slice_get, refl, sym, ap, ◌∙◌, subst, arith, append-nil, append_assoc}
 use Rattle.std.proofs.lemmas.List.{length-append, length-map, map-append, take-append-le, take-append-drop, take_more, take_all, drop_more, length-take-le, length_push}
 use Rattle.std.proofs.lemmas.Option.{slice_get_within, get_or_from_slice_get}
 use Rattle.ffc_cert.specs.declared.entries.CertFault.{CertFault}
 use Rattle.ffc_cert.specs.declared.entries.Numbered.{Numbered}
-use Rattle.ffc_cert.specs.Certificate.{Certificate, next_entry_of}
-use Rattle.ffc_cert.specs.Reading.{Reading, End, Complete, Open, Stopped, reading_of}
+use Rattle.ffc_cert.specs.Certificate.{Certificate}
+use Rattle.ffc_cert.specs.Reading.{Reading, Complete, Open, Stopped, reading_of}
 use Rattle.ffc_check.specs.Judged as shown
-use Rattle.ffc_term.specs.declared.check.Check.{Check}
-use Rattle.ffc_smt.specs.Scripts.{Step, reads, Done}
 use Rattle.ffc_smt.specs.TableChecks.{TableCheck, declared_nodes, nodes_in_force, names_in_force, table_checks}
 use Rattle.ffc_smt.specs.Trees.{Word}
 use Rattle.ffc_elab.specs.Histories.{Known, known_of, check_now}
 use Rattle.ffc_script.specs.Progress.{Progress, steps_of, known_at, steps_from}
-use Rattle.ffc_script.specs.Kept.{AreFirst}
-use Rattle.ffc_script.proofs.StepLemmas.{checks_append}
 use Rattle.ffc_rules.specs.Entries.{NodeCheck, Broken, limits, entry_fault_within}
-use Rattle.ffc_rules.specs.Judging.{Counts, Judgement, Accepted, Refused, Format, Rule, counted, counts_of, first_broken, refused_for, end_judgement, judgement_of, node_check, judge}
+use Rattle.ffc_rules.specs.Judging.{Judgement, Accepted, Refused, Rule, counted, counts_of, first_broken, refused_for, end_judgement, judgement_of, node_check}
 use Rattle.ffc_verify.specs.declared.judge.Beside.{Beside}
 use Rattle.ffc_verify.specs.declared.verdicts.Tally.{Tally}
-use Rattle.ffc_verify.specs.declared.verdicts.Refusal.{Refusal}
-use Rattle.ffc_verify.specs.declared.verdicts.Verdict.TheVariants as verdict
-use Rattle.ffc_verify.specs.declared.entries.NextEntry.TheVariants as next
-use Rattle.ffc_verify.specs.Due.{core_text, cores_text, entry_core, entries_cores, entries_for}
-use Rattle.ffc_verify.specs.Reading.{MovesOn, IsWhole, IsOpen, Grows, IsNext}
-use Rattle.ffc_verify.specs.Judged.{counts_in, cause_of, entries_given, AreJudged, IsVerdict, cores_after, IsBrokenBy, refusal_for, TakesUp, IsTaken, IsFormRefused, IsRuleRefused, IsRefusedFor}
-use Rattle.ffc_verify.specs.Walking.{GivesCheck, IsThrough, IsCounted}
+use Rattle.ffc_verify.specs.Due.{cores_text}
+use Rattle.ffc_verify.specs.Reading.{MovesOn, IsOpen, Grows}
+use Rattle.ffc_verify.specs.Judged.{counts_in, entries_given, AreJudged, cores_after, TakesUp, IsTaken}
+use Rattle.ffc_verify.specs.Walking.{GivesCheck}
 use Rattle.ffc_verify.proofs.CertLemmas.{reading_front}
 use Rattle.ffc_verify.proofs.BrokenLemmas.{broken_none, broken_more, broken_there, counts_more, cores_more}
 

@@ -1,5 +1,5 @@
 -- Reading a text piece by piece.
-use Rattle.std.proofs.Common.{◌≡◌, ℕ, ◌+◌, ◌≤◌, ◌⊎◌, inl, inr, List, [], ◌++◌, length, take, drop, Option, Some, None, MatchOption, Result, Ok, Err, OnErr, refl, sym, ap, subst, ◌∙◌, append_assoc, append-nil, arith, length-append}
+use Rattle.std.proofs.Common.{◌≡◌, ℕ, ◌+◌, ◌≤◌, inl, inr, List, [], ◌++◌, length, take, drop, Option, Some, None, MatchOption, Result, Ok, Err, OnErr, refl, sym, ap, subst, ◌∙◌, append_assoc, append-nil, arith, length-append}
 use Rattle.std.specs.Option.{IfSome}
 use Rattle.std.proofs.lemmas.List.{take-append-drop, take-append-le, take_all, length-take}
 use Rattle.ffc_base.specs.Outside.{MovesFront}
@@ -94,26 +94,6 @@ pub record HasReadOn (old : Certificate) (left : Option (List ℕ)) (new : Certi
   pub same : new ≡ record old { text = new.text }
   pub grows : Grows old new
   pub moves : MovesOn old.text left new.text now
-
-pub read_on_first : (c : Certificate) (left : Option (List ℕ)) → HasReadOn c left c left
-read_on_first c left = record { same = refl; grows = ([], sym (append-nil c.text)); moves = λ rest e. (rest, e, refl) }
-
--- a piece moves from what is left after the text
-pub piece_moves : (text buffer : List ℕ) (n : ℕ) (left new : Option (List ℕ)) → MovesFront n buffer left new → MovesOn text left (text ++ take n buffer) new
-piece_moves text buffer n None new m = λ rest e. cc
-piece_moves text buffer n (Some bytes) new m = λ rest e.
-    let same : bytes ≡ rest = cc in
-    let back : text ++ bytes ≡ (text ++ take n buffer) ++ drop n bytes =
-    ap (λ bs. text ++ bs) (sym (take-append-drop n bytes)) ∙ ap (λ p. text ++ (p ++ drop n bytes)) (sym m.1) ∙ sym (append_assoc text (take n buffer) (drop n bytes)) in
-    (drop n bytes, m.2, ap (λ bs. text ++ bs) (sym same) ∙ back)
-
-pub moves_none : (text : List ℕ) (buffer : List ℕ) (left new : Option (List ℕ)) → MovesFront 0 buffer left new → MovesOn text left text new
-moves_none text buffer None new m = λ rest e. cc
-moves_none text buffer (Some bytes) new m = λ rest e. (bytes, m.2, let same : bytes ≡ rest = cc in ap (λ bs. text ++ bs) (sym same))
-
-pub ends_here : (buffer : List ℕ) (left new : Option (List ℕ)) → MovesFront 0 buffer left new → IsAtEnd left
-ends_here buffer None new m = λ rest e. cc
-ends_here buffer (Some bytes) new m = λ rest e. let same : bytes ≡ rest = cc in sym same ∙ m.3 refl
 
 pub moves_further : (a b c : List ℕ) (l m n : Option (List ℕ)) → MovesOn a l b m → MovesOn b m c n → MovesOn a l c n
 moves_further a b c l m n one two = λ rest e.

@@ -1,31 +1,17 @@
 -- Runs that have no answer, and the statuses of those that have one.
-use Rattle.std.proofs.Common.{◌≡◌, ◌⊎◌, inl, inr, ℕ, ◌<◌, ◌≤◌, Bool, List, [], ◌∷◌, ◌++◌, length, take, map, Some, None, Option, refl, sym, ap, ◌∙◌, subst, arith, append-nil, Result, Ok, Err, IfOk, IfErr}
+use Rattle.std.proofs.Common.{◌≡◌, ◌⊎◌, inl, inr, ℕ, Bool, List, Some, None, Option, refl, sym, subst}
 use Rattle.std.specs.Option.{IfSome}
-use Rattle.std.specs.Prelude.{IsErrOf}
 use Rattle.ffc_verify.specs.declared.verify.AnswerStop.{AnswerStop}
 use Rattle.ffc_verify.specs.declared.verify.AnswerStop.TheVariants as stops
-use Rattle.std.proofs.lemmas.List.{take_all}
-use Rattle.ffc_base.specs.Outside.{Appends, AppendsPrefix, Rose}
-use Rattle.ffc_cert.specs.Reading.{reading_of}
-use Rattle.ffc_smt.specs.Scripts.{Script, End, Done, AtFault, reads}
-use Rattle.ffc_smt.specs.TableChecks.{table_checks}
-use Rattle.ffc_rules.specs.Judging as judging
-use Rattle.ffc_rules.specs.Judging.{Judgement, judge}
-use Rattle.ffc_rules.specs.Entries.{limits}
-use Rattle.ffc_rules.proofs.ScriptLemmas.{accepted_sound}
-use Rattle.ffc_script.proofs.LimitLemmas.{long_text_cut}
-use Rattle.ffc_verify.specs.declared.verdicts.Verdict.{Verdict}
-use Rattle.ffc_verify.specs.declared.verdicts.Verdict.TheVariants as verdict
+use Rattle.ffc_smt.specs.Scripts.{End, Done, reads}
 use Rattle.ffc_verify.specs.declared.verify.CheckStatus.{CheckStatus}
 use Rattle.ffc_verify.specs.declared.verify.CheckStatus.TheVariants as status
 use Rattle.ffc_verify.specs.declared.verify.Ending.{Ending}
 use Rattle.ffc_verify.specs.declared.verify.Ending.TheVariants as ending
 use Rattle.ffc_verify.specs.declared.verify.Answer.{Answer}
-use Rattle.ffc_verify.specs.Texts.{accepted_line, fault_line, refused_line}
-use Rattle.ffc_verify.specs.Due.{Due, cores_text, entries_for, judgement_due, due_at, due}
-use Rattle.ffc_verify.specs.Status.{IsAnswered, IsLeft, IsAtFault, SaysOfScript, AllHaveEntries}
-use Rattle.ffc_verify.specs.Ending.{status_of, status_at, due_of, verdict_due, EndedAs, IsEndedAs, EndsWith}
-use Rattle.ffc_verify.specs.Judged.{counts_in, cause_of, IsVerdict}
+use Rattle.ffc_verify.specs.Due.{due}
+use Rattle.ffc_verify.specs.Status.{IsLeft, SaysOfScript}
+use Rattle.ffc_verify.specs.Ending.{status_of, status_at, EndedAs, IsEndedAs, EndsWith}
 use Rattle.ffc_verify.proofs.DueLemmas.{left_same, left_nothing}
 
 -- Runs without an answer
@@ -86,10 +72,3 @@ never_refused a end h done e = by_fault (subst (λ x. EndedAs x a end) e h)
   where
     by_fault : EndedAs ending.ScriptRefused a end → ⊥
     by_fault (at_line, column, code, is, text) = cc
-
--- the arguments' name and flag
-pub left_named : (contents : List ℕ → Option (List ℕ)) (name given : List ℕ) (cores flag : Bool) (left : Option (List ℕ)) (s : CheckStatus) (out_old out_new : Option (List ℕ)) → given ≡ name → flag ≡ cores
-    → IfSome left (λ bytes. IfSome (contents given) (λ certificate. IsLeft s (due flag bytes certificate) out_old out_new)) → IfSome left (λ bytes. IfSome (contents name) (λ certificate. IsLeft s (due cores bytes certificate) out_old out_new))
-left_named contents name given cores flag left s out_old out_new e f h =
-    subst (λ b. IfSome left (λ bytes. IfSome (contents name) (λ certificate. IsLeft s (due b bytes certificate) out_old out_new))) f
-    (subst (λ n. IfSome left (λ bytes. IfSome (contents n) (λ certificate. IsLeft s (due flag bytes certificate) out_old out_new))) e h)

@@ -2,9 +2,8 @@
 use Rattle.std.proofs.Common.{◌≡◌, ◌⊎◌, inl, inr, ℕ, suc, ◌+◌, ◌-◌, ◌<◌, ◌≤◌, ◌^◌, Bool, List, [], ◌∷◌, ◌++◌, length, take, map, Some, None, Option, Result, Ok, Err, IfSome, IfOk, OnOk, Contains, refl, sym, ap, ◌∙◌, subst, arith, append-nil, append_assoc}
 use Rattle.std.proofs.lemmas.List.{length-append, length-map, map-append, length_push}
 use Rattle.std.proofs.lemmas.List.Elements.{Contains-push}
-use Rattle.ffc_cert.specs.declared.entries.CertFault.{CertFault}
 use Rattle.ffc_cert.specs.Certificate.{Certificate}
-use Rattle.ffc_cert.specs.Reading.{Complete, Open, Stopped, reading_of}
+use Rattle.ffc_cert.specs.Reading.{Open, Stopped, reading_of}
 use Rattle.ffc_check.specs.Judged as shown
 use Rattle.ffc_smt.specs.Scripts.{reads}
 use Rattle.ffc_smt.specs.TableChecks.{TableCheck, table_checks}
@@ -26,7 +25,7 @@ use Rattle.ffc_verify.specs.declared.verdicts.Refusal.{Refusal}
 use Rattle.ffc_verify.specs.declared.verdicts.Verdict.{Verdict}
 use Rattle.ffc_verify.specs.declared.verdicts.Verdict.TheVariants as verdict
 use Rattle.ffc_verify.specs.declared.entries.NextEntry.TheVariants as next
-use Rattle.ffc_verify.specs.Due.{cores_text, entries_for}
+use Rattle.ffc_verify.specs.Due.{cores_text}
 use Rattle.ffc_verify.specs.Reading.{MovesOn, IsWhole, Grows, IsNext}
 use Rattle.ffc_verify.specs.Judged.{cause_of, IsVerdict, IsFormRefused, IsRefusedFor, EndsAsVerdict}
 use Rattle.ffc_verify.specs.Walking.{GivesCheck, IsThrough, IsCounted}
@@ -73,19 +72,19 @@ module _ (script : List ℕ) (checks : ℕ) (cores : Bool) (left : Option (List 
       ∙ ap (λ w. judgement_of limits (map node_check (P ++ ds)) (reading_of w W)) size
       ∙ ap (λ xs. judgement_of limits xs (reading_of c.wanted W)) (map-append node_check P ds)
 
-  module _ (d : Certificate) (grows : Grows c d) (W : List ℕ) (told : left ≡ Some W) where
+  module _ (d : Certificate) (grows : Grows c d) (W : List ℕ) (stated : left ≡ Some W) where
     pub form_is : (ds : List TableCheck) → table_checks (reads script).steps ≡ P ++ ds → (later : Option (List ℕ)) → MovesOn c.text now d.text later → (r : Refusal) → IsFormRefused c d now r → IsVerdict cores script W (verdict.Refused r)
     form_is ds all later moves r (f, ends, is) =
-        let one = h.moves W told in
+        let one = h.moves W stated in
         let two = moves one.0 one.1 in
         let whole : W ≡ d.text ++ two.0 = one.2 ∙ two.2 in
         judges_as ds all W
         ∙ form_refused c.wanted cs c.text d.text grows.0 grows.1 c.given h.judged.within long h.judged.kept ends.0 W (map node_check ds) f (same whole ends.1) (either ends.1)
         ∙ ap (λ (r : Refusal). Refused r.entry r.line (cause_of r.cause)) (sym is)
       where
-        same : W ≡ d.text ++ (moves (h.moves W told).0 (h.moves W told).1).0 → ((reading_of c.wanted d.text).end ≡ Stopped f) ⊎ (((reading_of c.wanted d.text).end ≡ Open f) × IsWhole c.text now d.text) → reading_of c.wanted W ≡ reading_of c.wanted d.text
-        same whole (inl s) = let front = reading_front c.wanted d.text (moves (h.moves W told).0 (h.moves W told).1).0 in ap (reading_of c.wanted) whole ∙ front.stopped f s
-        same whole (inr o) = ap (reading_of c.wanted) ((h.moves W told).2 ∙ sym (o.1 (h.moves W told).0 (h.moves W told).1))
+        same : W ≡ d.text ++ (moves (h.moves W stated).0 (h.moves W stated).1).0 → ((reading_of c.wanted d.text).end ≡ Stopped f) ⊎ (((reading_of c.wanted d.text).end ≡ Open f) × IsWhole c.text now d.text) → reading_of c.wanted W ≡ reading_of c.wanted d.text
+        same whole (inl s) = let front = reading_front c.wanted d.text (moves (h.moves W stated).0 (h.moves W stated).1).0 in ap (reading_of c.wanted) whole ∙ front.stopped f s
+        same whole (inr o) = ap (reading_of c.wanted) ((h.moves W stated).2 ∙ sym (o.1 (h.moves W stated).0 (h.moves W stated).1))
 
         either : ((reading_of c.wanted d.text).end ≡ Stopped f) ⊎ (((reading_of c.wanted d.text).end ≡ Open f) × IsWhole c.text now d.text) → ((reading_of c.wanted d.text).end ≡ Stopped f) ⊎ ((reading_of c.wanted d.text).end ≡ Open f)
         either (inl s) = inl s
@@ -102,7 +101,7 @@ module _ (script : List ℕ) (checks : ℕ) (cores : Bool) (left : Option (List 
 
       end_accepted : IsNext c d now next.Complete → IsVerdict cores script W (verdict.Accepted t)
       end_accepted (none, end, whole) =
-          let one = h.moves W told in
+          let one = h.moves W stated in
           let is : W ≡ d.text = one.2 ∙ sym (whole one.0 one.1) in
           let both = accepted_here c.wanted cs c.text d.text grows.0 grows.1 c.given h.judged.within long h.judged.kept none W end is in
           let size : length (table_checks (reads script).steps) ≡ c.wanted = counted.checks ∙ sym h.wanted in (
@@ -149,12 +148,12 @@ module _ (script : List ℕ) (checks : ℕ) (cores : Bool) (left : Option (List 
         let s : length q.text ≡ length script = ap length (g.text ∙ h.text) in
         smaller_by (length (table_checks (steps_of q))) (length P) (length (steps_of q)) (length q.text) (length script) (ap length g.checks ∙ length_push P here) (checks_few (steps_of q)) few s short
 
-    module _ (b : Beside) (s : IsShown b cores here) (d : Certificate) (grows : Grows c d) (W : List ℕ) (told : left ≡ Some W) (later : Option (List ℕ)) (moves : MovesOn c.text now d.text later) where
+    module _ (b : Beside) (s : IsShown b cores here) (d : Certificate) (grows : Grows c d) (W : List ℕ) (stated : left ≡ Some W) (later : Option (List ℕ)) (moves : MovesOn c.text now d.text later) where
       pub check_refused : (r : Refusal) → IsRefusedFor (shown.node_check b.check) c d now r → IsVerdict cores script W (verdict.Refused r)
-      check_refused r (inr form) = let l = later_checks in form_is d grows W told (here ∷ l.0) l.1 later moves r form
+      check_refused r (inr form) = let l = later_checks in form_is d grows W stated (here ∷ l.0) l.1 later moves r form
       check_refused r (inl rule) =
           let l = later_checks in
-          let one = h.moves W told in
+          let one = h.moves W stated in
           let two = moves one.0 one.1 in
           let is = rule.broken in
           judges_as (here ∷ l.0) l.1 W
@@ -170,7 +169,7 @@ no_more_entries old new left e all is = too_many old.given old.wanted (length (E
 pub not_complete : (old new : Certificate) (left : Option (List ℕ)) → old.given < old.wanted → IsNext old new left next.Complete → ⊥
 not_complete old new left lt is = too_few old.given old.wanted (length (E old.wanted new.text)) lt (no_entry (E old.wanted new.text) old.given is.0) (all_read old.wanted new.text is.1)
 
--- where contents are told
+-- where contents are stated
 pub if_told : (left : Option (List ℕ)) (P : List ℕ → Type 0) → ((W : List ℕ) → left ≡ Some W → P W) → IfSome left P
 if_told None P h = tt
 if_told (Some W) P h = h W refl

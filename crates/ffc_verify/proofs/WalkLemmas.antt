@@ -1,10 +1,9 @@
 -- Walking a script from check to check.
-use Rattle.std.proofs.Common.{◌≡◌, ℕ, zero, suc, ◌+◌, ◌-◌, ◌<◌, ◌≤◌, ◌^◌, Bool, true, false, List, [], ◌∷◌, ◌++◌, length, take, Some, None, Option, refl, sym, ap, ◌∙◌, subst, arith, append-nil, append_assoc}
+use Rattle.std.proofs.Common.{◌≡◌, ℕ, suc, ◌+◌, ◌-◌, ◌<◌, ◌≤◌, ◌^◌, true, false, List, [], ◌∷◌, ◌++◌, length, Some, None, Option, refl, sym, ap, ◌∙◌, subst, arith, append-nil}
 use Rattle.std.proofs.lemmas.List.{take_all, length_push}
 use Rattle.ffc_lex.specs.Lexing.{extended}
 use Rattle.ffc_lex.specs.Limits.{max_bytes}
-use Rattle.ffc_smt.specs.CommandReading.{limits}
-use Rattle.ffc_smt.specs.Scripts.{Step, Script, End, Done, AtFault, reads}
+use Rattle.ffc_smt.specs.Scripts.{Step, Done, reads}
 use Rattle.ffc_smt.specs.TableChecks.{TableCheck, table_check_of, table_checks}
 use Rattle.ffc_elab.specs.declared.answers.Command.{Command}
 use Rattle.ffc_elab.specs.declared.answers.Command.TheVariants as command
@@ -13,16 +12,11 @@ use Rattle.ffc_verify.specs.declared.script.Kind.TheVariants as kind
 use Rattle.ffc_script.specs.declared.stop.ScriptStop.{ScriptStop}
 use Rattle.ffc_script.specs.declared.stop.ScriptStop.TheVariants as stop
 use Rattle.ffc_script.specs.Progress.{Progress, steps_of, known_at, steps_from}
-use Rattle.ffc_script.specs.Answers.{ends, check_by, end_at_fault, Gives, HasRun, SaysAll, StopsAt, EndsAt, IsAtCheck}
-use Rattle.ffc_script.specs.Kept.{AreFirst}
-use Rattle.ffc_script.proofs.StepLemmas.{with_check, checks_more, checks_append}
+use Rattle.ffc_script.specs.Answers.{ends, check_by, end_at_fault, Gives, StopsAt, EndsAt}
+use Rattle.ffc_script.proofs.StepLemmas.{checks_more}
 use Rattle.ffc_verify.specs.Walking.{kind_by, GivesCheck, IsThrough, IsCounted, IsFaultOf}
 
 -- Checks of steps
-
-with_few : (o : Option TableCheck) (cs : List TableCheck) (n : ℕ) → length cs ≤ n → length (with_check o cs) ≤ suc n
-with_few None cs n h = omega arith
-with_few (Some c) cs n h = omega arith
 
 checks_cons_few : (x : Step) (xs : List Step) → length (table_checks xs) ≤ length xs → length (table_checks (x ∷ xs)) ≤ suc (length xs)
 checks_cons_few x xs h = by_check (table_check_of x)
@@ -97,11 +91,6 @@ module _ (old now new : Progress) (c : Command) (h : HasNoMore old now) (g : Giv
   -- a command takes a byte
   pub steps_rise : length (steps_of new) ≤ length new.text → length new.text + 1 - length (steps_of new) < length now.text + 1 - length (steps_of now)
   steps_rise few = rise_by (length (steps_of new)) (length (steps_of now)) (length new.text) (length now.text) (ap length g.steps ∙ length_push (steps_of now) g.step) (ap length g.text) few
-
-pub said_all : (old now : Progress) → HasNoMore old now → SaysAll now → IsThrough old
-said_all old now h all =
-    let here : reads old.text ≡ record { steps = steps_of now; end = Done } = ap reads (sym h.text) ∙ all in
-    record { done = ap (λ s. s.end) here; checks = ap (λ s. table_checks s.steps) here ∙ h.checks }
 
 pub stops_at : (old now : Progress) (s : ScriptStop) → HasNoMore old now → StopsAt now s → IsFaultOf old.text s
 stops_at old now (stop.Fault f) h says =

@@ -1,7 +1,7 @@
 -- The arguments of the checker, `ffcheck CERT [--cores]`: a simple command of `clap` without a help flag.
-use Rattle.std.specs.Prelude.{◌≡◌, ℕ, Bool, true, false, ◌∷◌, [], List, codes, Some, unwrap_or, option_map, IfSome}
+use Rattle.std.specs.Prelude.{◌≡◌, Bool, true, false, [], List, codes, Some, unwrap_or, option_map}
 use Rattle.std.specs.Str.{bytes_eq}
-use Rattle.clap.specs.Words.{App, Rule, Row, Text, fault_of, first_of, matches_of, new_app, new_rule, with_rule}
+use Rattle.clap.specs.Words.{App, Rule, Text, fault_of, first_of, matches_of, new_app, new_rule, with_rule}
 use Rattle.clap.specs.declared.builder.action.ArgAction.TheVariants.{Set, SetTrue}
 
 -- the name of the certificate

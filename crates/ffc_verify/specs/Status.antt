@@ -1,5 +1,5 @@
 -- How a run of the checker ends: its statuses, and what each of them leaves.
-use Rattle.std.specs.Prelude.{◌≡◌, ℕ, ◌≤◌, Bool, List, ◌++◌, length, Option}
+use Rattle.std.specs.Prelude.{◌≡◌, ℕ, ◌≤◌, List, ◌++◌, length, Option}
 use Rattle.ffc_base.specs.Outside.{Appends, AppendsPrefix}
 use Rattle.ffc_smt.specs.Scripts.{Done, AtFault, reads}
 use Rattle.ffc_smt.specs.TableChecks.{TableCheck, table_checks}
@@ -8,7 +8,7 @@ use Rattle.ffc_rules.specs.Laws.{HasEntry}
 use Rattle.ffc_verify.specs.declared.verify.CheckStatus.{CheckStatus}
 use Rattle.ffc_verify.specs.declared.verify.CheckStatus.TheVariants.{Accepted, Refused, Usage, ScriptRefused, ReadFault, CertFault, WriteFault, Memory}
 use Rattle.ffc_verify.specs.Texts.{fault_line}
-use Rattle.ffc_verify.specs.Due.{Due, due}
+use Rattle.ffc_verify.specs.Due.{Due}
 
 -- the number that the program ends with
 abbrev pub code_of : CheckStatus → ℕ

@@ -1,5 +1,5 @@
 -- Walking a script.
-use Rattle.std.specs.Prelude.{◌≡◌, ℕ, ◌<◌, ◌^◌, Bool, true, false, List, [], ◌∷◌, ◌++◌, length}
+use Rattle.std.specs.Prelude.{◌≡◌, ℕ, ◌<◌, ◌^◌, false, List, [], ◌∷◌, ◌++◌, length}
 use Rattle.ffc_smt.specs.Scripts.{Done, reads}
 use Rattle.ffc_smt.specs.TableChecks.{table_checks}
 use Rattle.ffc_elab.specs.declared.answers.Command.{Command}

@@ -7,11 +7,7 @@ use Rattle.ffc_lex.specs.declared.tokens.TokenKind.TheVariants as kinds
 use Rattle.ffc_smt.specs.Trees.{Word, Tree, Leaf, Group, Trees, Empty, First, tokens_of, tokens_of_items}
 use Rattle.ffc_smt.specs.TreeShapes.{IsProper, AreProper, is_parenthesis}
 use Rattle.ffc_words.specs.Words.{IsTreeAt, word_at, no_word}
-use Rattle.ffc_words.specs.Skipping.{less_one, depth_after, size_with, size_from}
-
-pub less_is : (d : ℕ) → d - 1 ≡ less_one d
-less_is zero = refl
-less_is (suc d) = omega arith
+use Rattle.ffc_words.specs.Skipping.{depth_after, size_with, size_from}
 
 leaf_depth : (k : TokenKind) (d : ℕ) → is_parenthesis k ≡ false → depth_after k d ≡ d
 leaf_depth kinds.LeftParen d e = cc

@@ -4,7 +4,7 @@ use Rattle.ffc_trees.specs.TreeLines.{are_below}
 use Rattle.ffc_cktree.specs.Identities.{is_identity}
 use Rattle.ffc_cktree.specs.Factors.{factor_of}
 use Rattle.ffc_cktree.proofs.SumLemmas.{rule_is}
-use Rattle.ffc_cktree.proofs.ChainLemmas.{long_quotient, long_remainder, no_residues, no_identity, step_kept, identity_tested}
+use Rattle.ffc_cktree.proofs.ChainLemmas.{long_quotient, long_remainder, no_residues, no_identity, step_kept}
 use Rattle.ffc_cktree.proofs.chain.step.Goals as goal
 use Rattle.ffc_cktree.proofs.chain.step.Goals.{then-quotient-gt-MOST_COEFFICIENTS-via-then-quotient-gt-MOST_COEFFICIENTS, then-quotient-gt-MOST_COEFFICIENTS-via-else-quotient-gt-MOST_COEFFICIENTS+then-remainder-gt-MOST_COEFFICIENTS, then-not-are_below-via-then-not-are_below, then-not-are_below-via-else-not-are_below+then-not-are_below-2}
 

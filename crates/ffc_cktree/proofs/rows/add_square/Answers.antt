@@ -1,7 +1,7 @@
 use Rattle.std.proofs.Common.{◌≡◌, ◌+◌, ◌-◌, ◌∷◌, [], length, map, take, drop, sym, ap, ◌∙◌, subst, ◌%◌, arith, take_all, length-drop}
 use Rattle.std.proofs.Math.Nat.{mod-mod}
 use Rattle.std.proofs.lemmas.List.{drop_all}
-use Rattle.ffc_uni.specs.Univariate.{Coefficients, coefficient_at, SameUnivariate, plus, multiple, times}
+use Rattle.ffc_uni.specs.Univariate.{coefficient_at, SameUnivariate, plus, multiple, times}
 use Rattle.ffc_uni.specs.Rows.{shifted}
 use Rattle.ffc_uni.proofs.Coefficients.{product_end}
 use Rattle.ffc_cktree.proofs.SumLemmas.{left_at}

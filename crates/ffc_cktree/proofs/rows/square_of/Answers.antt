@@ -1,4 +1,4 @@
-use Rattle.std.proofs.Common.{◌≡◌, ◌-◌, ◌≤◌, ◌++◌, ◌%◌, [], length, map, take, replicate, vec_len, take_all, ap, ◌∙◌, refl, arith, mod-eq_of_lt}
+use Rattle.std.proofs.Common.{◌≡◌, ◌-◌, ◌++◌, ◌%◌, [], length, map, replicate, vec_len, take_all, ap, ◌∙◌, arith, mod-eq_of_lt}
 use Rattle.ffc_uni.specs.Univariate.{coefficient_at, plus, times}
 use Rattle.ffc_uni.proofs.Coefficients.{zeros_added}
 use Rattle.ffc_uni.proofs.Rows.{written_back, padded}

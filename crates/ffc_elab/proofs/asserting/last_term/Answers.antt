@@ -1,9 +1,8 @@
-use Rattle.std.proofs.Common.{◌≡◌, refl, sym, ap, ◌∙◌, subst, Ok, Err}
+use Rattle.std.proofs.Common.{sym, ap, ◌∙◌, Err}
 use Rattle.ffc_smt.specs.Faults.{last}
 use Rattle.ffc_smt.specs.CommandReading.{limits, term_of_sort}
-use Rattle.ffc_words.specs.Words.{word_at, fault_of}
-use Rattle.ffc_elab.specs.Reading.{end_at, result_as}
-use Rattle.ffc_elab.specs.SortedTerms.{ReadsOfSort}
+use Rattle.ffc_words.specs.Words.{fault_of}
+use Rattle.ffc_elab.specs.Reading.{result_as}
 use Rattle.ffc_elab.proofs.ItemLemmas.{missing_item}
 use Rattle.ffc_elab.proofs.TermItemLemmas.{last_stop, last_surplus, last_read}
 use Rattle.ffc_elab.proofs.asserting.last_term.Goals as goal

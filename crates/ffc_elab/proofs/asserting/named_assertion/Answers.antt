@@ -1,4 +1,4 @@
-use Rattle.std.proofs.Common.{◌≡◌, [], is_some, Some, Option, List, ℕ, refl, sym, ap, ◌∙◌, subst, Result, Ok, Err}
+use Rattle.std.proofs.Common.{◌≡◌, [], is_some, Some, refl, sym, ap, ◌∙◌, subst, Ok, Err}
 use Rattle.ffc_term.specs.declared.node.Sort.{Sort}
 use Rattle.ffc_term.specs.declared.node.Sort.TheVariants as sort
 use Rattle.ffc_smt.specs.Meaning.{Env, found}

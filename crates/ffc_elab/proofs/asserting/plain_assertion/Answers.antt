@@ -1,6 +1,5 @@
-use Rattle.std.proofs.Common.{[], None, refl, sym, subst, Ok, Err}
+use Rattle.std.proofs.Common.{[], None, refl, subst, Ok, Err}
 use Rattle.ffc_term.specs.declared.node.Sort.{Sort}
-use Rattle.ffc_term.specs.declared.node.Sort.TheVariants as sort
 use Rattle.ffc_smt.specs.Meaning.{Env}
 use Rattle.ffc_elab.specs.SortedTerms.{ReadsAsTerm}
 use Rattle.ffc_elab.proofs.AssertReading.{plain_stop, plain_read, Inner}

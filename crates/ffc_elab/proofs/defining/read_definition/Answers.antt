@@ -1,4 +1,4 @@
-use Rattle.std.proofs.Common.{◌≡◌, [], is_some, List, ℕ, Bool, refl, sym, ap, ◌∙◌, Ok, Err}
+use Rattle.std.proofs.Common.{◌≡◌, [], is_some, List, ℕ, Bool, refl, sym, ap, ◌∙◌, Ok}
 use Rattle.ffc_smt.specs.Trees.{Leaf}
 use Rattle.ffc_smt.specs.Meaning.{found}
 use Rattle.ffc_smt.specs.Scopes.{scope_of}

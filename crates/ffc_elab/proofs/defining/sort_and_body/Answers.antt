@@ -1,6 +1,5 @@
-use Rattle.std.proofs.Common.{◌≡◌, [], ◌∙◌, sym, ap, map, reverse}
+use Rattle.std.proofs.Common.{◌≡◌, [], ◌∙◌, ap, map, reverse}
 use Rattle.ffc_elab.specs.Defining.{pair_of}
-use Rattle.ffc_elab.specs.SortedTerms.{ReadsAsTerm}
 use Rattle.std.proofs.lemmas.List.{reverse-reverse}
 use Rattle.ffc_elab.proofs.DefineReading.{no_sort_item, body_stops, body_read_so}
 use Rattle.ffc_elab.proofs.defining.sort_and_body.Goals as goal

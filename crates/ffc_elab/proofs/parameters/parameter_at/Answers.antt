@@ -1,4 +1,4 @@
-use Rattle.std.proofs.Common.{◌≡◌, ◌≤◌, ◌-◌, ◌^◌, length, sym, ap, subst, ◌∙◌, Ok, Err, arith}
+use Rattle.std.proofs.Common.{◌≡◌, ◌≤◌, ◌-◌, ◌^◌, length, sym, ap, ◌∙◌, Ok, Err, arith}
 use Rattle.ffc_smt.specs.Trees.{Leaf}
 use Rattle.ffc_words.specs.Words.{fault_of, word_at}
 use Rattle.ffc_words.specs.Outcomes.{outcome}

@@ -1,4 +1,4 @@
-use Rattle.std.proofs.Common.{◌≤◌, ◌-◌, ◌^◌, length, sym, ap, ◌∙◌, arith}
+use Rattle.std.proofs.Common.{◌≤◌, ◌-◌, ◌^◌, length, sym, ◌∙◌, arith}
 use Rattle.ffc_elab.proofs.ParameterLists.{item_none, item_some}
 use Rattle.ffc_elab.proofs.parameters.parameters_at.Goals as goal
 

@@ -1,4 +1,4 @@
-use Rattle.std.proofs.Common.{◌≤◌, ◌-◌, ◌^◌, length, refl, sym, ap, ◌∙◌, ◌<◌, arith}
+use Rattle.std.proofs.Common.{◌≤◌, ◌-◌, ◌^◌, length, refl, sym, ◌∙◌, ◌<◌, arith}
 use Rattle.ffc_elab.proofs.ParameterLists.{begins, ends, stops_at, goes_on, goes_further}
 use Rattle.ffc_elab.proofs.ParameterReading.{items_inside}
 use Rattle.ffc_elab.proofs.parameters.parameters_from.Goals as goal

@@ -1,4 +1,4 @@
-use Rattle.std.proofs.Common.{◌≡◌, ◌≤◌, List, drop, length}
+use Rattle.std.proofs.Common.{◌≡◌, ◌≤◌, List, drop}
 use Rattle.ffc_smt.specs.Trees.{Word, Trees}
 use Rattle.ffc_smt.specs.Scopes.{State, scope_of}
 use Rattle.ffc_words.specs.Words.{AreItemsAt}

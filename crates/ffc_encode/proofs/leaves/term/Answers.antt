@@ -1,4 +1,3 @@
-use Rattle.std.proofs.Common.{arith}
 use Rattle.ffc_encode.proofs.LimitLemmas.{only_memory}
 use Rattle.ffc_encode.proofs.ExpandLemmas.{one_term, one_long}
 use Rattle.ffc_encode.proofs.leaves.term.Goals as goal

@@ -1,4 +1,4 @@
-use Rattle.std.proofs.Common.{◌+◌, ◌++◌, ◌∷◌, [], get_or, map, take, sym, ap, ◌∙◌, subst, heap_items, take_all}
+use Rattle.std.proofs.Common.{◌++◌, get_or, map, take, sym, ap, ◌∙◌, subst, heap_items, take_all}
 use Rattle.std.specs.List.Sorted.{IsPermutation}
 use Rattle.std.proofs.lemmas.List.{take_more}
 use Rattle.std.proofs.lemmas.List.Sorted.{IsPermutation-refl}

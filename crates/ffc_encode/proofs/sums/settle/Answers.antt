@@ -1,4 +1,4 @@
-use Rattle.std.proofs.Common.{◌≡◌, ◌++◌, ◌%◌, IsTrue, sym, ap, ◌∙◌, heap_items}
+use Rattle.std.proofs.Common.{◌++◌, ◌%◌, IsTrue, sym, ap, ◌∙◌, heap_items}
 use Rattle.std.proofs.lemmas.Result.{IfOk-weaker}
 use Rattle.ffc_ring.specs.Polynomial.{SamePolynomial, scaled}
 use Rattle.ffc_poly.specs.Ordered.{sum_of}

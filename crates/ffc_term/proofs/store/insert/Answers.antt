@@ -3,10 +3,10 @@ use Rattle.ffc_term.proofs.store.insert.Goals as goal
 
 pub returns-clause-put : goal.returns-clause-put
 returns-clause-put c =
-    let told = c.in_ok-insert_full.ensures in
-    (IsInserted-from_keys _ _ _ _ _ told.added told.keys told.stored).put
+    let known = c.in_ok-insert_full.ensures in
+    (IsInserted-from_keys _ _ _ _ _ known.added known.keys known.stored).put
 
 pub returns-clause-new : goal.returns-clause-new
 returns-clause-new c =
-    let told = c.in_ok-insert_full.ensures in
-    (IsInserted-from_keys _ _ _ _ _ told.added told.keys told.stored).split
+    let known = c.in_ok-insert_full.ensures in
+    (IsInserted-from_keys _ _ _ _ _ known.added known.keys known.stored).split

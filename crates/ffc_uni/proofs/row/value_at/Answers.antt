@@ -12,9 +12,9 @@ loop-place-preserved g c =
     let x = value c.args.x in
     let r = c.index-row-place.result in
     let place = c.loop-place.place in
-    let behind = sum_at x (map value (drop place c.args.row.now)) in
+    let after = sum_at x (map value (drop place c.args.row.now)) in
     let left = left_before c.args.row.now place r (omega arith) (omega arith) c.index-row-place.is in
     c.add_scaled-value.ensures
     ∙ ap (λ v. add_mod p (value r) (mul_mod p x v)) c.loop-place.invariant
-    ∙ horner_step p (value r) x behind
+    ∙ horner_step p (value r) x after
     ∙ ap (λ k. value_of p x (map value k)) (sym left)

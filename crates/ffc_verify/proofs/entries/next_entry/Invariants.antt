@@ -1,5 +1,4 @@
-use Rattle.std.proofs.Common.{◌≡◌, ◌≤◌}
-use Rattle.ffc_verify.specs.Reading.{Grows, MovesOn}
+use Rattle.std.proofs.Common.{◌≤◌}
 use Rattle.ffc_verify.proofs.PieceLemmas.{HasReadOn}
 use Rattle.ffc_verify.proofs.entries.next_entry.Given as goal
 

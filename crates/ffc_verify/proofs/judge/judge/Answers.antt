@@ -1,12 +1,10 @@
-use Rattle.std.proofs.Common.{◌≡◌, ◌≤◌, refl, ap, sym, subst, ◌∙◌, arith, Some, None, Option}
+use Rattle.std.proofs.Common.{refl, arith, Some, None, Option}
 use Rattle.std.specs.Option.{IfSome, IfNone}
-use Rattle.ffc_smt.specs.TableChecks.{TableCheck}
 use Rattle.ffc_elab.specs.Histories.{check_now}
 use Rattle.ffc_script.specs.Progress.{known_at}
 use Rattle.ffc_check.specs.Judged.{node_check}
 use Rattle.ffc_verify.specs.declared.judge.Beside.{Beside}
 use Rattle.ffc_verify.specs.declared.verdicts.Refusal.{Refusal}
-use Rattle.ffc_verify.specs.declared.verdicts.Verdict.{Verdict}
 use Rattle.ffc_verify.specs.declared.verdicts.Verdict.TheVariants as verdict
 use Rattle.ffc_verify.specs.Judged.{EndsAsVerdict, IsVerdict, IsTaken, IsRefusedFor}
 use Rattle.ffc_verify.specs.Reading.{MovesOn}
@@ -35,7 +33,7 @@ returns-in-Ok-false-clause-ok g c =
     ended_ok c.judge_end.result (EndsAsVerdict c.checks.entries d now c.checks.tally) (λ v. IfSome left (λ W. IsVerdict c.args.cores c.args.script.now W v))
     (MovesOn c.checks.entries.text now d.text (g.C.Source.left c.judge_end.new.cert)) c.judge_end.ensures.ok c.judge_end.ensures.moves
     (λ v ends moves. if_told left (λ W. IsVerdict c.args.cores c.args.script.now W v)
-    (λ W told. end_verdict c.args.script.now c.args.checks c.args.cores left c.requires.counted p c.checks.entries now c.checks.tally h d c.judge_end.ensures.grows W told through (g.C.Source.left c.judge_end.new.cert) moves v ends))
+    (λ W stated. end_verdict c.args.script.now c.args.checks c.args.cores left c.requires.counted p c.checks.entries now c.checks.tally h d c.judge_end.ensures.grows W stated through (g.C.Source.left c.judge_end.new.cert) moves v ends))
 
 pub judge_next-requires-clause-valid : goal.judge_next-requires-clause-valid
 judge_next-requires-clause-valid g c =
@@ -89,5 +87,5 @@ returns-in-Ok-Some-clause-ok g c =
     shown_is b q c.context.result.now c.check.ensures.table c.check.ensures.declared c.check.ensures.in_force c.check.ensures.first_order c.context.ensures c.names.ensures in
     let refused : IfSome (Some refusal) (IsRefusedFor (node_check c.check.result) c.checks.entries d now) = rw c.in-Ok-Some.field-0-is at c.in-Ok-Some.ensures.some in
     if_told left (λ W. IsVerdict c.args.cores c.args.script.now W (verdict.Refused refusal))
-    (λ W told. check_refused c.args.script.now c.args.checks c.args.cores left c.requires.counted c.checks.reader c.checks.entries now c.checks.tally c.checks.invariant.0
-    q given c.steps_come_first.ensures b shown d c.judge_next.ensures.grows W told later c.in-Ok-Some.ensures.moves refusal refused)
+    (λ W stated. check_refused c.args.script.now c.args.checks c.args.cores left c.requires.counted c.checks.reader c.checks.entries now c.checks.tally c.checks.invariant.0
+    q given c.steps_come_first.ensures b shown d c.judge_next.ensures.grows W stated later c.in-Ok-Some.ensures.moves refusal refused)

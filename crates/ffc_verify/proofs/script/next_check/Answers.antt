@@ -1,4 +1,4 @@
-use Rattle.std.proofs.Common.{◌≡◌, Some, sym, subst, ◌∙◌}
+use Rattle.std.proofs.Common.{Some, sym}
 use Rattle.std.specs.Option.{IfSome}
 use Rattle.ffc_script.specs.Answers.{Gives}
 use Rattle.ffc_verify.proofs.WalkLemmas.{none_first, found_check, found_last, goes_on, stops_at}

@@ -1,4 +1,4 @@
-use Rattle.std.proofs.Common.{◌≡◌, [], false, ap, ◌∙◌}
+use Rattle.std.proofs.Common.{[], false, ap, ◌∙◌}
 use Rattle.ffc_lex.specs.Lexing.{extended}
 use Rattle.ffc_script.specs.Progress.{Progress}
 use Rattle.ffc_verify.proofs.WalkLemmas.{fed_whole}

@@ -1,4 +1,4 @@
-use Rattle.std.proofs.Common.{◌≡◌, List, ℕ, map, subst, refl, inl, inr}
+use Rattle.std.proofs.Common.{List, ℕ, map, subst, refl, inl, inr}
 use Rattle.std.specs.Option.{IfSome}
 use Rattle.std.specs.Borrow.{Bor}
 use Rattle.ffc_verify.specs.declared.verify.CheckStatus.TheVariants as status

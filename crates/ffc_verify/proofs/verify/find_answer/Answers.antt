@@ -1,7 +1,6 @@
-use Rattle.std.proofs.Common.{◌≡◌, List, ℕ, take, sym, subst, ◌∙◌}
+use Rattle.std.proofs.Common.{◌≡◌, take, sym, subst, ◌∙◌}
 use Rattle.std.specs.Option.{IfSome}
 use Rattle.ffc_smt.specs.Scripts.{reads, AtFault, Done}
-use Rattle.ffc_script.specs.declared.stop.ScriptStop.{ScriptStop}
 use Rattle.ffc_verify.specs.declared.verify.CheckStatus.TheVariants as status
 use Rattle.ffc_verify.specs.declared.verify.Ending.TheVariants as ending
 use Rattle.ffc_verify.specs.Due.{due}

@@ -1,4 +1,4 @@
-use Rattle.std.proofs.Common.{◌≡◌, Err, ap, refl}
+use Rattle.std.proofs.Common.{Err, ap, refl}
 use Rattle.ffc_verify.proofs.DueLemmas.{left_due, says_answer}
 use Rattle.ffc_verify.proofs.StopLemmas.{left_without, says_without, which_stop, which_answer, refused_ending}
 use Rattle.ffc_verify.proofs.verify.run_plan.Goals as goal

@@ -5,5 +5,5 @@ use Rattle.ffc_cdcl.proofs.search.Search.visit_all.Given as goal
 abbrev pub invariant-loop-k : goal.invariant-loop-k
 invariant-loop-k l = record {
   pays : Pays l.initial.self.trail l.self.trail l.initial.meter l.meter;
-  behind : l.kept ≤ l.k;
+  after : l.kept ≤ l.k;
 }

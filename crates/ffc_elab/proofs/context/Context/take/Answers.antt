@@ -1,4 +1,4 @@
-use Rattle.std.proofs.Common.{◌≡◌, List, map, sym, subst, Ok, Err}
+use Rattle.std.proofs.Common.{List, map, sym, subst, Ok, Err}
 use Rattle.ffc_smt.specs.CommandReading.{command_read, limits}
 use Rattle.ffc_smt.specs.Trees.{Word, word_of}
 use Rattle.ffc_words.specs.declared.faults.TakeStop.TheVariants as stop

@@ -1,9 +1,6 @@
-use Rattle.std.proofs.Common.{◌∙◌, ap, length, sym, subst}
 use Rattle.std.specs.Prelude.{option_map}
-use Rattle.ffc_parts.specs.Growing.{Grows}
 use Rattle.ffc_parts.specs.declared.heads.Head.TheVariants as head
 use Rattle.ffc_elab.proofs.AssertCommand.{assertion_sound, assert_stopped, assert_taken}
-use Rattle.ffc_elab.proofs.SameLemmas.{same_keeps, same_cut}
 use Rattle.ffc_elab.proofs.store.Store.assert.Goals as goal
 
 pub returns-in-Err : goal.returns-in-Err

@@ -1,4 +1,4 @@
-use Rattle.std.proofs.Common.{inr, sym, ap, Err, arith}
+use Rattle.std.proofs.Common.{inr}
 use Rattle.ffc_elab.proofs.MakingLemmas.{read_code, light_weight}
 use Rattle.ffc_elab.proofs.store.Store.term_node.Goals as goal
 

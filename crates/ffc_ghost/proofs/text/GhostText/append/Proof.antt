@@ -31,13 +31,13 @@ append_spec 𝓤 𝓛 𝓜 𝓡 wired =
     proved 𝓛 f.ended stayed c 𝓜 𝓡 (Goes-ref 𝓛 2 0 tt (plain (λ _. R)), (Goes-none_slice 𝓛 2 (1 ∷ []) tt (plain (λ _. u8)) yes, tt))
     f.Key.name code.function (code.unfolded 𝓤 𝓛.H 𝓜 𝓡 wired)
     (λ κs. (mut_vals, (shr_slice_vals, tt))) (λ κs. (mut_Tells (named 0) κs.0 R, (shr_slice_Tells (named 1) κs.1.0 u8, tt))) (λ κs qs bounds a g are.
-    let b = a.0.ref_ptr.0 in let o = a.0.ref_ptr.1 in let told = a.0.now in let piece = a.1.0 in
+    let b = a.0.ref_ptr.0 in let o = a.0.ref_ptr.1 in let so_far = a.0.now in let piece = a.1.0 in
     let vs = mut_vals a.0 in let ps = shr_slice_vals piece in
-    let more : GhostText = record { bytes = told.bytes ++ piece.now } in
+    let more : GhostText = record { bytes = so_far.bytes ++ piece.now } in
     qed 𝓛 (((‵ (flft κs.0 qs.0) ⊛ (‵ (flft κs.1.0 qs.1.0) ⊛ ‵ ftrue)) ⊛ ‵ (owns (MutRef (named 0) κs.0 R ∷ ShrSlice (named 1) κs.1.0 u8 ∷ []) a (vs, (ps, tt)))) ∷ raw ((c κs a).requires g) ∷ []) ∵
     keep ! (0 ∷ []) $ split ! $ split ! $ move ! (2 ∷ []) $ fsplit ! $ fsplit3 ! $ drop ! $ move ! (0 ∷ 1 ∷ 3 ∷ []) $
     enter ! _ _ _ _ _ $ alloc_all ! (λ l. pass_all ! refl ((tt, tt), ((tt, (tt, (record { fits = are.1.0.0.1.0 }, tt))), tt)) $
-    move ! (0 ∷ 1 ∷ 2 ∷ []) $ opens ! tt R {h = told} b o (λ us.
+    move ! (0 ∷ 1 ∷ 2 ∷ []) $ opens ! tt R {h = so_far} b o (λ us.
     sets ! (of_opd ! (unit_lit !)) refl (tt, tt) $
     move ! (1 ∷ []) $ use1 𝓛 (‵ (R.own_val more us)) (id⊢ 𝓤 _) $ move ! (1 ∷ 0 ∷ []) $ closes ! tt R more us b o $
     returns ! (look_at ! 0 refl) $ free_all ! refl $

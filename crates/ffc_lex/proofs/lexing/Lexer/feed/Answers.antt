@@ -7,7 +7,7 @@ use Rattle.ffc_lex.proofs.lexing.Lexer.feed.Goals as goal
 
 pub overflow_sub-length : goal.overflow_sub-length
 overflow_sub-length c =
-    let text : List ℕ = c.self-2.inside.told.bytes in
+    let text : List ℕ = c.self-2.inside.input.bytes in
     let none : c.self-2.inside.fault ≡ None =
     ap (λ v. v.fault) c.self-2.view_is ∙ (ap (λ v. v.fault) c.in_ok-let_go.ensures ∙ (sym (ap (λ v. v.fault) c.self.view_is) ∙ c.in_default.is)) in
     let within : c.self-2.inside.scanner.at.index ≤ length text = (c.self-2.invariant.ready none).within in
@@ -18,7 +18,7 @@ overflow_sub-length c =
 
 pub invariant_of-self-2 : goal.invariant_of-self-2
 invariant_of-self-2 c =
-    let text : List ℕ = c.self-2.inside.told.bytes in
+    let text : List ℕ = c.self-2.inside.input.bytes in
     let none : c.self-2.inside.fault ≡ None =
     ap (λ v. v.fault) c.self-2.view_is ∙ (ap (λ v. v.fault) c.in_ok-let_go.ensures ∙ (sym (ap (λ v. v.fault) c.self.view_is) ∙ c.in_default.is)) in
     let within : c.self-2.inside.scanner.at.index ≤ length text = (c.self-2.invariant.ready none).within in
@@ -33,7 +33,7 @@ invariant_of-self-2 c =
 
 pub returns-clause-ok : goal.returns-clause-ok
 returns-clause-ok c =
-    let text : List ℕ = c.self-2.inside.told.bytes in
+    let text : List ℕ = c.self-2.inside.input.bytes in
     let none : c.self-2.inside.fault ≡ None =
     ap (λ v. v.fault) c.self-2.view_is ∙ (ap (λ v. v.fault) c.in_ok-let_go.ensures ∙ (sym (ap (λ v. v.fault) c.self.view_is) ∙ c.in_default.is)) in
     let within : c.self-2.inside.scanner.at.index ≤ length text = (c.self-2.invariant.ready none).within in

@@ -9,7 +9,7 @@ use Rattle.ffc_lex.proofs.lexing.Lexer.finish.Goals as goal
 
 pub unreachable-requires : goal.unreachable-requires
 unreachable-requires c =
-    let text : List ℕ = c.self.inside.told.bytes in
+    let text : List ℕ = c.self.inside.input.bytes in
     let held : c.deref.result.now ≡ drop c.self.inside.scanner.kept text = c.deref.ensures.value ∙ c.self.invariant.window in
     let ready : IsReady c.self.inside.given text c.self.inside.scanner = c.self.invariant.ready c.in_default.is in
     let after : IsForm c.self.inside.given text c.in-Ok-Some.field-0-0 × IsReady (c.self.inside.given + 1) text c.scan.new.self =
@@ -23,7 +23,7 @@ unreachable-requires c =
 
 pub unreachable-requires-in-Err-Fault : goal.unreachable-requires-in-Err-Fault
 unreachable-requires-in-Err-Fault c =
-    let text : List ℕ = c.self.inside.told.bytes in
+    let text : List ℕ = c.self.inside.input.bytes in
     let held : c.deref.result.now ≡ drop c.self.inside.scanner.kept text = c.deref.ensures.value ∙ c.self.invariant.window in
     let ready : IsReady c.self.inside.given text c.self.inside.scanner = c.self.invariant.ready c.in_default.is in
     let after : IsStopped c.self.inside.given text c.in-Err-Fault.field-0-0 =
@@ -38,7 +38,7 @@ unreachable-requires-in-Err-Fault c =
 
 pub invariant_of-self-in-Err-Memory : goal.invariant_of-self-in-Err-Memory
 invariant_of-self-in-Err-Memory c =
-    let text : List ℕ = c.self.inside.told.bytes in
+    let text : List ℕ = c.self.inside.input.bytes in
     let held : c.deref.result.now ≡ drop c.self.inside.scanner.kept text = c.deref.ensures.value ∙ c.self.invariant.window in
     let ready : IsReady c.self.inside.given text c.self.inside.scanner = c.self.invariant.ready c.in_default.is in
     let after : IsReady c.self.inside.given text c.scan.new.self =
@@ -47,7 +47,7 @@ invariant_of-self-in-Err-Memory c =
 
 pub fault_at_end-requires : goal.fault_at_end-requires
 fault_at_end-requires c =
-    let text : List ℕ = c.self.inside.told.bytes in
+    let text : List ℕ = c.self.inside.input.bytes in
     let held : c.deref.result.now ≡ drop c.self.inside.scanner.kept text = c.deref.ensures.value ∙ c.self.invariant.window in
     let ready : IsReady c.self.inside.given text c.self.inside.scanner = c.self.invariant.ready c.in_default.is in
     let after : IsReady c.self.inside.given text c.scan.new.self × (c.scan.new.self.at.index ≡ length text) =
@@ -56,7 +56,7 @@ fault_at_end-requires c =
 
 pub invariant_of-self-in-None : goal.invariant_of-self-in-None
 invariant_of-self-in-None c =
-    let text : List ℕ = c.self.inside.told.bytes in
+    let text : List ℕ = c.self.inside.input.bytes in
     let held : c.deref.result.now ≡ drop c.self.inside.scanner.kept text = c.deref.ensures.value ∙ c.self.invariant.window in
     let ready : IsReady c.self.inside.given text c.self.inside.scanner = c.self.invariant.ready c.in_default.is in
     let after : IsReady c.self.inside.given text c.scan.new.self × (c.scan.new.self.at.index ≡ length text) =
@@ -65,7 +65,7 @@ invariant_of-self-in-None c =
 
 pub returns-in-None-clause-ok : goal.returns-in-None-clause-ok
 returns-in-None-clause-ok c =
-    let text : List ℕ = c.self.inside.told.bytes in
+    let text : List ℕ = c.self.inside.input.bytes in
     let held : c.deref.result.now ≡ drop c.self.inside.scanner.kept text = c.deref.ensures.value ∙ c.self.invariant.window in
     let ready : IsReady c.self.inside.given text c.self.inside.scanner = c.self.invariant.ready c.in_default.is in
     let after : IsReady c.self.inside.given text c.scan.new.self × (c.scan.new.self.at.index ≡ length text) =
@@ -79,7 +79,7 @@ returns-in-None-clause-ok c =
 
 pub returns-in-Some-fault_at_end-clause-stop : goal.returns-in-Some-fault_at_end-clause-stop
 returns-in-Some-fault_at_end-clause-stop c =
-    let text : List ℕ = c.self.inside.told.bytes in
+    let text : List ℕ = c.self.inside.input.bytes in
     let held : c.deref.result.now ≡ drop c.self.inside.scanner.kept text = c.deref.ensures.value ∙ c.self.invariant.window in
     let ready : IsReady c.self.inside.given text c.self.inside.scanner = c.self.invariant.ready c.in_default.is in
     let after : IsReady c.self.inside.given text c.scan.new.self × (c.scan.new.self.at.index ≡ length text) =

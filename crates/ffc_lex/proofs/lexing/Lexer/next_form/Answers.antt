@@ -8,7 +8,7 @@ use Rattle.ffc_lex.proofs.lexing.Lexer.next_form.Goals as goal
 
 pub invariant_of-self : goal.invariant_of-self
 invariant_of-self c =
-    let text : List ℕ = c.self.inside.told.bytes in
+    let text : List ℕ = c.self.inside.input.bytes in
     let held : c.deref.result.now ≡ drop c.self.inside.scanner.kept text = c.deref.ensures.value ∙ c.self.invariant.window in
     let ready : IsReady c.self.inside.given text c.self.inside.scanner = c.self.invariant.ready c.in_default.is in
     let after : IsForm c.self.inside.given text c.in-Ok-Some.form × IsReady (c.self.inside.given + 1) text c.scan.new.self =
@@ -20,7 +20,7 @@ invariant_of-self c =
 
 pub invariant_of-self-in-Ok-None : goal.invariant_of-self-in-Ok-None
 invariant_of-self-in-Ok-None c =
-    let text : List ℕ = c.self.inside.told.bytes in
+    let text : List ℕ = c.self.inside.input.bytes in
     let held : c.deref.result.now ≡ drop c.self.inside.scanner.kept text = c.deref.ensures.value ∙ c.self.invariant.window in
     let ready : IsReady c.self.inside.given text c.self.inside.scanner = c.self.invariant.ready c.in_default.is in
     let after : IsReady c.self.inside.given text c.scan.new.self × (c.scan.new.self.at.index ≡ length text) =
@@ -29,7 +29,7 @@ invariant_of-self-in-Ok-None c =
 
 pub invariant_of-self-in-Err-Memory : goal.invariant_of-self-in-Err-Memory
 invariant_of-self-in-Err-Memory c =
-    let text : List ℕ = c.self.inside.told.bytes in
+    let text : List ℕ = c.self.inside.input.bytes in
     let held : c.deref.result.now ≡ drop c.self.inside.scanner.kept text = c.deref.ensures.value ∙ c.self.invariant.window in
     let ready : IsReady c.self.inside.given text c.self.inside.scanner = c.self.invariant.ready c.in_default.is in
     let after : IsReady c.self.inside.given text c.scan.new.self =
@@ -38,59 +38,59 @@ invariant_of-self-in-Err-Memory c =
 
 pub returns-in-Ok-Some-clause-form : goal.returns-in-Ok-Some-clause-form
 returns-in-Ok-Some-clause-form c =
-    let text : List ℕ = c.self.inside.told.bytes in
+    let text : List ℕ = c.self.inside.input.bytes in
     let held : c.deref.result.now ≡ drop c.self.inside.scanner.kept text = c.deref.ensures.value ∙ c.self.invariant.window in
     let ready : IsReady c.self.inside.given text c.self.inside.scanner = c.self.invariant.ready c.in_default.is in
     let after : IsForm c.self.inside.given text c.in-Ok-Some.form × IsReady (c.self.inside.given + 1) text c.scan.new.self =
     subst (λ o. AfterScan (Ok o) c.self.inside.given text c.scan.new.self) c.in-Ok-Some.field-0-is (c.in-Ok-Some.ensures.read c.self.inside.given text held ready) in
     let due : due_form None text c.self.inside.given ≡ Some c.in-Ok-Some.form = form_due c.self.inside.given text c.in-Ok-Some.form after.0 in
-    sym due ∙ ((ap (λ o. due_form o c.self.inside.told.bytes c.self.inside.given) (sym c.in_default.is)
+    sym due ∙ ((ap (λ o. due_form o c.self.inside.input.bytes c.self.inside.given) (sym c.in_default.is)
     ∙ ap (λ v. due_form v.fault v.text v.given) c.self.view_is))
 
 pub returns-in-Ok-Some-clause-no_fault : goal.returns-in-Ok-Some-clause-no_fault
 returns-in-Ok-Some-clause-no_fault c =
-    let text : List ℕ = c.self.inside.told.bytes in
+    let text : List ℕ = c.self.inside.input.bytes in
     let held : c.deref.result.now ≡ drop c.self.inside.scanner.kept text = c.deref.ensures.value ∙ c.self.invariant.window in
     let ready : IsReady c.self.inside.given text c.self.inside.scanner = c.self.invariant.ready c.in_default.is in
     let after : IsForm c.self.inside.given text c.in-Ok-Some.form × IsReady (c.self.inside.given + 1) text c.scan.new.self =
     subst (λ o. AfterScan (Ok o) c.self.inside.given text c.scan.new.self) c.in-Ok-Some.field-0-is (c.in-Ok-Some.ensures.read c.self.inside.given text held ready) in
     let due : due_fault None text c.self.inside.given ≡ None =
     no_fault_before c.self.inside.given text c.in-Ok-Some.form (form_due c.self.inside.given text c.in-Ok-Some.form after.0) in
-    sym ((ap (λ o. due_fault o c.self.inside.told.bytes c.self.inside.given) (sym c.in_default.is)
+    sym ((ap (λ o. due_fault o c.self.inside.input.bytes c.self.inside.given) (sym c.in_default.is)
     ∙ ap (λ v. due_fault v.fault v.text v.given) c.self.view_is)) ∙ due
 
 pub returns-in-Ok-None-clause-form : goal.returns-in-Ok-None-clause-form
 returns-in-Ok-None-clause-form c =
-    let text : List ℕ = c.self.inside.told.bytes in
+    let text : List ℕ = c.self.inside.input.bytes in
     let held : c.deref.result.now ≡ drop c.self.inside.scanner.kept text = c.deref.ensures.value ∙ c.self.invariant.window in
     let ready : IsReady c.self.inside.given text c.self.inside.scanner = c.self.invariant.ready c.in_default.is in
     let after : IsReady c.self.inside.given text c.scan.new.self × (c.scan.new.self.at.index ≡ length text) =
     subst (λ o. AfterScan (Ok o) c.self.inside.given text c.scan.new.self) c.in-Ok-None.field-0-is (c.in-Ok-None.ensures.read c.self.inside.given text held ready) in
     let due : due_form None text c.self.inside.given ≡ None = (none_at_end c.self.inside.given text c.scan.new.self after.0 after.1).0 in
-    sym due ∙ ((ap (λ o. due_form o c.self.inside.told.bytes c.self.inside.given) (sym c.in_default.is)
+    sym due ∙ ((ap (λ o. due_form o c.self.inside.input.bytes c.self.inside.given) (sym c.in_default.is)
     ∙ ap (λ v. due_form v.fault v.text v.given) c.self.view_is))
 
 pub returns-in-Ok-None-clause-no_fault : goal.returns-in-Ok-None-clause-no_fault
 returns-in-Ok-None-clause-no_fault c =
-    let text : List ℕ = c.self.inside.told.bytes in
+    let text : List ℕ = c.self.inside.input.bytes in
     let held : c.deref.result.now ≡ drop c.self.inside.scanner.kept text = c.deref.ensures.value ∙ c.self.invariant.window in
     let ready : IsReady c.self.inside.given text c.self.inside.scanner = c.self.invariant.ready c.in_default.is in
     let after : IsReady c.self.inside.given text c.scan.new.self × (c.scan.new.self.at.index ≡ length text) =
     subst (λ o. AfterScan (Ok o) c.self.inside.given text c.scan.new.self) c.in-Ok-None.field-0-is (c.in-Ok-None.ensures.read c.self.inside.given text held ready) in
     let due : due_fault None text c.self.inside.given ≡ None =
     no_fault_after c.self.inside.given text (none_at_end c.self.inside.given text c.scan.new.self after.0 after.1) in
-    sym ((ap (λ o. due_fault o c.self.inside.told.bytes c.self.inside.given) (sym c.in_default.is)
+    sym ((ap (λ o. due_fault o c.self.inside.input.bytes c.self.inside.given) (sym c.in_default.is)
     ∙ ap (λ v. due_fault v.fault v.text v.given) c.self.view_is)) ∙ due
 
 pub returns-in-Err-Fault-clause-stop : goal.returns-in-Err-Fault-clause-stop
 returns-in-Err-Fault-clause-stop c =
-    let text : List ℕ = c.self.inside.told.bytes in
+    let text : List ℕ = c.self.inside.input.bytes in
     let held : c.deref.result.now ≡ drop c.self.inside.scanner.kept text = c.deref.ensures.value ∙ c.self.invariant.window in
     let ready : IsReady c.self.inside.given text c.self.inside.scanner = c.self.invariant.ready c.in_default.is in
     let after : IsStopped c.self.inside.given text c.in-Err-Fault.met =
     subst (λ o. AfterStop o c.self.inside.given text c.scan.new.self) c.in-Err-Fault.field-0-is (c.in-Err-Fault.ensures.read c.self.inside.given text held ready) in
     let due : due_fault None text c.self.inside.given ≡ Some c.in-Err-Fault.met = fault_due c.self.inside.given text c.in-Err-Fault.met after in (
-      sym ((ap (λ o. due_fault o c.self.inside.told.bytes c.self.inside.given) (sym c.in_default.is)
+      sym ((ap (λ o. due_fault o c.self.inside.input.bytes c.self.inside.given) (sym c.in_default.is)
           ∙ ap (λ v. due_fault v.fault v.text v.given) c.self.view_is)) ∙ due,
       ap (λ (l : Lexing). let x : Lexing = record l { fault = Some c.in-Err-Fault.met } in x) c.self.view_is,
     )

@@ -24,11 +24,11 @@ returns-in-Some-clause-some c =
     let some : 0 < past = omega (arith, c.loop-past-test.true) in
     let within : past ≤ bound = omega (arith, c.loop-past.invariant.within) in
     let word : c.index.result.now ≡ get_or words at 0 = word_read words at c.index.result.now (omega (arith, c.self.invariant)) c.index.ensures in
-    let behind : IsNoneMarked (marks_in words bound) (64 * at + bit + 1) past =
+    let after : IsNoneMarked (marks_in words bound) (64 * at + bit + 1) past =
     none_from words bound past some within (64 * at + bit + 1) (bit + 1) (omega arith) (λ j least low. sym (ap (λ w. bit_at w j) word) ∙ found.2 j (omega arith) low) in (
       omega (arith, found.0, c.loop-past.invariant.within),
       subst (λ m. IsMarked m (64 * at + bit)) c.self.view_is (marked_at words bound past some within bit found.0 (sym (ap (λ w. bit_at w bit) word) ∙ found.1)),
-      subst (λ m. IsNoneMarked m (64 * at + bit + 1) c.args.end) c.self.view_is (IsNoneMarked-join (marks_in words bound) (64 * at + bit + 1) past c.args.end behind c.loop-past.invariant.none),
+      subst (λ m. IsNoneMarked m (64 * at + bit + 1) c.args.end) c.self.view_is (IsNoneMarked-join (marks_in words bound) (64 * at + bit + 1) past c.args.end after c.loop-past.invariant.none),
     )
 
 pub loop-past-preserved : goal.loop-past-preserved

@@ -29,21 +29,21 @@ loop-id-preserved c =
     let i = c.loop-id.id-index in
     let next = c.loop-id.next in
     let f = λ (id : ℕ). truth (value_at ns A id) in
-    let told = c.loop-id.invariant in
-    let value = next_value ns A nodes i _ _ _ c.requires.closed c.value_at-value.ensures.valid c.loop-id-test.true told.held c.value_at-value.ensures.value in
+    let known = c.loop-id.invariant in
+    let value = next_value ns A nodes i _ _ _ c.requires.closed c.value_at-value.ensures.valid c.loop-id-test.true known.held c.value_at-value.ensures.value in
     record {
-      held = eval_step ns A nodes i _ _ _ c.requires.closed c.value_at-value.ensures.valid c.requires.long c.loop-id-test.true told.held c.value_at-value.ensures.value;
+      held = eval_step ns A nodes i _ _ _ c.requires.closed c.value_at-value.ensures.valid c.requires.long c.loop-id-test.true known.held c.value_at-value.ensures.value;
       before = elim c.if-next-roots.branch [
-        | then-next-roots+then-roots-next+else-not-truth w ↦ subst (λ k. AreBefore nodes roots (i + 1) k) (sym w.next-is) (before_one_more nodes roots i next c.requires.increasing w.if-roots-next.true told.before)
+        | then-next-roots+then-roots-next+else-not-truth w ↦ subst (λ k. AreBefore nodes roots (i + 1) k) (sym w.next-is) (before_one_more nodes roots i next c.requires.increasing w.if-roots-next.true known.before)
         | else-next-roots w ↦ subst (λ k. AreBefore nodes roots (i + 1) k) (sym w.next-is) (elim w.else-next-roots.branch [
-          | else-next-roots-via-then-next-roots+else-roots-next w' ↦ before_same nodes roots i next c.requires.closed.increasing c.requires.among w'.if-roots-next.false told.before
+          | else-next-roots-via-then-next-roots+else-roots-next w' ↦ before_same nodes roots i next c.requires.closed.increasing c.requires.among w'.if-roots-next.false known.before
           | else-next-roots-via-else-next-roots w' ↦ λ j early inside. absurd (omega (arith, w'.if-next-roots.false))
         ])
       ];
       rest = elim c.if-next-roots.branch [
         | then-next-roots+then-roots-next+else-not-truth w ↦ subst (λ k. list_all f (drop k roots) ≡ list_all f roots) (sym w.next-is)
-            (one_passed f roots next (list_all f roots) w.if-next-roots.true (ap f w.if-roots-next.true ∙ sym (ap truth value) ∙ sym w.truth.ensures ∙ w.if-not-truth.false) told.rest)
-        | else-next-roots w ↦ subst (λ k. list_all f (drop k roots) ≡ list_all f roots) (sym w.next-is) told.rest
+            (one_passed f roots next (list_all f roots) w.if-next-roots.true (ap f w.if-roots-next.true ∙ sym (ap truth value) ∙ sym w.truth.ensures ∙ w.if-not-truth.false) known.rest)
+        | else-next-roots w ↦ subst (λ k. list_all f (drop k roots) ≡ list_all f roots) (sym w.next-is) known.rest
       ];
     }
 

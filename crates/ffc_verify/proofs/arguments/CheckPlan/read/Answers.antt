@@ -1,4 +1,4 @@
-use Rattle.std.proofs.Common.{◌≡◌, ℕ, List, [], false, codes, map, ap, ◌∙◌}
+use Rattle.std.proofs.Common.{ℕ, List, [], false, codes, map, ap, ◌∙◌}
 use Rattle.std.specs.Prelude.{unwrap_or, option_map}
 use Rattle.std.specs.Borrow.{Bor}
 use Rattle.clap.specs.Words.{app_of}
