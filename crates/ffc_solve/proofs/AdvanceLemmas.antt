@@ -35,10 +35,11 @@ use Rattle.ffc_solve.specs.declared.dialogue.Dialogue.{Dialogue}
 use Rattle.ffc_solve.specs.declared.dialogue.Advance.{Advance}
 use Rattle.ffc_solve.specs.declared.dialogue.Advance.TheVariants as advance
 use Rattle.ffc_solve.specs.declared.stop.Stop.{Stop}
+use Rattle.ffc_solve.specs.Changes.{Change}
 use Rattle.ffc_solve.specs.Solving.{AreEntries}
 use Rattle.ffc_solve.specs.Remembering.{Holds, IsAsked, IsNext, Remembers, effect_by, is_plain, remembered_after}
 use Rattle.ffc_solve.specs.Underway.{GoesOn, IsCutAt, IsTold}
-use Rattle.ffc_solve.proofs.ListLemmas.{Appends-nil, Appends-same, front_of, checks-append, checks-none, AreEntries-more, AnswersSplit, answers-append, answers-none, last-none, last_end}
+use Rattle.ffc_solve.proofs.ListLemmas.{between, Appends-nil, Appends-same, front_of, checks-append, checks-none, AreEntries-more, AnswersSplit, answers-append, answers-none, last-none, last_end}
 use Rattle.ffc_solve.proofs.RememberLemmas.{remembered_next}
 
 -- Commands and their answers
@@ -189,16 +190,16 @@ module _ (p : Progress) (s : Dialogue) (entries : List Entry) (l : Option Last) 
     checks_on : (rest : List Step) → table_checks ((steps_of p ++ x ∷ []) ++ rest) ≡ table_checks (steps_of p) ++ table_checks rest
     checks_on rest = ap table_checks (append_assoc (steps_of p) (x ∷ []) rest) ∙ checks-append (steps_of p) (x ∷ rest) ∙ ap (λ cs. table_checks (steps_of p) ++ cs) (checks-none x rest None none)
 
-    pub told_plain : (t : Dialogue) (co cn oo on : Option (List ℕ)) → t ≡ record s { last = remembered_after (effect_by c) s.last } → cn ≡ co → Appends (answer_of (last_after l x.command) x) oo on
-        → IsTold (record s { reader = p }) t entries co cn oo on
+    pub told_plain : (t : Dialogue) (cert out : Change) → t ≡ record s { last = remembered_after (effect_by c) s.last } → cert.new ≡ cert.old → Appends (answer_of (last_after l x.command) x) out.old out.new
+        → IsTold (record s { reader = p }) t entries cert out
     unfolding answers_from
-    told_plain t co cn oo on is same written =
+    told_plain t cert out is same written =
         let answer = answer_of (last_after l x.command) x in
         record {
           more = [];
           last = last_after l x.command;
           holds = subst (λ es. Holds t.reader t es (last_after l x.command)) (sym (append-nil entries)) (holds_plain t is);
-          certificate = Appends-same [] co co cn same (Appends-nil co);
+          certificate = Appends-same [] cert.old cert.old cert.new same (Appends-nil cert.old);
           text = answer;
           answered = written;
           answers_are = ap₂ (λ xs es. answers xs es) (ap (λ (u : Dialogue). steps_of u.reader) is ∙ gives.steps ∙ sym (append-nil (steps_of p ++ x ∷ []))) (append-nil entries) ∙ answers_plain []
@@ -209,20 +210,20 @@ module _ (p : Progress) (s : Dialogue) (entries : List Entry) (l : Option Last) 
           taken = ap (λ (u : Dialogue). u.taken) is;
         }
 
-    pub cut_plain : (more : List ℕ) (co cn oo on : Option (List ℕ)) → cn ≡ co → AppendsPrefix (answer_of (last_after l x.command) x) oo on → IsCutAt (record s { reader = p }) entries more co cn oo on
-    cut_plain more co cn oo on same written =
+    pub cut_plain : (more : List ℕ) (cert out : Change) → cert.new ≡ cert.old → AppendsPrefix (answer_of (last_after l x.command) x) out.old out.new → IsCutAt (record s { reader = p }) entries more cert out
+    cut_plain more cert out same written =
         let (rest, e) = first more in
         let steps_are : (reads (p.text ++ more)).steps ≡ (steps_of p ++ x ∷ []) ++ rest = ap (λ t. (reads (t ++ more)).steps) (sym gives.text) ∙ e ∙ ap (λ xs. xs ++ rest) gives.steps in
         let answer = answer_of (last_after l x.command) x in
         let later = answers_from (last_after l x.command) rest [] in
-        let front = front_of answer oo on written in
+        let front = front_of answer out.old out.new written in
         record {
           later = [];
           each = subst (λ xs. AreEntries s.steps (table_checks xs) (entries ++ [])) (sym steps_are)
               (subst (λ cs. AreEntries s.steps cs (entries ++ [])) (sym (checks_on rest)) (subst (AreEntries s.steps (table_checks (steps_of p) ++ table_checks rest)) (sym (append-nil entries)) (AreEntries-more s.steps (table_checks (steps_of p)) (table_checks rest) entries holds.each)));
           part = [];
           rest = inl refl;
-          certificate = Appends-same [] co co cn same (Appends-nil co);
+          certificate = Appends-same [] cert.old cert.old cert.new same (Appends-nil cert.old);
           text = take front.size answer;
           answered = front.appended;
           behind = drop front.size answer ++ later;
@@ -239,22 +240,22 @@ plain_from (command.CheckAssuming asked) a b d = absurd (b asked refl)
 plain_from command.Exit a b d = absurd (d refl)
 plain_from _ a b d = refl
 
-pub plain_ok : (r : Result Advance Stop) (s t : Dialogue) (c : Command) (co oo on : Option (List ℕ)) → AreFirst s.reader.text (steps_of s.reader) → t ≡ record s { last = remembered_after (effect_by c) s.last } → is_plain c ≡ true
-    → OnOk r ((p : Progress) (entries : List Entry) (l : Option Last) (n : IsNext p s entries l c) → Appends (answer_of (last_after l n.gives.step.command) n.gives.step) oo on) → IfOk r (λ a. a ≡ advance.Answered)
-    → IfOk r (λ a. (p : Progress) (entries : List Entry) (l : Option Last) → Holds p s entries l → Gives p s.reader c → GoesOn (record s { reader = p }) t entries co co oo on a)
-plain_ok (Err e) s t c co oo on first is plain ok answered = tt
-plain_ok (Ok a) s t c co oo on first is plain ok answered = λ p entries l holds gives.
-    subst (GoesOn (record s { reader = p }) t entries co co oo on) (sym answered) (
-      told_plain p s entries l c holds gives first (gives.check ∙ plain_no_check c (known_at s.reader) plain) t co co oo on is refl (ok p entries l (record { holds = holds; gives = gives; plain = plain })),
+pub plain_ok : (r : Result Advance Stop) (s t : Dialogue) (c : Command) (co : Option (List ℕ)) (out : Change) → AreFirst s.reader.text (steps_of s.reader) → t ≡ record s { last = remembered_after (effect_by c) s.last } → is_plain c ≡ true
+    → OnOk r ((p : Progress) (entries : List Entry) (l : Option Last) (n : IsNext p s entries l c) → Appends (answer_of (last_after l n.gives.step.command) n.gives.step) out.old out.new) → IfOk r (λ a. a ≡ advance.Answered)
+    → IfOk r (λ a. (p : Progress) (entries : List Entry) (l : Option Last) → Holds p s entries l → Gives p s.reader c → GoesOn (record s { reader = p }) t entries (between co co) out a)
+plain_ok (Err e) s t c co out first is plain ok answered = tt
+plain_ok (Ok a) s t c co out first is plain ok answered = λ p entries l holds gives.
+    subst (GoesOn (record s { reader = p }) t entries (between co co) out) (sym answered) (
+      told_plain p s entries l c holds gives first (gives.check ∙ plain_no_check c (known_at s.reader) plain) t (between co co) out is refl (ok p entries l (record { holds = holds; gives = gives; plain = plain })),
       ap (λ (u : Dialogue). u.reader.over) is ∙ gives.over ∙ plain_goes_on c plain,
     )
 
-pub plain_err : (r : Result Advance Stop) (s : Dialogue) (c : Command) (co oo on : Option (List ℕ)) → AreFirst s.reader.text (steps_of s.reader) → is_plain c ≡ true
-    → OnErr r ((p : Progress) (entries : List Entry) (l : Option Last) (n : IsNext p s entries l c) → AppendsPrefix (answer_of (last_after l n.gives.step.command) n.gives.step) oo on)
-    → OnErr r ((p : Progress) (entries : List Entry) (l : Option Last) (more : List ℕ) → Holds p s entries l → Gives p s.reader c → IsCutAt (record s { reader = p }) entries more co co oo on)
-plain_err (Ok a) s c co oo on first plain err = tt
-plain_err (Err e) s c co oo on first plain err = λ p entries l more holds gives.
-    cut_plain p s entries l c holds gives first (gives.check ∙ plain_no_check c (known_at s.reader) plain) more co co oo on refl (err p entries l (record { holds = holds; gives = gives; plain = plain }))
+pub plain_err : (r : Result Advance Stop) (s : Dialogue) (c : Command) (co : Option (List ℕ)) (out : Change) → AreFirst s.reader.text (steps_of s.reader) → is_plain c ≡ true
+    → OnErr r ((p : Progress) (entries : List Entry) (l : Option Last) (n : IsNext p s entries l c) → AppendsPrefix (answer_of (last_after l n.gives.step.command) n.gives.step) out.old out.new)
+    → OnErr r ((p : Progress) (entries : List Entry) (l : Option Last) (more : List ℕ) → Holds p s entries l → Gives p s.reader c → IsCutAt (record s { reader = p }) entries more (between co co) out)
+plain_err (Ok a) s c co out first plain err = tt
+plain_err (Err e) s c co out first plain err = λ p entries l more holds gives.
+    cut_plain p s entries l c holds gives first (gives.check ∙ plain_no_check c (known_at s.reader) plain) more (between co co) out refl (err p entries l (record { holds = holds; gives = gives; plain = plain }))
 
 -- the end of a script is not answered
 exit_silent : (k : Option Last) (s t : State) (d : smt.Command) → IsAnswered t d command.Exit → answer_to k s d ≡ []
@@ -271,17 +272,17 @@ exit_silent k s t GetUnsatAssumptions h = cc
 exit_silent k s t _ h = absurd h
 
 pub exit_told : (p : Progress) (s : Dialogue) (entries : List Entry) (l : Option Last) (c : Command) (co oo : Option (List ℕ)) → Holds p s entries l → (gives : Gives p s.reader c) → AreFirst s.reader.text (steps_of s.reader) → c ≡ command.Exit
-    → GoesOn (record s { reader = p }) s entries co co oo oo advance.Ended
+    → GoesOn (record s { reader = p }) s entries (between co co) (between oo oo) advance.Ended
 exit_told p s entries l c co oo holds gives first e =
     let none = gives.check ∙ ap (λ d. check_by d (known_at s.reader)) e in
     let same : s ≡ record s { last = remembered_after (effect_by c) s.last } = λ i. record s { last = remembered_after (effect_by (sym e i)) s.last } in
     let x = gives.step in
     let answered = subst (IsAnswered (after x.before x.tree x.command) x.command) e (answered_is p s entries l c holds gives first) in
     let silent = exit_silent (last_after l x.command) (after x.before x.tree x.command) (after x.before x.tree x.command) x.command answered in
-    (told_plain p s entries l c holds gives first none s co co oo oo same refl (subst (λ a. Appends a oo oo) (sym silent) (Appends-nil oo)), gives.ended (ap ends e))
+    (told_plain p s entries l c holds gives first none s (between co co) (between oo oo) same refl (subst (λ a. Appends a oo oo) (sym silent) (Appends-nil oo)), gives.ended (ap ends e))
 
 -- nothing was written
-pub cut_here : (s : Dialogue) (entries : List Entry) (l : Option Last) (more : List ℕ) (co oo : Option (List ℕ)) → Holds s.reader s entries l → AreFirst s.reader.text (steps_of s.reader) → IsCutAt s entries more co co oo oo
+pub cut_here : (s : Dialogue) (entries : List Entry) (l : Option Last) (more : List ℕ) (co oo : Option (List ℕ)) → Holds s.reader s entries l → AreFirst s.reader.text (steps_of s.reader) → IsCutAt s entries more (between co co) (between oo oo)
 cut_here s entries l more co oo holds first =
     let (rest, e) = first more in
     let steps_are : (reads (s.reader.text ++ more)).steps ≡ steps_of s.reader ++ rest = e in

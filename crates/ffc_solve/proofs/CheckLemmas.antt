@@ -32,6 +32,7 @@ use Rattle.ffc_script.specs.Progress.{Progress, known_at, steps_of}
 use Rattle.ffc_script.proofs.KeptLemmas.{checks_kept}
 use Rattle.ffc_solve.specs.declared.remembered.Tally.{Tally}
 use Rattle.ffc_solve.specs.declared.dialogue.Dialogue.{Dialogue}
+use Rattle.ffc_solve.specs.Changes.{Change}
 use Rattle.ffc_solve.specs.Solving.{AreEntries, IsRight}
 use Rattle.ffc_solve.specs.Remembering.{Counts, HasRoom, Holds, IsChecked, Remembers, counted, texts_of}
 use Rattle.ffc_solve.specs.Underway.{IsCutAt, IsHalfTold, IsTold}
@@ -177,17 +178,17 @@ module _ (p : Progress) (s : Dialogue) (entries : List Entry) (l : Option Last) 
     tally = counts_then t.tally h.tally;
   }
 
-  pub told_then : (t : Dialogue) (asked : Option (Vec Asked)) (co cn oo on : Option (List ℕ)) → s.steps < 2 ^ 64 → IsChecked s t asked entry → texts_of asked ≡ option_map (map asked_text) (assumptions_in x.command)
-      → Appends (entry_text entry) co cn → Appends (verdict entry) oo on → IsTold (record s { reader = p }) t entries co cn oo on
+  pub told_then : (t : Dialogue) (asked : Option (Vec Asked)) (cert out : Change) → s.steps < 2 ^ 64 → IsChecked s t asked entry → texts_of asked ≡ option_map (map asked_text) (assumptions_in x.command)
+      → Appends (entry_text entry) cert.old cert.new → Appends (verdict entry) out.old out.new → IsTold (record s { reader = p }) t entries cert out
   unfolding answers_from
-  told_then t asked co cn oo on few h texts cert out =
+  told_then t asked cert out few h texts entry_put verdict_put =
       record {
         more = entry ∷ [];
         last = then;
         holds = holds_then t asked few h texts;
-        certificate = subst (λ b. Appends b co cn) (sym (append-nil (entry_text entry))) cert;
+        certificate = subst (λ b. Appends b cert.old cert.new) (sym (append-nil (entry_text entry))) entry_put;
         text = verdict entry;
-        answered = out;
+        answered = verdict_put;
         answers_are = ap (λ xs. answers xs (entries ++ entry ∷ [])) (ap steps_of h.reader ∙ gives.steps ∙ sym (append-nil (steps_of p ++ x ∷ []))) ∙ answers_then []
             ∙ ap (λ a. answers (steps_of p) entries ++ a) (append-nil (verdict entry));
         same_text = ap (λ r. r.text) h.reader ∙ gives.text;
@@ -203,8 +204,8 @@ module _ (p : Progress) (s : Dialogue) (entries : List Entry) (l : Option Last) 
       (rest, ap (λ t. (reads (t ++ more)).steps) (sym gives.text) ∙ e ∙ ap (λ xs. xs ++ rest) gives.steps)
 
   -- the entry was written in part
-  cut_entry : (more : List ℕ) (size : ℕ) (co cn oo on : Option (List ℕ)) → size < length (entry_text entry) → Appends (take size (entry_text entry)) co cn → on ≡ oo → IsCutAt (record s { reader = p }) entries more co cn oo on
-  cut_entry more size co cn oo on small cert same =
+  cut_entry : (more : List ℕ) (size : ℕ) (cert out : Change) → size < length (entry_text entry) → Appends (take size (entry_text entry)) cert.old cert.new → out.new ≡ out.old → IsCutAt (record s { reader = p }) entries more cert out
+  cut_entry more size cert out small put same =
       let on_steps = steps_on more in
       let rest = on_steps.0 in
       let all = ap table_checks on_steps.1 ∙ checks_on rest in
@@ -224,16 +225,16 @@ module _ (p : Progress) (s : Dialogue) (entries : List Entry) (l : Option Last) 
           short = small;
           is = refl;
         });
-        certificate = cert;
+        certificate = put;
         text = [];
-        answered = Appends-same [] oo oo on same (Appends-nil oo);
+        answered = Appends-same [] out.old out.old out.new same (Appends-nil out.old);
         behind = [];
         answers_are = ap₂ (λ xs es. answers xs es) on_steps.1 (append-nil entries) ∙ answers_before rest;
       }
 
   -- the whole entry was written, and its verdict in part
-  cut_verdict : (more : List ℕ) (size : ℕ) (co cn oo on : Option (List ℕ)) → Appends (entry_text entry) co cn → Appends (take size (verdict entry)) oo on → IsCutAt (record s { reader = p }) entries more co cn oo on
-  cut_verdict more size co cn oo on cert out =
+  cut_verdict : (more : List ℕ) (size : ℕ) (cert out : Change) → Appends (entry_text entry) cert.old cert.new → Appends (take size (verdict entry)) out.old out.new → IsCutAt (record s { reader = p }) entries more cert out
+  cut_verdict more size cert out entry_put verdict_put =
       let on_steps = steps_on more in
       let rest = on_steps.0 in
       let all = ap table_checks on_steps.1 ∙ checks_on rest in
@@ -242,24 +243,24 @@ module _ (p : Progress) (s : Dialogue) (entries : List Entry) (l : Option Last) 
         each = subst (λ cs. AreEntries s.steps cs (entries ++ entry ∷ [])) (sym all) (AreEntries-more s.steps (table_checks (steps_of p) ++ check ∷ []) (table_checks rest) (entries ++ entry ∷ []) each_then);
         part = [];
         rest = inl refl;
-        certificate = subst (λ b. Appends b co cn) (sym (append-nil (entry_text entry ++ []) ∙ append-nil (entry_text entry))) cert;
+        certificate = subst (λ b. Appends b cert.old cert.new) (sym (append-nil (entry_text entry ++ []) ∙ append-nil (entry_text entry))) entry_put;
         text = take size (verdict entry);
-        answered = out;
+        answered = verdict_put;
         behind = drop size (verdict entry) ++ answers_from then rest [];
         answers_are = ap (λ xs. answers xs (entries ++ entry ∷ [])) on_steps.1 ∙ answers_then rest
             ∙ ap (λ a. answers (steps_of p) entries ++ (a ++ answers_from then rest [])) (sym (take-append-drop size (verdict entry)))
             ∙ ap (λ a. answers (steps_of p) entries ++ a) (append_assoc (take size (verdict entry)) (drop size (verdict entry)) (answers_from then rest []));
       }
 
-  pub cut_check : (more : List ℕ) (co cn oo on : Option (List ℕ)) → IsHalfTold entry co cn oo on → IsCutAt (record s { reader = p }) entries more co cn oo on
-  cut_check more co cn oo on (inl (cert, same)) =
-      let front = front_of (entry_text entry) co cn cert in
-      elim (cases_lt front.size (length (entry_text entry))) as (λ _. IsCutAt (record s { reader = p }) entries more co cn oo on) [
-        | inl small ↦ cut_entry more front.size co cn oo on small front.appended same
+  pub cut_check : (more : List ℕ) (cert out : Change) → IsHalfTold entry cert out → IsCutAt (record s { reader = p }) entries more cert out
+  cut_check more cert out (inl (put, same)) =
+      let front = front_of (entry_text entry) cert.old cert.new put in
+      elim (cases_lt front.size (length (entry_text entry))) as (λ _. IsCutAt (record s { reader = p }) entries more cert out) [
+        | inl small ↦ cut_entry more front.size cert out small front.appended same
         | inr whole ↦
-            cut_verdict more 0 co cn oo on
-            (subst (λ b. Appends b co cn) (take_all front.size (entry_text entry) whole) front.appended)
-            (Appends-same [] oo oo on same (Appends-nil oo))
+            cut_verdict more 0 cert out
+            (subst (λ b. Appends b cert.old cert.new) (take_all front.size (entry_text entry) whole) front.appended)
+            (Appends-same [] out.old out.old out.new same (Appends-nil out.old))
       ]
-  cut_check more co cn oo on (inr (cert, out)) =
-      let front = front_of (verdict entry) oo on out in cut_verdict more front.size co cn oo on cert front.appended
+  cut_check more cert out (inr (entry_put, verdict_put)) =
+      let front = front_of (verdict entry) out.old out.new verdict_put in cut_verdict more front.size cert out entry_put front.appended

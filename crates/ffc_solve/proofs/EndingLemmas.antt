@@ -10,9 +10,10 @@ use Rattle.ffc_smt.specs.Scripts.{Script, reads}
 use Rattle.ffc_smt.specs.TableChecks.{table_checks}
 use Rattle.ffc_answer.specs.Answers.{has_all_entries, made_answer, run_answers, script_answers}
 use Rattle.ffc_solve.specs.declared.dialogue.Dialogue.{Dialogue}
+use Rattle.ffc_solve.specs.Changes.{Change}
 use Rattle.ffc_solve.specs.Solving.{IsPaused, IsStopped, IsWhole}
 use Rattle.ffc_solve.specs.Underway.{IsAnswered, IsCut, IsPausedAt, is_fault}
-use Rattle.ffc_solve.proofs.ListLemmas.{AppendsPrefix-none, Becomes-more, front_is_prefix, front_of}
+use Rattle.ffc_solve.proofs.ListLemmas.{between, AppendsPrefix-none, Becomes-more, front_is_prefix, front_of}
 use Rattle.std.proofs.lemmas.Bool.{false≢true}
 use Rattle.std.proofs.lemmas.List.{take-append-drop, take_all, length-map}
 use Rattle.std.specs.List.{AllByRecursion}
@@ -46,17 +47,21 @@ no_made false = refl
 run_plain : (script : Script) (entries : List Entry) → run_answers None script entries ≡ script_answers script entries
 run_plain script entries = ap (λ a. script_answers script entries ++ a) (no_made (has_all_entries script.steps entries)) ∙ append-nil (script_answers script entries)
 
-pub text_is : (entries : List Entry) → header 2 ++ flat_map entry_text entries ≡ text_of 2 entries
+text_is : (entries : List Entry) → header 2 ++ flat_map entry_text entries ≡ text_of 2 entries
 unfolding text_of
 text_is entries = refl
 
-pub whole_from : (budget : ℕ) (b : List ℕ) (refused : Bool) (s : Dialogue) (co c1 cn oo on : Option (List ℕ)) → Becomes (header 2) co c1 → IsAnswered budget b refused s c1 cn oo on → IsWhole budget None b co cn oo on
-whole_from budget b refused s co c1 cn oo on first h = record {
+-- the whole text after the first line
+pub text_from : (entries : List Entry) (cert : Change) (c1 : Option (List ℕ)) → Becomes (header 2) cert.old c1 → Appends (flat_map entry_text entries) c1 cert.new → Becomes (text_of 2 entries) cert.old cert.new
+text_from entries cert c1 first more = subst (λ a. Becomes a cert.old cert.new) (text_is entries) (Becomes-more (header 2) (flat_map entry_text entries) cert.old c1 cert.new first more)
+
+pub whole_from : (budget : ℕ) (b : List ℕ) (refused : Bool) (s : Dialogue) (cert out : Change) (c1 : Option (List ℕ)) → Becomes (header 2) cert.old c1 → IsAnswered budget b refused s (between c1 cert.new) out → IsWhole budget None b cert out
+whole_from budget b refused s cert out c1 first h = record {
   entries = h.entries;
   each = h.each;
   all = h.all;
-  certificate = subst (λ a. Becomes a co cn) (text_is h.entries) (Becomes-more (header 2) (flat_map entry_text h.entries) co c1 cn first h.certificate);
-  answered = subst (λ a. Appends a oo on) (sym (run_plain (reads b) h.entries)) h.answered;
+  certificate = text_from h.entries cert c1 first h.certificate;
+  answered = subst (λ a. Appends a out.old out.new) (sym (run_plain (reads b) h.entries)) h.answered;
 }
 
 longer_prefix : (a tail : List ℕ) (x y : Option (List ℕ)) → AppendsPrefix a x y → AppendsPrefix (a ++ tail) x y
@@ -65,20 +70,20 @@ longer_prefix a tail x y h =
     front_is_prefix (a ++ tail) x y (take front.size a) (drop front.size a ++ tail)
     (ap (λ b. b ++ tail) (sym (take-append-drop front.size a)) ∙ append_assoc (take front.size a) (drop front.size a) tail) front.appended
 
-pub stopped_from : (budget : ℕ) (make : Option ℕ) (b : List ℕ) (co c1 cn oo on : Option (List ℕ)) → Becomes (header 2) co c1 → IsCut budget b c1 cn oo on → IsStopped budget make b co cn oo on
-stopped_from budget make b co c1 cn oo on first h = inr (record {
+pub stopped_from : (budget : ℕ) (make : Option ℕ) (b : List ℕ) (cert out : Change) (c1 : Option (List ℕ)) → Becomes (header 2) cert.old c1 → IsCut budget b (between c1 cert.new) out → IsStopped budget make b cert out
+stopped_from budget make b cert out c1 first h = inr (record {
   entries = h.entries;
   each = h.each;
   text = text_of 2 h.entries ++ h.part;
   part = inr (h.part, refl, h.rest);
-  certificate = subst (λ a. Becomes a co cn) (sym (append_assoc (header 2) (flat_map entry_text h.entries) h.part) ∙ ap (λ a. a ++ h.part) (text_is h.entries))
-      (Becomes-more (header 2) (flat_map entry_text h.entries ++ h.part) co c1 cn first h.certificate);
-  answered = longer_prefix (script_answers (reads b) h.entries) (cond (has_all_entries (reads b).steps h.entries) (made_answer make h.entries) []) oo on h.answered;
+  certificate = subst (λ a. Becomes a cert.old cert.new) (sym (append_assoc (header 2) (flat_map entry_text h.entries) h.part) ∙ ap (λ a. a ++ h.part) (text_is h.entries))
+      (Becomes-more (header 2) (flat_map entry_text h.entries ++ h.part) cert.old c1 cert.new first h.certificate);
+  answered = longer_prefix (script_answers (reads b) h.entries) (cond (has_all_entries (reads b).steps h.entries) (made_answer make h.entries) []) out.old out.new h.answered;
 })
 
 -- a certificate with its first line alone, or a front of it
-pub stopped_early : (budget : ℕ) (make : Option ℕ) (b : List ℕ) (n : ℕ) (co cn oo : Option (List ℕ)) → Becomes (take n (header 2)) co cn → IsStopped budget make b co cn oo oo
-stopped_early budget make b n co cn oo h = inr (record {
+pub stopped_early : (budget : ℕ) (make : Option ℕ) (b : List ℕ) (n : ℕ) (cert : Change) (oo : Option (List ℕ)) → Becomes (take n (header 2)) cert.old cert.new → IsStopped budget make b cert (between oo oo)
+stopped_early budget make b n cert oo h = inr (record {
   entries = [];
   each = tt;
   text = take n (header 2);
@@ -87,8 +92,8 @@ stopped_early budget make b n co cn oo h = inr (record {
   answered = AppendsPrefix-none (run_answers make (reads b) []) oo;
 })
 
-pub paused_from : (budget : ℕ) (text : List ℕ) (co c1 cn oo on : Option (List ℕ)) → Becomes (header 2) co c1 → IsPausedAt budget text c1 cn oo on → IsPaused budget text co cn oo on
-paused_from budget text co c1 cn oo on first h = record {
+pub paused_from : (budget : ℕ) (text : List ℕ) (cert out : Change) (c1 : Option (List ℕ)) → Becomes (header 2) cert.old c1 → IsPausedAt budget text (between c1 cert.new) out → IsPaused budget text cert out
+paused_from budget text cert out c1 first h = record {
   steps = h.steps;
   state = h.state;
   run = h.run;
@@ -96,7 +101,7 @@ paused_from budget text co c1 cn oo on first h = record {
   entries = h.entries;
   each = h.each;
   all = h.all;
-  certificate = subst (λ a. Becomes a co cn) (text_is h.entries) (Becomes-more (header 2) (flat_map entry_text h.entries) co c1 cn first h.certificate);
+  certificate = text_from h.entries cert c1 first h.certificate;
   answered = h.answered;
 }
 
@@ -111,12 +116,12 @@ told_if None P Q f h = tt
 told_if (Some b) P Q f h = f b h
 
 -- the first line alone
-pub stopped_headed : (budget : ℕ) (make : Option ℕ) (b : List ℕ) (co cn oo : Option (List ℕ)) → Becomes (header 2) co cn → IsStopped budget make b co cn oo oo
-stopped_headed budget make b co cn oo h = stopped_early budget make b (length (header 2)) co cn oo (subst (λ a. Becomes a co cn) (sym (take_all (length (header 2)) (header 2) (omega arith))) h)
+pub stopped_headed : (budget : ℕ) (make : Option ℕ) (b : List ℕ) (cert : Change) (oo : Option (List ℕ)) → Becomes (header 2) cert.old cert.new → IsStopped budget make b cert (between oo oo)
+stopped_headed budget make b cert oo h = stopped_early budget make b (length (header 2)) cert oo (subst (λ a. Becomes a cert.old cert.new) (sym (take_all (length (header 2)) (header 2) (omega arith))) h)
 
-pub stopped_creating : (budget : ℕ) (make : Option ℕ) (b : List ℕ) (co cn oo : Option (List ℕ)) (P Q : Type 0) → (((cn ≡ co) × P) ⊎ (((n : ℕ) × Becomes (take n (header 2)) co cn) × Q)) → IsStopped budget make b co cn oo oo
-stopped_creating budget make b co cn oo P Q (inl same) = inl (same.0, refl)
-stopped_creating budget make b co cn oo P Q (inr begun) = stopped_early budget make b begun.0.0 co cn oo begun.0.1
+pub stopped_creating : (budget : ℕ) (make : Option ℕ) (b : List ℕ) (cert : Change) (oo : Option (List ℕ)) (P Q : Type 0) → (((cert.new ≡ cert.old) × P) ⊎ (((n : ℕ) × Becomes (take n (header 2)) cert.old cert.new) × Q)) → IsStopped budget make b cert (between oo oo)
+stopped_creating budget make b cert oo P Q (inl same) = inl (same.0, refl)
+stopped_creating budget make b cert oo P Q (inr begun) = stopped_early budget make b begun.0.0 cert oo begun.0.1
 
 pub on_ok : {T E : Type 0} (r : Result T E) (P : T → Type 0) (Q : Type 0) → ((x : T) → P x → Q) → IfOk r P → OnOk r Q
 on_ok (Ok x) P Q f h = f x h
@@ -151,9 +156,9 @@ whole_accepted budget b entries each all done =
           ∙ ap (λ (o : Option Judgement). elim o as (λ _. Judgement) [ Some refused ↦ refused | None ↦ Accepted (counts_of (numbered_from 1 2 entries)) ]) (none_broken budget checks entries 1 2 each);
     }
 
-pub accepted_from : (budget : ℕ) (make : Option ℕ) (b : List ℕ) (co cn oo on : Option (List ℕ)) → IsWhole budget make b co cn oo on → is_fault (reads b).end ≡ false → (held : List ℕ) → co ≡ Some held → IsAccepted b cn
-accepted_from budget make b co cn oo on h sound held told =
-    let now : cn ≡ Some (text_of 2 h.entries) = (let P : Option (List ℕ) → Type 0 = λ o. Becomes (text_of 2 h.entries) o cn in subst P told h.certificate) in
+pub accepted_from : (budget : ℕ) (make : Option ℕ) (b : List ℕ) (cert out : Change) → IsWhole budget make b cert out → is_fault (reads b).end ≡ false → (held : List ℕ) → cert.old ≡ Some held → IsAccepted b cert.new
+accepted_from budget make b cert out h sound held told =
+    let now : cert.new ≡ Some (text_of 2 h.entries) = (let P : Option (List ℕ) → Type 0 = λ o. Becomes (text_of 2 h.entries) o cert.new in subst P told h.certificate) in
     subst (IsAccepted b) (sym now) (whole_accepted budget b h.entries h.each h.all (no_fault (reads b).end sound))
   where
     no_fault : (e : End) → is_fault e ≡ false → e ≡ scripts.Done
@@ -167,57 +172,57 @@ rose_later a b c le (inr last) = inr last
 
 -- Statuses
 
-pub left_by : (r : Result Bool Stop) (budget : ℕ) (make : Option ℕ) (lo co cn oo on : Option (List ℕ)) → OnOk r (IfSome lo (λ b. IsWhole budget make b co cn oo on)) → IfOk r (λ refused. IfSome lo (λ b. refused ≡ is_fault (reads b).end))
-    → OnErr r (IfSome lo (λ b. IsStopped budget make b co cn oo on)) → IfSome lo (λ b. IsLeft (status_of r) budget make b co cn oo on)
-left_by (Ok true) budget make None co cn oo on whole ended stopped = tt
-left_by (Ok true) budget make (Some b) co cn oo on whole ended stopped = (whole, sym ended)
-left_by (Ok false) budget make None co cn oo on whole ended stopped = tt
-left_by (Ok false) budget make (Some b) co cn oo on whole ended stopped = (whole, sym ended)
-left_by (Err stops.ReadFault) budget make lo co cn oo on whole ended stopped = stopped
-left_by (Err stops.WriteFault) budget make lo co cn oo on whole ended stopped = stopped
-left_by (Err stops.CertFault) budget make lo co cn oo on whole ended stopped = stopped
-left_by (Err stops.Memory) budget make lo co cn oo on whole ended stopped = stopped
+pub left_by : (r : Result Bool Stop) (budget : ℕ) (make : Option ℕ) (lo : Option (List ℕ)) (cert out : Change) → OnOk r (IfSome lo (λ b. IsWhole budget make b cert out)) → IfOk r (λ refused. IfSome lo (λ b. refused ≡ is_fault (reads b).end))
+    → OnErr r (IfSome lo (λ b. IsStopped budget make b cert out)) → IfSome lo (λ b. IsLeft (status_of r) budget make b cert out)
+left_by (Ok true) budget make None cert out whole ended stopped = tt
+left_by (Ok true) budget make (Some b) cert out whole ended stopped = (whole, sym ended)
+left_by (Ok false) budget make None cert out whole ended stopped = tt
+left_by (Ok false) budget make (Some b) cert out whole ended stopped = (whole, sym ended)
+left_by (Err stops.ReadFault) budget make lo cert out whole ended stopped = stopped
+left_by (Err stops.WriteFault) budget make lo cert out whole ended stopped = stopped
+left_by (Err stops.CertFault) budget make lo cert out whole ended stopped = stopped
+left_by (Err stops.Memory) budget make lo cert out whole ended stopped = stopped
 
-pub named_by : (r : Result Bool Stop) (name : List ℕ) (co cn oo on n0 n1 : Option (List ℕ)) → OnOk r (Becomes name n0 n1) → OnErr r (IsUntouchedOrNamed name co cn oo on n0 n1) → IsNamed (status_of r) name co cn oo on n0 n1
-named_by (Ok true) name co cn oo on n0 n1 named begun = named
-named_by (Ok false) name co cn oo on n0 n1 named begun = named
-named_by (Err stops.ReadFault) name co cn oo on n0 n1 named begun = begun
-named_by (Err stops.WriteFault) name co cn oo on n0 n1 named begun = begun
-named_by (Err stops.CertFault) name co cn oo on n0 n1 named begun = begun
-named_by (Err stops.Memory) name co cn oo on n0 n1 named begun = begun
+pub named_by : (r : Result Bool Stop) (given : List ℕ) (cert out name : Change) → OnOk r (Becomes given name.old name.new) → OnErr r (IsUntouchedOrNamed given cert out name) → IsNamed (status_of r) given cert out name
+named_by (Ok true) given cert out name named begun = named
+named_by (Ok false) given cert out name named begun = named
+named_by (Err stops.ReadFault) given cert out name named begun = begun
+named_by (Err stops.WriteFault) given cert out name named begun = begun
+named_by (Err stops.CertFault) given cert out name named begun = begun
+named_by (Err stops.Memory) given cert out name named begun = begun
 
-pub accepted_by : (r : Result Bool Stop) (budget : ℕ) (make : Option ℕ) (lo co cn oo on : Option (List ℕ)) → OnOk r (IfSome lo (λ b. IsWhole budget make b co cn oo on)) → IfOk r (λ refused. IfSome lo (λ b. refused ≡ is_fault (reads b).end))
-    → status_of r ≡ status.Done → IfSome lo (λ b. (held : List ℕ) → co ≡ Some held → IsAccepted b cn)
-accepted_by (Ok false) budget make None co cn oo on whole ended done = tt
-accepted_by (Ok false) budget make (Some b) co cn oo on whole ended done = accepted_from budget make b co cn oo on whole (sym ended)
-accepted_by (Ok true) budget make lo co cn oo on whole ended done = cc
-accepted_by (Err stops.ReadFault) budget make lo co cn oo on whole ended done = cc
-accepted_by (Err stops.WriteFault) budget make lo co cn oo on whole ended done = cc
-accepted_by (Err stops.CertFault) budget make lo co cn oo on whole ended done = cc
-accepted_by (Err stops.Memory) budget make lo co cn oo on whole ended done = cc
+pub accepted_by : (r : Result Bool Stop) (budget : ℕ) (make : Option ℕ) (lo : Option (List ℕ)) (cert out : Change) → OnOk r (IfSome lo (λ b. IsWhole budget make b cert out)) → IfOk r (λ refused. IfSome lo (λ b. refused ≡ is_fault (reads b).end))
+    → status_of r ≡ status.Done → IfSome lo (λ b. (held : List ℕ) → cert.old ≡ Some held → IsAccepted b cert.new)
+accepted_by (Ok false) budget make None cert out whole ended done = tt
+accepted_by (Ok false) budget make (Some b) cert out whole ended done = accepted_from budget make b cert out whole (sym ended)
+accepted_by (Ok true) budget make lo cert out whole ended done = cc
+accepted_by (Err stops.ReadFault) budget make lo cert out whole ended done = cc
+accepted_by (Err stops.WriteFault) budget make lo cert out whole ended done = cc
+accepted_by (Err stops.CertFault) budget make lo cert out whole ended done = cc
+accepted_by (Err stops.Memory) budget make lo cert out whole ended done = cc
 
-pub planned : (words : List Text) (plan : Plan) (make : Option ℕ) (r : Result Bool Stop) (left co cn oo on n0 n1 : Option (List ℕ)) (s : SolveStatus) → HasPlan words plan → plan.make ≡ make → s ≡ status_of r
-    → OnOk r (IfSome (script_given make left) (λ b. IsWhole plan.steps make b co cn oo on)) → IfOk r (λ refused. IfSome (script_given make left) (λ b. refused ≡ is_fault (reads b).end))
-    → OnErr r (IfSome (script_given make left) (λ b. IsStopped plan.steps make b co cn oo on)) → OnOk r (Becomes plan.cert_name n0 n1)
-    → OnErr r (IsUntouchedOrNamed plan.cert_name co cn oo on n0 n1) → Leaves words s left co cn oo on n0 n1
-planned words plan make r left co cn oo on n0 n1 s has made is whole ended stopped named begun = inr (record {
+pub planned : (words : List Text) (plan : Plan) (make : Option ℕ) (r : Result Bool Stop) (left : Option (List ℕ)) (cert out name : Change) (s : SolveStatus) → HasPlan words plan → plan.make ≡ make → s ≡ status_of r
+    → OnOk r (IfSome (script_given make left) (λ b. IsWhole plan.steps make b cert out)) → IfOk r (λ refused. IfSome (script_given make left) (λ b. refused ≡ is_fault (reads b).end))
+    → OnErr r (IfSome (script_given make left) (λ b. IsStopped plan.steps make b cert out)) → OnOk r (Becomes plan.cert_name name.old name.new)
+    → OnErr r (IsUntouchedOrNamed plan.cert_name cert out name) → Leaves words s left cert out name
+planned words plan make r left cert out name s has made is whole ended stopped named begun = inr (record {
   plan = plan;
   has = has;
-  leaves = subst (λ t. IfSome (script_given plan.make left) (λ b. IsLeft t plan.steps plan.make b co cn oo on)) (sym is)
-      (subst (λ m. IfSome (script_given m left) (λ b. IsLeft (status_of r) plan.steps m b co cn oo on)) (sym made) (left_by r plan.steps make (script_given make left) co cn oo on whole ended stopped));
-  named = subst (λ t. IsNamed t plan.cert_name co cn oo on n0 n1) (sym is) (named_by r plan.cert_name co cn oo on n0 n1 named begun);
-  accepted = λ done. subst (λ m. IfSome (script_given m left) (λ b. (held : List ℕ) → co ≡ Some held → IsAccepted b cn)) (sym made)
-      (accepted_by r plan.steps make (script_given make left) co cn oo on whole ended (sym is ∙ done));
+  leaves = subst (λ t. IfSome (script_given plan.make left) (λ b. IsLeft t plan.steps plan.make b cert out)) (sym is)
+      (subst (λ m. IfSome (script_given m left) (λ b. IsLeft (status_of r) plan.steps m b cert out)) (sym made) (left_by r plan.steps make (script_given make left) cert out whole ended stopped));
+  named = subst (λ t. IsNamed t plan.cert_name cert out name) (sym is) (named_by r plan.cert_name cert out name named begun);
+  accepted = λ done. subst (λ m. IfSome (script_given m left) (λ b. (held : List ℕ) → cert.old ≡ Some held → IsAccepted b cert.new)) (sym made)
+      (accepted_by r plan.steps make (script_given make left) cert out whole ended (sym is ∙ done));
 })
 
 -- a certificate whose creation failed was not touched, or has its name
-pub begun_creating : (name told : List ℕ) (co cn oo n0 n1 : Option (List ℕ)) (P : Type 0) → told ≡ name → (((cn ≡ co) × (n1 ≡ n0)) ⊎ (P × Becomes told n0 n1)) → IsUntouchedOrNamed name co cn oo oo n0 n1
-begun_creating name told co cn oo n0 n1 P is (inl same) = inl (same.0, refl, same.1)
-begun_creating name told co cn oo n0 n1 P is (inr begun) = inr (subst (λ n. Becomes n n0 n1) is begun.1)
+pub begun_creating : (given told : List ℕ) (cert name : Change) (oo : Option (List ℕ)) (P : Type 0) → told ≡ given → (((cert.new ≡ cert.old) × (name.new ≡ name.old)) ⊎ (P × Becomes told name.old name.new)) → IsUntouchedOrNamed given cert (between oo oo) name
+begun_creating given told cert name oo P is (inl same) = inl (same.0, refl, same.1)
+begun_creating given told cert name oo P is (inr begun) = inr (subst (λ n. Becomes n name.old name.new) is begun.1)
 
 -- what was created has its name for as long as writes go there
-pub begun_named : (name told : List ℕ) (co cn oo on n0 n1 n2 : Option (List ℕ)) → told ≡ name → Becomes told n0 n1 → n2 ≡ n1 → IsUntouchedOrNamed name co cn oo on n0 n2
-begun_named name told co cn oo on n0 n1 n2 is named same = inr (subst (λ n. Becomes n n0 n2) is (subst (Becomes told n0) (sym same) named))
+pub begun_named : (given told : List ℕ) (cert out : Change) (n0 n1 n2 : Option (List ℕ)) → told ≡ given → Becomes told n0 n1 → n2 ≡ n1 → IsUntouchedOrNamed given cert out (between n0 n2)
+begun_named given told cert out n0 n1 n2 is named same = inr (subst (λ n. Becomes n n0 n2) is (subst (Becomes told n0) (sym same) named))
 
 -- Ends
 

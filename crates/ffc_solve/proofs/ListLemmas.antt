@@ -10,10 +10,15 @@ use Rattle.ffc_cert.specs.Spelling.{entry_text}
 use Rattle.ffc_smt.specs.Scripts.{Step}
 use Rattle.ffc_smt.specs.TableChecks.{TableCheck, table_check_of, table_checks}
 use Rattle.ffc_answer.specs.Answers.{Last, answer_of, answers_from, checked, last_after, last_from, sat_count, unsat_count, unknown_count}
+use Rattle.ffc_solve.specs.Changes.{Change}
 use Rattle.ffc_solve.specs.Solving.{AreEntries, IsRight}
 use Rattle.std.specs.Result.{IfErr, IsErrOf}
 use Rattle.ffc_solve.specs.declared.stop.Stop.{Stop}
 use Rattle.ffc_solve.specs.declared.stop.Stop.TheVariants as stops
+
+-- from one state to a later one
+abbrev pub between : Option (List ℕ) → Option (List ℕ) → Change
+between x y = record { old = x; new = y }
 
 -- Texts that are appended
 

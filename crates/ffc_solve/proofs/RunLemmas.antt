@@ -15,28 +15,29 @@ use Rattle.ffc_script.specs.Answers.{HasRun, SaysOnly}
 use Rattle.ffc_script.specs.Kept.{AreFirst}
 use Rattle.ffc_script.specs.Progress.{Progress, known_at, steps_from, steps_of}
 use Rattle.ffc_solve.specs.declared.dialogue.Dialogue.{Dialogue}
+use Rattle.ffc_solve.specs.Changes.{Change, IsSilent}
 use Rattle.ffc_solve.specs.Solving.{AreEntries, EndsSoon, IsTaken}
 use Rattle.ffc_solve.specs.Remembering.{Counts, Holds, Remembers}
-use Rattle.ffc_solve.specs.Underway.{HasFed, HasRead, IsAnswered, IsAtEnd, IsCut, IsCutAt, IsEnd, IsFinished, IsFirst, IsPausedAt, IsSilent, IsTold, IsUnfinished, is_fault}
-use Rattle.ffc_solve.proofs.ListLemmas.{Appends-more, Appends-nil, Appends-same, front_of, front_is_prefix, texts-append}
+use Rattle.ffc_solve.specs.Underway.{HasFed, HasRead, IsAnswered, IsAtEnd, IsCut, IsCutAt, IsEnd, IsFinished, IsFirst, IsPausedAt, IsTold, IsUnfinished, is_fault}
+use Rattle.ffc_solve.proofs.ListLemmas.{between, Appends-more, Appends-nil, Appends-same, front_of, front_is_prefix, texts-append}
 use Rattle.ffc_solve.proofs.AdvanceLemmas.{cut_here}
 use Rattle.ffc_solve.proofs.ReadLemmas.{HasRead-more, HasRead-none, taken_read}
 use Rattle.ffc_solve.proofs.TakenLemmas.{none_run, soon_fed, soon_none}
 
 -- What a loop over commands keeps: the commands so far are answered.
-pub record IsGoing (s : Dialogue) (co cn oo on lo ln : Option (List ℕ)) : Type 0 where
+pub record IsGoing (s : Dialogue) (cert out : Change) (lo ln : Option (List ℕ)) : Type 0 where
   pub entries : List Entry
   pub last : Option Last
   pub holds : Holds s.reader s entries last
-  pub certificate : Appends (flat_map entry_text entries) co cn
-  pub answered : Appends (answers (steps_of s.reader) entries) oo on
+  pub certificate : Appends (flat_map entry_text entries) cert.old cert.new
+  pub answered : Appends (answers (steps_of s.reader) entries) out.old out.new
   pub read : HasRead lo ln s.reader.text
   pub few : length s.reader.text ≤ 67108865
   pub taken : s.taken ≡ length s.reader.text
   pub active : s.reader.over ≡ false
   pub soon : EndsSoon s.reader.text
 
-pub going_first : (s : Dialogue) (co oo lo : Option (List ℕ)) → IsFirst s → IsGoing s co co oo oo lo lo
+pub going_first : (s : Dialogue) (co oo lo : Option (List ℕ)) → IsFirst s → IsGoing s (between co co) (between oo oo) lo lo
 unfolding answers_from last_from steps_from
 going_first s co oo lo first =
     let none : steps_of s.reader ≡ [] = ap steps_of first.reader in
@@ -61,14 +62,14 @@ going_first s co oo lo first =
     }
 
 -- one more command
-module _ (s t : Dialogue) (co c1 cn oo o1 on lo ln : Option (List ℕ)) (h : IsGoing s co c1 oo o1 lo ln) (told : IsTold s t h.entries c1 cn o1 on) where
-  pub certificate_then : Appends (flat_map entry_text (h.entries ++ told.more)) co cn
-  certificate_then = subst (λ b. Appends b co cn) (sym (texts-append h.entries told.more)) (Appends-more (flat_map entry_text h.entries) (flat_map entry_text told.more) co c1 cn h.certificate told.certificate)
+module _ (s t : Dialogue) (cert out : Change) (c1 o1 lo ln : Option (List ℕ)) (h : IsGoing s (between cert.old c1) (between out.old o1) lo ln) (told : IsTold s t h.entries (between c1 cert.new) (between o1 out.new)) where
+  pub certificate_then : Appends (flat_map entry_text (h.entries ++ told.more)) cert.old cert.new
+  certificate_then = subst (λ b. Appends b cert.old cert.new) (sym (texts-append h.entries told.more)) (Appends-more (flat_map entry_text h.entries) (flat_map entry_text told.more) cert.old c1 cert.new h.certificate told.certificate)
 
-  pub answered_then : Appends (answers (steps_of t.reader) (h.entries ++ told.more)) oo on
-  answered_then = subst (λ b. Appends b oo on) (sym told.answers_are) (Appends-more (answers (steps_of s.reader) h.entries) told.text oo o1 on h.answered told.answered)
+  pub answered_then : Appends (answers (steps_of t.reader) (h.entries ++ told.more)) out.old out.new
+  answered_then = subst (λ b. Appends b out.old out.new) (sym told.answers_are) (Appends-more (answers (steps_of s.reader) h.entries) told.text out.old o1 out.new h.answered told.answered)
 
-  pub going_told : t.reader.over ≡ false → IsGoing t co cn oo on lo ln
+  pub going_told : t.reader.over ≡ false → IsGoing t cert out lo ln
   going_told active = record {
     entries = h.entries ++ told.more;
     last = told.last;
@@ -83,8 +84,8 @@ module _ (s t : Dialogue) (co c1 cn oo o1 on lo ln : Option (List ℕ)) (h : IsG
   }
 
 -- one more piece
-pub going_fed : (s t : Dialogue) (co cn oo on lo l1 ln : Option (List ℕ)) → IsGoing s co cn oo on lo l1 → HasRun s.reader → HasFed s t l1 ln → IsGoing t co cn oo on lo ln
-going_fed s t co cn oo on lo l1 ln h run fed =
+pub going_fed : (s t : Dialogue) (cert out : Change) (lo l1 ln : Option (List ℕ)) → IsGoing s cert out lo l1 → HasRun s.reader → HasFed s t (between l1 ln) → IsGoing t cert out lo ln
+going_fed s t cert out lo l1 ln h run fed =
     let text : t.reader.text ≡ s.reader.text ++ fed.piece = ap (λ (p : Progress). p.text) fed.reader in
     let steps : steps_of t.reader ≡ steps_of s.reader = ap steps_of fed.reader in
     let known = ap known_at fed.reader in
@@ -100,7 +101,7 @@ going_fed s t co cn oo on lo l1 ln h run fed =
         tally = subst (λ y. Counts y h.entries) (sym fed.same.2) h.holds.tally;
       };
       certificate = h.certificate;
-      answered = subst (λ xs. Appends (answers xs h.entries) oo on) (sym steps) h.answered;
+      answered = subst (λ xs. Appends (answers xs h.entries) out.old out.new) (sym steps) h.answered;
       read = subst (HasRead lo ln) (sym text) (HasRead-more lo l1 ln s.reader.text fed.piece h.read fed.read);
       few = let e = ap (λ (b : List ℕ). length b) text in let k = fed.few in omega (arith, length-append s.reader.text fed.piece);
       taken = fed.taken ∙ ap (λ n. n + length fed.piece) h.taken ∙ sym (ap (λ (b : List ℕ). length b) text ∙ length-append s.reader.text fed.piece);
@@ -115,7 +116,7 @@ pub says_only : (lo ln : Option (List ℕ)) (text : List ℕ) (steps : List Step
 says_only None ln text steps end h says = tt
 says_only (Some b) ln text steps end (rest, e, left) says = ap reads e ∙ says rest
 
-pub says_all : (lo l1 ln : Option (List ℕ)) (s : Dialogue) (steps : List Step) (end : End) → ((t : List ℕ) → reads t ≡ reads (take 67108865 t)) → HasRead lo l1 s.reader.text → IsEnd s l1 ln → reads s.reader.text ≡ record { steps = steps; end = end }
+pub says_all : (lo l1 ln : Option (List ℕ)) (s : Dialogue) (steps : List Step) (end : End) → ((t : List ℕ) → reads t ≡ reads (take 67108865 t)) → HasRead lo l1 s.reader.text → IsEnd s (between l1 ln) → reads s.reader.text ≡ record { steps = steps; end = end }
     → IfSome lo (λ b. reads b ≡ record { steps = steps; end = end })
 says_all None l1 ln s steps end cut h at says = tt
 says_all (Some b) l1 ln s steps end cut (rest, e, left) (inl at) says =
@@ -133,21 +134,21 @@ answers_whole : (script : Script) (xs : List Step) (end : End) (entries : List E
 answers_whole script xs end entries e count =
     ap (λ (r : Script). script_answers r entries) e ∙ ap (λ b. answers xs entries ++ cond b (end_answer end) []) (all_there xs entries count)
 
-pub answered_whole : (t : Dialogue) (b : List ℕ) (end : End) (entries : List Entry) (l : Option Last) (budget : ℕ) (co cn oo o1 on : Option (List ℕ)) → reads b ≡ record { steps = steps_of t.reader; end = end } → t.steps ≡ budget → Holds t.reader t entries l
-    → Appends (flat_map entry_text entries) co cn → Appends (answers (steps_of t.reader) entries) oo o1 → Appends (end_answer end) o1 on → (u : Dialogue) → u.tally ≡ t.tally → IsAnswered budget b (is_fault end) u co cn oo on
-answered_whole t b end entries l budget co cn oo o1 on says same holds cert out last u tally = record {
+pub answered_whole : (t : Dialogue) (b : List ℕ) (end : End) (entries : List Entry) (l : Option Last) (budget : ℕ) (cert : Change) (oo o1 on : Option (List ℕ)) → reads b ≡ record { steps = steps_of t.reader; end = end } → t.steps ≡ budget → Holds t.reader t entries l
+    → Appends (flat_map entry_text entries) cert.old cert.new → Appends (answers (steps_of t.reader) entries) oo o1 → Appends (end_answer end) o1 on → (u : Dialogue) → u.tally ≡ t.tally → IsAnswered budget b (is_fault end) u cert (between oo on)
+answered_whole t b end entries l budget cert oo o1 on says same holds put told last u tally = record {
   entries = entries;
   each = subst (λ (r : Script). AreEntries budget (table_checks r.steps) entries) (sym says) (subst (λ n. AreEntries n (table_checks (steps_of t.reader)) entries) same holds.each);
   all = holds.count ∙ ap (λ (r : Script). length (table_checks r.steps)) (sym says);
-  certificate = cert;
-  answered = subst (λ a. Appends a oo on) (sym (answers_whole (reads b) (steps_of t.reader) end entries says holds.count)) (Appends-more (answers (steps_of t.reader) entries) (end_answer end) oo o1 on out last);
+  certificate = put;
+  answered = subst (λ a. Appends a oo on) (sym (answers_whole (reads b) (steps_of t.reader) end entries says holds.count)) (Appends-more (answers (steps_of t.reader) entries) (end_answer end) oo o1 on told last);
   tally = subst (λ y. Counts y entries) (sym tally) holds.tally;
   ended = ap (λ (r : Script). is_fault r.end) (sym says);
 }
 
 -- the run stopped in a command
-pub cut_in : (s : Dialogue) (rest : List ℕ) (b : List ℕ) (budget : ℕ) (co c1 cn oo o1 on lo ln : Option (List ℕ)) → b ≡ s.reader.text ++ rest → s.steps ≡ budget → (h : IsGoing s co c1 oo o1 lo ln) → IsCutAt s h.entries rest c1 cn o1 on → IsCut budget b co cn oo on
-cut_in s rest b budget co c1 cn oo o1 on lo ln e same h k =
+pub cut_in : (s : Dialogue) (rest : List ℕ) (b : List ℕ) (budget : ℕ) (cert out : Change) (c1 o1 lo ln : Option (List ℕ)) → b ≡ s.reader.text ++ rest → s.steps ≡ budget → (h : IsGoing s (between cert.old c1) (between out.old o1) lo ln) → IsCutAt s h.entries rest (between c1 cert.new) (between o1 out.new) → IsCut budget b cert out
+cut_in s rest b budget cert out c1 o1 lo ln e same h k =
     let R = reads (s.reader.text ++ rest) in
     let all = h.entries ++ k.later in
     let tail = cond (has_all_entries R.steps all) (end_answer R.end) [] in
@@ -156,28 +157,28 @@ cut_in s rest b budget co c1 cn oo o1 on lo ln e same h k =
     ap (λ a. a ++ tail) (k.answers_are ∙ sym (append_assoc done k.text k.behind)) ∙ append_assoc (done ++ k.text) k.behind tail in
     let texts : flat_map entry_text h.entries ++ (flat_map entry_text k.later ++ k.part) ≡ flat_map entry_text all ++ k.part =
     sym (append_assoc (flat_map entry_text h.entries) (flat_map entry_text k.later) k.part) ∙ ap (λ a. a ++ k.part) (sym (texts-append h.entries k.later)) in
-    let cut : IsCut s.steps (s.reader.text ++ rest) co cn oo on = record {
+    let cut : IsCut s.steps (s.reader.text ++ rest) cert out = record {
       entries = all;
       each = k.each;
       part = k.part;
       rest = k.rest;
-      certificate = subst (λ a. Appends a co cn) texts (Appends-more (flat_map entry_text h.entries) (flat_map entry_text k.later ++ k.part) co c1 cn h.certificate k.certificate);
-      answered = front_is_prefix (script_answers R all) oo on (done ++ k.text) (k.behind ++ tail) parts (Appends-more done k.text oo o1 on h.answered k.answered);
+      certificate = subst (λ a. Appends a cert.old cert.new) texts (Appends-more (flat_map entry_text h.entries) (flat_map entry_text k.later ++ k.part) cert.old c1 cert.new h.certificate k.certificate);
+      answered = front_is_prefix (script_answers R all) out.old out.new (done ++ k.text) (k.behind ++ tail) parts (Appends-more done k.text out.old o1 out.new h.answered k.answered);
     } in
-    subst (λ n. IsCut n b co cn oo on) same (subst (λ t. IsCut s.steps t co cn oo on) (sym e) cut)
+    subst (λ n. IsCut n b cert out) same (subst (λ t. IsCut s.steps t cert out) (sym e) cut)
 
 -- the same, where the script's contents are stated
-pub cut_told : (s : Dialogue) (budget : ℕ) (co c1 cn oo o1 on lo ln : Option (List ℕ)) → s.steps ≡ budget → (h : IsGoing s co c1 oo o1 lo ln) → ((more : List ℕ) → IsCutAt s h.entries more c1 cn o1 on) → IfSome lo (λ b. IsCut budget b co cn oo on)
-cut_told s budget co c1 cn oo o1 on lo ln same h k = by_told lo h.read
+pub cut_told : (s : Dialogue) (budget : ℕ) (cert out : Change) (c1 o1 lo ln : Option (List ℕ)) → s.steps ≡ budget → (h : IsGoing s (between cert.old c1) (between out.old o1) lo ln) → ((more : List ℕ) → IsCutAt s h.entries more (between c1 cert.new) (between o1 out.new)) → IfSome lo (λ b. IsCut budget b cert out)
+cut_told s budget cert out c1 o1 lo ln same h k = by_told lo h.read
   where
-    by_told : (o : Option (List ℕ)) → HasRead o ln s.reader.text → IfSome o (λ b. IsCut budget b co cn oo on)
+    by_told : (o : Option (List ℕ)) → HasRead o ln s.reader.text → IfSome o (λ b. IsCut budget b cert out)
     by_told None r = tt
-    by_told (Some b) (rest, e, left) = cut_in s rest b budget co c1 cn oo o1 on lo ln e same h (k rest)
+    by_told (Some b) (rest, e, left) = cut_in s rest b budget cert out c1 o1 lo ln e same h (k rest)
 
 -- the end was answered in part
-pub cut_end : (s : Dialogue) (b : List ℕ) (end : End) (entries : List Entry) (l : Option Last) (budget : ℕ) (co cn oo o1 on : Option (List ℕ)) → reads b ≡ record { steps = steps_of s.reader; end = end } → s.steps ≡ budget → Holds s.reader s entries l
-    → Appends (flat_map entry_text entries) co cn → Appends (answers (steps_of s.reader) entries) oo o1 → AppendsPrefix (end_answer end) o1 on → IsCut budget b co cn oo on
-cut_end s b end entries l budget co cn oo o1 on says same holds cert out last =
+pub cut_end : (s : Dialogue) (b : List ℕ) (end : End) (entries : List Entry) (l : Option Last) (budget : ℕ) (cert : Change) (oo o1 on : Option (List ℕ)) → reads b ≡ record { steps = steps_of s.reader; end = end } → s.steps ≡ budget → Holds s.reader s entries l
+    → Appends (flat_map entry_text entries) cert.old cert.new → Appends (answers (steps_of s.reader) entries) oo o1 → AppendsPrefix (end_answer end) o1 on → IsCut budget b cert (between oo on)
+cut_end s b end entries l budget cert oo o1 on says same holds put told last =
     let front = front_of (end_answer end) o1 on last in
     let done = answers (steps_of s.reader) entries in
     let parts : script_answers (reads b) entries ≡ (done ++ take front.size (end_answer end)) ++ drop front.size (end_answer end) =
@@ -188,16 +189,16 @@ cut_end s b end entries l budget co cn oo o1 on says same holds cert out last =
       each = subst (λ (r : Script). AreEntries budget (table_checks r.steps) entries) (sym says) (subst (λ n. AreEntries n (table_checks (steps_of s.reader)) entries) same holds.each);
       part = [];
       rest = inl refl;
-      certificate = subst (λ a. Appends a co cn) (sym (append-nil (flat_map entry_text entries))) cert;
+      certificate = subst (λ a. Appends a cert.old cert.new) (sym (append-nil (flat_map entry_text entries))) put;
       answered = front_is_prefix (script_answers (reads b) entries) oo on (done ++ take front.size (end_answer end)) (drop front.size (end_answer end)) parts
-          (Appends-more done (take front.size (end_answer end)) oo o1 on out front.appended);
+          (Appends-more done (take front.size (end_answer end)) oo o1 on told front.appended);
     }
 
 -- reading failed
-pub paused_at : (s : Dialogue) (budget : ℕ) (co cn oo on lo ln : Option (List ℕ)) → s.steps ≡ budget → IsGoing s co cn oo on lo ln → HasRun s.reader → IfSome lo (λ b. (text : List ℕ) × IsTaken text b ln × IsPausedAt budget text co cn oo on)
-paused_at s budget co cn oo on lo ln same h run = by_told lo h.read
+pub paused_at : (s : Dialogue) (budget : ℕ) (cert out : Change) (lo ln : Option (List ℕ)) → s.steps ≡ budget → IsGoing s cert out lo ln → HasRun s.reader → IfSome lo (λ b. (text : List ℕ) × IsTaken text b ln × IsPausedAt budget text cert out)
+paused_at s budget cert out lo ln same h run = by_told lo h.read
   where
-    paused : IsPausedAt budget s.reader.text co cn oo on
+    paused : IsPausedAt budget s.reader.text cert out
     paused = record {
       steps = steps_of s.reader;
       state = (known_at s.reader).state;
@@ -210,7 +211,7 @@ paused_at s budget co cn oo on lo ln same h run = by_told lo h.read
       answered = h.answered;
     }
 
-    by_told : (o : Option (List ℕ)) → HasRead o ln s.reader.text → IfSome o (λ b. (text : List ℕ) × IsTaken text b ln × IsPausedAt budget text co cn oo on)
+    by_told : (o : Option (List ℕ)) → HasRead o ln s.reader.text → IfSome o (λ b. (text : List ℕ) × IsTaken text b ln × IsPausedAt budget text cert out)
     by_told None r = tt
     by_told (Some b) (rest, e, left) = (s.reader.text, record { rest = rest; split = e; left = left; few = h.few }, paused)
 
@@ -236,50 +237,44 @@ told_if : (o : Option (List ℕ)) (P Q : List ℕ → Type 0) → ((b : List ℕ
 told_if None P Q f h = tt
 told_if (Some b) P Q f h = f b h
 
-pub ended_whole : (s t : Dialogue) (budget : ℕ) (co c1 cn oo o1 on lo ln : Option (List ℕ)) → s.steps ≡ budget → (h : IsGoing s co c1 oo o1 lo ln) → (told : IsTold s t h.entries c1 cn o1 on) → SaysOnly t.reader.text (steps_of t.reader) Done
-    → IfSome lo (λ b. IsAnswered budget b false t co cn oo on)
-ended_whole s t budget co c1 cn oo o1 on lo ln same h told says =
-    told_if lo _ _ (λ b e. answered_whole t b Done (h.entries ++ told.more) told.last budget co cn oo on on e (told.budget ∙ same) told.holds
-    (certificate_then s t co c1 cn oo o1 on lo ln h told) (answered_then s t co c1 cn oo o1 on lo ln h told) (Appends-nil on) t refl)
+pub ended_whole : (s t : Dialogue) (budget : ℕ) (cert out : Change) (c1 o1 lo ln : Option (List ℕ)) → s.steps ≡ budget → (h : IsGoing s (between cert.old c1) (between out.old o1) lo ln) → (told : IsTold s t h.entries (between c1 cert.new) (between o1 out.new)) → SaysOnly t.reader.text (steps_of t.reader) Done
+    → IfSome lo (λ b. IsAnswered budget b false t cert out)
+ended_whole s t budget cert out c1 o1 lo ln same h told says =
+    told_if lo _ _ (λ b e. answered_whole t b Done (h.entries ++ told.more) told.last budget cert out.old out.new out.new e (told.budget ∙ same) told.holds
+    (certificate_then s t cert out c1 o1 lo ln h told) (answered_then s t cert out c1 o1 lo ln h told) (Appends-nil out.new) t refl)
     (says_only lo ln t.reader.text (steps_of t.reader) Done (subst (HasRead lo ln) (sym told.same_text) h.read) says)
 
 -- a fault in the script
-module _ (s : Dialogue) (budget : ℕ) (co c1 cn oo o1 o2 on lo ln : Option (List ℕ)) (same : s.steps ≡ budget) (h : IsGoing s co c1 oo o1 lo ln) (silent : IsSilent c1 cn o1 o2) (end : End) where
-  silent_cert : Appends (flat_map entry_text h.entries) co cn
-  silent_cert = Appends-same (flat_map entry_text h.entries) co c1 cn silent.0 h.certificate
-
-  silent_out : Appends (answers (steps_of s.reader) h.entries) oo o2
-  silent_out = Appends-same (answers (steps_of s.reader) h.entries) oo o1 o2 silent.1 h.answered
-
-  pub fault_whole : (u : Dialogue) → u.tally ≡ s.tally → SaysOnly s.reader.text (steps_of s.reader) end → Appends (end_answer end) o2 on → IfSome lo (λ b. IsAnswered budget b (is_fault end) u co cn oo on)
+module _ (s : Dialogue) (budget : ℕ) (cert out : Change) (on lo ln : Option (List ℕ)) (same : s.steps ≡ budget) (h : IsGoing s cert out lo ln) (end : End) where
+  pub fault_whole : (u : Dialogue) → u.tally ≡ s.tally → SaysOnly s.reader.text (steps_of s.reader) end → Appends (end_answer end) out.new on → IfSome lo (λ b. IsAnswered budget b (is_fault end) u cert (between out.old on))
   fault_whole u tally says last =
-      told_if lo _ _ (λ b e. answered_whole s b end h.entries h.last budget co cn oo o2 on e same h.holds silent_cert silent_out last u tally) (says_only lo ln s.reader.text (steps_of s.reader) end h.read says)
+      told_if lo _ _ (λ b e. answered_whole s b end h.entries h.last budget cert out.old out.new on e same h.holds h.certificate h.answered last u tally) (says_only lo ln s.reader.text (steps_of s.reader) end h.read says)
 
-  pub fault_cut : SaysOnly s.reader.text (steps_of s.reader) end → AppendsPrefix (end_answer end) o2 on → IfSome lo (λ b. IsCut budget b co cn oo on)
+  pub fault_cut : SaysOnly s.reader.text (steps_of s.reader) end → AppendsPrefix (end_answer end) out.new on → IfSome lo (λ b. IsCut budget b cert (between out.old on))
   fault_cut says last =
-      told_if lo _ _ (λ b e. cut_end s b end h.entries h.last budget co cn oo o2 on e same h.holds silent_cert silent_out last) (says_only lo ln s.reader.text (steps_of s.reader) end h.read says)
+      told_if lo _ _ (λ b e. cut_end s b end h.entries h.last budget cert out.old out.new on e same h.holds h.certificate h.answered last) (says_only lo ln s.reader.text (steps_of s.reader) end h.read says)
+
+pub going_cut : (s : Dialogue) (budget : ℕ) (cert out : Change) (lo ln : Option (List ℕ)) → s.steps ≡ budget → IsGoing s cert out lo ln → AreFirst s.reader.text (steps_of s.reader) → IfSome lo (λ b. IsCut budget b cert out)
+going_cut s budget cert out lo ln same h first = cut_told s budget cert out cert.new out.new lo ln same h (λ more. cut_here s h.entries h.last more cert.new out.new h.holds first)
 
 -- the end of the text
-module _ (s : Dialogue) (budget : ℕ) (co c1 cn oo o1 o2 on lo l1 ln : Option (List ℕ)) (cut : (t : List ℕ) → reads t ≡ reads (take 67108865 t)) (same : s.steps ≡ budget) (h : IsGoing s co c1 oo o1 lo l1) (silent : IsSilent c1 cn o1 o2) (at : IsEnd s l1 ln) where
-  pub finished_whole : (u : Dialogue) (refused : Bool) → u.tally ≡ s.tally → IsFinished s.reader refused o2 on → IfSome lo (λ b. IsAnswered budget b refused u co cn oo on)
+module _ (s : Dialogue) (budget : ℕ) (cert out : Change) (on lo l1 ln : Option (List ℕ)) (cut : (t : List ℕ) → reads t ≡ reads (take 67108865 t)) (same : s.steps ≡ budget) (h : IsGoing s cert out lo l1) (at : IsEnd s (between l1 ln)) where
+  pub finished_whole : (u : Dialogue) (refused : Bool) → u.tally ≡ s.tally → IsFinished s.reader refused (between out.new on) → IfSome lo (λ b. IsAnswered budget b refused u cert (between out.old on))
   finished_whole u refused tally f =
-      subst (λ r. IfSome lo (λ b. IsAnswered budget b r u co cn oo on)) (sym f.ended)
-      (told_if lo _ _ (λ b e. answered_whole s b f.end h.entries h.last budget co cn oo o2 on e same h.holds (silent_cert s budget co c1 cn oo o1 o2 on lo l1 same h silent f.end) (silent_out s budget co c1 cn oo o1 o2 on lo l1 same h silent f.end) f.answered u tally)
+      subst (λ r. IfSome lo (λ b. IsAnswered budget b r u cert (between out.old on))) (sym f.ended)
+      (told_if lo _ _ (λ b e. answered_whole s b f.end h.entries h.last budget cert out.old out.new on e same h.holds h.certificate h.answered f.answered u tally)
       (says_all lo l1 ln s (steps_of s.reader) f.end cut h.read at f.says))
 
-  pub finished_cut : AreFirst s.reader.text (steps_of s.reader) → IsUnfinished s.reader o2 on → IfSome lo (λ b. IsCut budget b co cn oo on)
-  finished_cut first (inl none) =
-      subst (λ o. IfSome lo (λ b. IsCut budget b co cn oo o)) (sym (none ∙ silent.1))
-      (subst (λ k. IfSome lo (λ b. IsCut budget b co k oo o1)) (sym silent.0) (cut_told s budget co c1 c1 oo o1 o1 lo l1 same h (λ more. cut_here s h.entries h.last more c1 o1 h.holds first)))
+  pub finished_cut : AreFirst s.reader.text (steps_of s.reader) → IsUnfinished s.reader (between out.new on) → IfSome lo (λ b. IsCut budget b cert (between out.old on))
+  finished_cut first (inl none) = subst (λ o. IfSome lo (λ b. IsCut budget b cert (between out.old o))) (sym none) (going_cut s budget cert out lo l1 same h first)
   finished_cut first (inr (end, says, last)) =
-      told_if lo _ _ (λ b e. cut_end s b end h.entries h.last budget co cn oo o2 on e same h.holds (silent_cert s budget co c1 cn oo o1 o2 on lo l1 same h silent end) (silent_out s budget co c1 cn oo o1 o2 on lo l1 same h silent end) last)
-      (says_all lo l1 ln s (steps_of s.reader) end cut h.read at says)
+      told_if lo _ _ (λ b e. cut_end s b end h.entries h.last budget cert out.old out.new on e same h.holds h.certificate h.answered last) (says_all lo l1 ln s (steps_of s.reader) end cut h.read at says)
 
 -- While the next command is not whole
 
-pub going_silent : (s t : Dialogue) (co c1 cn oo o1 on lo ln : Option (List ℕ)) → t ≡ s → IsSilent c1 cn o1 on → IsGoing s co c1 oo o1 lo ln → IsGoing t co cn oo on lo ln
+pub going_silent : (s t : Dialogue) (co c1 cn oo o1 on lo ln : Option (List ℕ)) → t ≡ s → IsSilent (between c1 cn) (between o1 on) → IsGoing s (between co c1) (between oo o1) lo ln → IsGoing t (between co cn) (between oo on) lo ln
 going_silent s t co c1 cn oo o1 on lo ln e silent h =
-    subst (λ u. IsGoing u co cn oo on lo ln) (sym e) (record {
+    subst (λ u. IsGoing u (between co cn) (between oo on) lo ln) (sym e) (record {
       entries = h.entries;
       last = h.last;
       holds = h.holds;
@@ -292,16 +287,13 @@ going_silent s t co c1 cn oo o1 on lo ln e silent h =
       soon = h.soon;
     })
 
-pub going_left : (s : Dialogue) (co cn oo on lo l1 ln : Option (List ℕ)) → ln ≡ l1 → IsGoing s co cn oo on lo l1 → IsGoing s co cn oo on lo ln
-going_left s co cn oo on lo l1 ln e h = subst (λ o. IsGoing s co cn oo on lo o) (sym e) h
+pub going_left : (s : Dialogue) (cert out : Change) (lo l1 ln : Option (List ℕ)) → ln ≡ l1 → IsGoing s cert out lo l1 → IsGoing s cert out lo ln
+going_left s cert out lo l1 ln e h = subst (λ o. IsGoing s cert out lo o) (sym e) h
 
-pub going_cut : (s : Dialogue) (budget : ℕ) (co cn oo on lo ln : Option (List ℕ)) → s.steps ≡ budget → IsGoing s co cn oo on lo ln → AreFirst s.reader.text (steps_of s.reader) → IfSome lo (λ b. IsCut budget b co cn oo on)
-going_cut s budget co cn oo on lo ln same h first = cut_told s budget co cn cn oo on on lo ln same h (λ more. cut_here s h.entries h.last more cn on h.holds first)
+pub going_taken : (s : Dialogue) (cert out : Change) (lo ln : Option (List ℕ)) → IsGoing s cert out lo ln → IfSome lo (λ b. (t : List ℕ) × IsTaken t b ln × EndsSoon t)
+going_taken s cert out lo ln h = taken_read lo ln s.reader.text h.few h.soon h.read
 
-pub going_taken : (s : Dialogue) (co cn oo on lo ln : Option (List ℕ)) → IsGoing s co cn oo on lo ln → IfSome lo (λ b. (t : List ℕ) × IsTaken t b ln × EndsSoon t)
-going_taken s co cn oo on lo ln h = taken_read lo ln s.reader.text h.few h.soon h.read
-
-pub taken_end : (s : Dialogue) (lo l1 ln : Option (List ℕ)) (text : List ℕ) → length text ≤ 67108865 → EndsSoon text → HasRead lo l1 text → IsEnd s l1 ln → IfSome lo (λ b. (t : List ℕ) × IsTaken t b ln × EndsSoon t)
+pub taken_end : (s : Dialogue) (lo l1 ln : Option (List ℕ)) (text : List ℕ) → length text ≤ 67108865 → EndsSoon text → HasRead lo l1 text → IsEnd s (between l1 ln) → IfSome lo (λ b. (t : List ℕ) × IsTaken t b ln × EndsSoon t)
 taken_end s None l1 ln text few soon h at = tt
 taken_end s (Some b) l1 ln text few soon (rest, e, left) (inl at) =
     let now : IsAtEnd (Some rest) ln = subst (λ o. IsAtEnd o ln) left at in

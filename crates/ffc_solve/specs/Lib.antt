@@ -1,3 +1,4 @@
+pub mod Changes
 pub mod Remembering
 pub mod Solving
 pub mod Underway

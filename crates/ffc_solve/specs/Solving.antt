@@ -17,6 +17,7 @@ use Rattle.ffc_rules.specs.Entries.{EntryOk}
 use Rattle.ffc_rules.specs.Judging.{node_check}
 use Rattle.ffc_theory.specs.Stops.{MayBeDecided}
 use Rattle.ffc_answer.specs.Answers.{answers, run_answers}
+use Rattle.ffc_solve.specs.Changes.{Change, IsSilent}
 
 -- a verdict is given only on a check that may be decided within the budget
 abbrev pub IsAllowed : ℕ → TableCheck → Entry → Type 0
@@ -39,12 +40,12 @@ AreEntries budget [] (entry ∷ entries) = ⊥
 AreEntries budget (check ∷ checks) (entry ∷ entries) = IsRight budget check entry × AreEntries budget checks entries
 
 -- The certificate has an entry for each check of the script, and all of it is answered; of a generated script the size is given.
-pub record IsWhole (budget : ℕ) (make : Option ℕ) (script : List ℕ) (cert_old cert_new out_old out_new : Option (List ℕ)) : Type 0 where
+pub record IsWhole (budget : ℕ) (make : Option ℕ) (script : List ℕ) (cert out : Change) : Type 0 where
   pub entries : List Entry
   pub each : AreEntries budget (table_checks (reads script).steps) entries
   pub all : length entries ≡ length (table_checks (reads script).steps)
-  pub certificate : Becomes (text_of 2 entries) cert_old cert_new
-  pub answered : Appends (run_answers make (reads script) entries) out_old out_new
+  pub certificate : Becomes (text_of 2 entries) cert.old cert.new
+  pub answered : Appends (run_answers make (reads script) entries) out.old out.new
 
 -- a front of the next entry, which is not whole and obeys the rules for its check
 pub record IsCutEntry (budget : ℕ) (checks : List TableCheck) (entries : List Entry) (part : List ℕ) : Type 0 where
@@ -68,21 +69,20 @@ IsCertificatePart budget checks entries text =
 
 -- The certificate has the entries of the first checks, and no more is answered than these entries say: each verdict that
 -- was written has its whole entry in the certificate.
-pub record IsBegun (budget : ℕ) (make : Option ℕ) (script : List ℕ) (cert_old cert_new out_old out_new : Option (List ℕ)) : Type 0 where
+pub record IsBegun (budget : ℕ) (make : Option ℕ) (script : List ℕ) (cert out : Change) : Type 0 where
   pub entries : List Entry
   pub each : AreEntries budget (table_checks (reads script).steps) entries
   pub text : List ℕ
   pub part : IsCertificatePart budget (table_checks (reads script).steps) entries text
-  pub certificate : Becomes text cert_old cert_new
-  pub answered : AppendsPrefix (run_answers make (reads script) entries) out_old out_new
+  pub certificate : Becomes text cert.old cert.new
+  pub answered : AppendsPrefix (run_answers make (reads script) entries) out.old out.new
 
 -- What a run that stopped leaves: all as it was, or a certificate that is begun.
-abbrev pub IsStopped : ℕ → Option ℕ → List ℕ → Option (List ℕ) → Option (List ℕ) → Option (List ℕ) → Option (List ℕ) → Type 0
-IsStopped budget make script cert_old cert_new out_old out_new =
-    ((cert_new ≡ cert_old) × (out_new ≡ out_old)) ⊎ IsBegun budget make script cert_old cert_new out_old out_new
+abbrev pub IsStopped : ℕ → Option ℕ → List ℕ → Change → Change → Type 0
+IsStopped budget make script cert out = IsSilent cert out ⊎ IsBegun budget make script cert out
 
 -- What a run leaves where reading failed after this text: just the commands that are whole in it are answered.
-pub record IsPaused (budget : ℕ) (text : List ℕ) (cert_old cert_new out_old out_new : Option (List ℕ)) : Type 0 where
+pub record IsPaused (budget : ℕ) (text : List ℕ) (cert out : Change) : Type 0 where
   pub steps : List Step
   pub state : State
   pub run : run_of reading_limits text ≡ Going steps state
@@ -90,8 +90,8 @@ pub record IsPaused (budget : ℕ) (text : List ℕ) (cert_old cert_new out_old 
   pub entries : List Entry
   pub each : AreEntries budget (table_checks steps) entries
   pub all : length entries ≡ length (table_checks steps)
-  pub certificate : Becomes (text_of 2 entries) cert_old cert_new
-  pub answered : Appends (answers steps entries) out_old out_new
+  pub certificate : Becomes (text_of 2 entries) cert.old cert.new
+  pub answered : Appends (answers steps entries) out.old out.new
 
 -- how much of a script was taken
 pub record IsTaken (text script : List ℕ) (new : Option (List ℕ)) : Type 0 where

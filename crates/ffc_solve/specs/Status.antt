@@ -6,6 +6,7 @@ use Rattle.ffc_rules.specs.Judging.{Accepts}
 use Rattle.ffc_solve.specs.declared.solve.SolveStatus.{SolveStatus}
 use Rattle.ffc_solve.specs.declared.solve.SolveStatus.TheVariants as status
 use Rattle.ffc_solve.specs.Generated.{made_text}
+use Rattle.ffc_solve.specs.Changes.{Change, IsSilent}
 use Rattle.ffc_solve.specs.Solving.{IsWhole, IsStopped}
 use Rattle.ffc_solve.specs.Underway.{is_fault}
 use Rattle.std.specs.Prelude.{true, false, Bool, Result, Ok, Err, IfSome}
@@ -31,14 +32,14 @@ script_given None left = left
 script_given (Some n) left = Some (made_text n)
 
 -- What a status says of the certificate and the answers, before and after the run, where these are the script's bytes.
-abbrev pub IsLeft : SolveStatus → ℕ → Option ℕ → List ℕ → Option (List ℕ) → Option (List ℕ) → Option (List ℕ) → Option (List ℕ) → Type 0
-IsLeft status.Done budget make script cert_old cert_new out_old out_new = IsWhole budget make script cert_old cert_new out_old out_new × (is_fault (reads script).end ≡ false)
-IsLeft status.Refused budget make script cert_old cert_new out_old out_new = IsWhole budget make script cert_old cert_new out_old out_new × (is_fault (reads script).end ≡ true)
-IsLeft status.Usage budget make script cert_old cert_new out_old out_new = (cert_new ≡ cert_old) × (out_new ≡ out_old)
-IsLeft status.ReadFault budget make script cert_old cert_new out_old out_new = IsStopped budget make script cert_old cert_new out_old out_new
-IsLeft status.WriteFault budget make script cert_old cert_new out_old out_new = IsStopped budget make script cert_old cert_new out_old out_new
-IsLeft status.CertFault budget make script cert_old cert_new out_old out_new = IsStopped budget make script cert_old cert_new out_old out_new
-IsLeft status.Memory budget make script cert_old cert_new out_old out_new = IsStopped budget make script cert_old cert_new out_old out_new
+abbrev pub IsLeft : SolveStatus → ℕ → Option ℕ → List ℕ → Change → Change → Type 0
+IsLeft status.Done budget make script cert out = IsWhole budget make script cert out × (is_fault (reads script).end ≡ false)
+IsLeft status.Refused budget make script cert out = IsWhole budget make script cert out × (is_fault (reads script).end ≡ true)
+IsLeft status.Usage budget make script cert out = IsSilent cert out
+IsLeft status.ReadFault budget make script cert out = IsStopped budget make script cert out
+IsLeft status.WriteFault budget make script cert out = IsStopped budget make script cert out
+IsLeft status.CertFault budget make script cert out = IsStopped budget make script cert out
+IsLeft status.Memory budget make script cert out = IsStopped budget make script cert out
 
 -- where the certificate's contents are stated, it is accepted for the script
 abbrev pub IsAccepted : List ℕ → Option (List ℕ) → Type 0
@@ -61,35 +62,33 @@ IsIdle status.Memory = Unit {0}
 IsIdle _ = ⊥
 
 -- certificate, answers and the certificate's name are as they were
-abbrev pub IsUntouched : Option (List ℕ) → Option (List ℕ) → Option (List ℕ) → Option (List ℕ) → Option (List ℕ) → Option (List ℕ) → Type 0
-IsUntouched cert_old cert_new out_old out_new name_old name_new = (cert_new ≡ cert_old) × (out_new ≡ out_old) × (name_new ≡ name_old)
+abbrev pub IsUntouched : Change → Change → Change → Type 0
+IsUntouched cert out name = (cert.new ≡ cert.old) × (out.new ≡ out.old) × (name.new ≡ name.old)
 
 -- all is as it was, or the certificate was created under this name
-abbrev pub IsUntouchedOrNamed : List ℕ → Option (List ℕ) → Option (List ℕ) → Option (List ℕ) → Option (List ℕ) → Option (List ℕ) → Option (List ℕ) → Type 0
-IsUntouchedOrNamed name cert_old cert_new out_old out_new name_old name_new =
-    IsUntouched cert_old cert_new out_old out_new name_old name_new ⊎ Becomes name name_old name_new
+abbrev pub IsUntouchedOrNamed : List ℕ → Change → Change → Change → Type 0
+IsUntouchedOrNamed given cert out name = IsUntouched cert out name ⊎ Becomes given name.old name.new
 
 -- The name under which the certificate was created, by the status: a run that stopped may have left all as it was.
-abbrev pub IsNamed : SolveStatus → List ℕ → Option (List ℕ) → Option (List ℕ) → Option (List ℕ) → Option (List ℕ) → Option (List ℕ) → Option (List ℕ) → Type 0
-IsNamed status.Done name cert_old cert_new out_old out_new name_old name_new = Becomes name name_old name_new
-IsNamed status.Refused name cert_old cert_new out_old out_new name_old name_new = Becomes name name_old name_new
-IsNamed status.Usage name cert_old cert_new out_old out_new name_old name_new = IsUntouched cert_old cert_new out_old out_new name_old name_new
-IsNamed status.ReadFault name cert_old cert_new out_old out_new name_old name_new = IsUntouchedOrNamed name cert_old cert_new out_old out_new name_old name_new
-IsNamed status.WriteFault name cert_old cert_new out_old out_new name_old name_new = IsUntouchedOrNamed name cert_old cert_new out_old out_new name_old name_new
-IsNamed status.CertFault name cert_old cert_new out_old out_new name_old name_new = IsUntouchedOrNamed name cert_old cert_new out_old out_new name_old name_new
-IsNamed status.Memory name cert_old cert_new out_old out_new name_old name_new = IsUntouchedOrNamed name cert_old cert_new out_old out_new name_old name_new
+abbrev pub IsNamed : SolveStatus → List ℕ → Change → Change → Change → Type 0
+IsNamed status.Done given cert out name = Becomes given name.old name.new
+IsNamed status.Refused given cert out name = Becomes given name.old name.new
+IsNamed status.Usage given cert out name = IsUntouched cert out name
+IsNamed status.ReadFault given cert out name = IsUntouchedOrNamed given cert out name
+IsNamed status.WriteFault given cert out name = IsUntouchedOrNamed given cert out name
+IsNamed status.CertFault given cert out name = IsUntouchedOrNamed given cert out name
+IsNamed status.Memory given cert out name = IsUntouchedOrNamed given cert out name
 
 -- What is left by a run that the words ask for: the certificate that they name and the answers; a whole certificate is accepted.
-pub record IsPlanned (words : List Text) (s : SolveStatus) (left cert_old cert_new out_old out_new name_old name_new : Option (List ℕ)) : Type 0 where
+pub record IsPlanned (words : List Text) (s : SolveStatus) (left : Option (List ℕ)) (cert out name : Change) : Type 0 where
   pub plan : Plan
   pub has : HasPlan words plan
-  pub leaves : IfSome (script_given plan.make left) (λ script. IsLeft s plan.steps plan.make script cert_old cert_new out_old out_new)
-  pub named : IsNamed s plan.cert_name cert_old cert_new out_old out_new name_old name_new
-  pub accepted : s ≡ status.Done → IfSome (script_given plan.make left) (λ script. (held : List ℕ) → cert_old ≡ Some held → IsAccepted script cert_new)
+  pub leaves : IfSome (script_given plan.make left) (λ script. IsLeft s plan.steps plan.make script cert out)
+  pub named : IsNamed s plan.cert_name cert out name
+  pub accepted : s ≡ status.Done → IfSome (script_given plan.make left) (λ script. (held : List ℕ) → cert.old ≡ Some held → IsAccepted script cert.new)
 
-abbrev pub Leaves : List Text → SolveStatus → Option (List ℕ) → Option (List ℕ) → Option (List ℕ) → Option (List ℕ) → Option (List ℕ) → Option (List ℕ) → Option (List ℕ) → Type 0
-Leaves words s left cert_old cert_new out_old out_new name_old name_new =
-    (IsIdle s × IsUntouched cert_old cert_new out_old out_new name_old name_new) ⊎ IsPlanned words s left cert_old cert_new out_old out_new name_old name_new
+abbrev pub Leaves : List Text → SolveStatus → Option (List ℕ) → Change → Change → Change → Type 0
+Leaves words s left cert out name = (IsIdle s × IsUntouched cert out name) ⊎ IsPlanned words s left cert out name
 
 -- the script that the words ask for: a generated one, or else the bytes that are left
 pub record IsScript (words : List Text) (left : Option (List ℕ)) (script : List ℕ) : Type 0 where

@@ -17,53 +17,49 @@ use Rattle.ffc_script.specs.Progress.{Progress, steps_of}
 use Rattle.ffc_solve.specs.declared.dialogue.Dialogue.{Dialogue}
 use Rattle.ffc_solve.specs.declared.dialogue.Advance.{Advance}
 use Rattle.ffc_solve.specs.declared.dialogue.Advance.TheVariants as advance
+use Rattle.ffc_solve.specs.Changes.{Change, IsSilent}
 use Rattle.ffc_solve.specs.Solving.{AreEntries, IsRest}
 use Rattle.ffc_solve.specs.Remembering.{Holds, Counts}
 
 -- An entry was written in part, or as a whole, and then its verdict in part.
-abbrev pub IsHalfTold : Entry → Option (List ℕ) → Option (List ℕ) → Option (List ℕ) → Option (List ℕ) → Type 0
-IsHalfTold entry cert_old cert_new out_old out_new =
-    (AppendsPrefix (entry_text entry) cert_old cert_new × (out_new ≡ out_old))
-    ⊎ (Appends (entry_text entry) cert_old cert_new × AppendsPrefix (verdict entry) out_old out_new)
+abbrev pub IsHalfTold : Entry → Change → Change → Type 0
+IsHalfTold entry cert out =
+    (AppendsPrefix (entry_text entry) cert.old cert.new × (out.new ≡ out.old))
+    ⊎ (Appends (entry_text entry) cert.old cert.new × AppendsPrefix (verdict entry) out.old out.new)
 
 -- One more command is answered.
-pub record IsTold (old new : Dialogue) (entries : List Entry) (cert_old cert_new out_old out_new : Option (List ℕ)) : Type 0 where
+pub record IsTold (old new : Dialogue) (entries : List Entry) (cert out : Change) : Type 0 where
   pub more : List Entry
   pub last : Option Last
   pub holds : Holds new.reader new (entries ++ more) last
-  pub certificate : Appends (flat_map entry_text more) cert_old cert_new
+  pub certificate : Appends (flat_map entry_text more) cert.old cert.new
   pub text : List ℕ
-  pub answered : Appends text out_old out_new
+  pub answered : Appends text out.old out.new
   pub answers_are : answers (steps_of new.reader) (entries ++ more) ≡ answers (steps_of old.reader) entries ++ text
   pub same_text : new.reader.text ≡ old.reader.text
   pub longer : length (steps_of new.reader) ≡ length (steps_of old.reader) + 1
   pub budget : new.steps ≡ old.steps
   pub taken : new.taken ≡ old.taken
 
--- nothing was written
-abbrev pub IsSilent : Option (List ℕ) → Option (List ℕ) → Option (List ℕ) → Option (List ℕ) → Type 0
-IsSilent cert_old cert_new out_old out_new = (cert_new ≡ cert_old) × (out_new ≡ out_old)
-
 -- how a dialogue went on that has these entries
-abbrev pub GoesOn : Dialogue → Dialogue → List Entry → Option (List ℕ) → Option (List ℕ) → Option (List ℕ) → Option (List ℕ) → Advance → Type 0
-GoesOn old new entries cert_old cert_new out_old out_new advance.Answered =
-    IsTold old new entries cert_old cert_new out_old out_new × (new.reader.over ≡ false)
-GoesOn old new entries cert_old cert_new out_old out_new advance.Waiting = IsSilent cert_old cert_new out_old out_new × (new ≡ old) × HasRun old.reader
-GoesOn old new entries cert_old cert_new out_old out_new advance.Ended =
-    IsTold old new entries cert_old cert_new out_old out_new × SaysOnly new.reader.text (steps_of new.reader) Done
-GoesOn old new entries cert_old cert_new out_old out_new (advance.Fault f) =
-    IsSilent cert_old cert_new out_old out_new × StopsAt old.reader (Fault f) × (new.tally ≡ old.tally)
+abbrev pub GoesOn : Dialogue → Dialogue → List Entry → Change → Change → Advance → Type 0
+GoesOn old new entries cert out advance.Answered = IsTold old new entries cert out × (new.reader.over ≡ false)
+GoesOn old new entries cert out advance.Waiting = IsSilent cert out × (new ≡ old) × HasRun old.reader
+GoesOn old new entries cert out advance.Ended =
+    IsTold old new entries cert out × SaysOnly new.reader.text (steps_of new.reader) Done
+GoesOn old new entries cert out (advance.Fault f) =
+    IsSilent cert out × StopsAt old.reader (Fault f) × (new.tally ≡ old.tally)
 
 -- The run stopped, however the script goes on: after the entries there is at most a front of one more, and no more is answered than
 -- the entries say.
-pub record IsCutAt (old : Dialogue) (entries : List Entry) (more : List ℕ) (cert_old cert_new out_old out_new : Option (List ℕ)) : Type 0 where
+pub record IsCutAt (old : Dialogue) (entries : List Entry) (more : List ℕ) (cert out : Change) : Type 0 where
   pub later : List Entry
   pub each : AreEntries old.steps (table_checks (reads (old.reader.text ++ more)).steps) (entries ++ later)
   pub part : List ℕ
   pub rest : IsRest old.steps (table_checks (reads (old.reader.text ++ more)).steps) (entries ++ later) part
-  pub certificate : Appends (flat_map entry_text later ++ part) cert_old cert_new
+  pub certificate : Appends (flat_map entry_text later ++ part) cert.old cert.new
   pub text : List ℕ
-  pub answered : Appends text out_old out_new
+  pub answered : Appends text out.old out.new
   pub behind : List ℕ
   pub answers_are : answers (reads (old.reader.text ++ more)).steps (entries ++ later) ≡ answers (steps_of old.reader) entries ++ (text ++ behind)
 
@@ -78,13 +74,13 @@ IsAtEnd None now = Unit {0}
 IsAtEnd (Some bytes) now = (bytes ≡ []) × (now ≡ Some [])
 
 -- no more is read: nothing is left, or as much was taken as may be
-abbrev pub IsEnd : Dialogue → Option (List ℕ) → Option (List ℕ) → Type 0
-IsEnd s left_old left_new = IsAtEnd left_old left_new ⊎ ((left_new ≡ left_old) × (length s.reader.text ≡ 67108865))
+abbrev pub IsEnd : Dialogue → Change → Type 0
+IsEnd s left = IsAtEnd left.old left.new ⊎ ((left.new ≡ left.old) × (length s.reader.text ≡ 67108865))
 
 -- a piece was read, and is in the reader
-pub record HasFed (old new : Dialogue) (left_old left_new : Option (List ℕ)) : Type 0 where
+pub record HasFed (old new : Dialogue) (left : Change) : Type 0 where
   pub piece : List ℕ
-  pub read : HasRead left_old left_new piece
+  pub read : HasRead left.old left.new piece
   pub reader : new.reader ≡ record old.reader { text = old.reader.text ++ piece }
   pub some : 0 < length piece
   pub few : length old.reader.text + length piece ≤ 67108865
@@ -100,26 +96,26 @@ is_fault Done = false
 is_fault (AtFault at_line column code) = true
 
 -- All commands and the end of a script are answered.
-pub record IsAnswered (budget : ℕ) (script : List ℕ) (refused : Bool) (new : Dialogue) (cert_old cert_new out_old out_new : Option (List ℕ)) : Type 0 where
+pub record IsAnswered (budget : ℕ) (script : List ℕ) (refused : Bool) (new : Dialogue) (cert out : Change) : Type 0 where
   pub entries : List Entry
   pub each : AreEntries budget (table_checks (reads script).steps) entries
   pub all : length entries ≡ length (table_checks (reads script).steps)
-  pub certificate : Appends (flat_map entry_text entries) cert_old cert_new
-  pub answered : Appends (script_answers (reads script) entries) out_old out_new
+  pub certificate : Appends (flat_map entry_text entries) cert.old cert.new
+  pub answered : Appends (script_answers (reads script) entries) out.old out.new
   pub tally : Counts new.tally entries
   pub ended : refused ≡ is_fault (reads script).end
 
 -- The run stopped before that.
-pub record IsCut (budget : ℕ) (script : List ℕ) (cert_old cert_new out_old out_new : Option (List ℕ)) : Type 0 where
+pub record IsCut (budget : ℕ) (script : List ℕ) (cert out : Change) : Type 0 where
   pub entries : List Entry
   pub each : AreEntries budget (table_checks (reads script).steps) entries
   pub part : List ℕ
   pub rest : IsRest budget (table_checks (reads script).steps) entries part
-  pub certificate : Appends (flat_map entry_text entries ++ part) cert_old cert_new
-  pub answered : AppendsPrefix (script_answers (reads script) entries) out_old out_new
+  pub certificate : Appends (flat_map entry_text entries ++ part) cert.old cert.new
+  pub answered : AppendsPrefix (script_answers (reads script) entries) out.old out.new
 
 -- Reading failed after this text: just its commands are answered.
-pub record IsPausedAt (budget : ℕ) (text : List ℕ) (cert_old cert_new out_old out_new : Option (List ℕ)) : Type 0 where
+pub record IsPausedAt (budget : ℕ) (text : List ℕ) (cert out : Change) : Type 0 where
   pub steps : List Step
   pub state : State
   pub run : run_of reading_limits text ≡ Going steps state
@@ -127,20 +123,20 @@ pub record IsPausedAt (budget : ℕ) (text : List ℕ) (cert_old cert_new out_ol
   pub entries : List Entry
   pub each : AreEntries budget (table_checks steps) entries
   pub all : length entries ≡ length (table_checks steps)
-  pub certificate : Appends (flat_map entry_text entries) cert_old cert_new
-  pub answered : Appends (answers steps entries) out_old out_new
+  pub certificate : Appends (flat_map entry_text entries) cert.old cert.new
+  pub answered : Appends (answers steps entries) out.old out.new
 
 -- the end of a text was answered
-pub record IsFinished (p : Progress) (refused : Bool) (out_old out_new : Option (List ℕ)) : Type 0 where
+pub record IsFinished (p : Progress) (refused : Bool) (out : Change) : Type 0 where
   pub end : End
   pub says : reads p.text ≡ record { steps = steps_of p; end = end }
-  pub answered : Appends (end_answer end) out_old out_new
+  pub answered : Appends (end_answer end) out.old out.new
   pub ended : refused ≡ is_fault end
 
 -- or in part
-abbrev pub IsUnfinished : Progress → Option (List ℕ) → Option (List ℕ) → Type 0
-IsUnfinished p out_old out_new =
-    (out_new ≡ out_old) ⊎ ((end : End) × (reads p.text ≡ record { steps = steps_of p; end = end }) × AppendsPrefix (end_answer end) out_old out_new)
+abbrev pub IsUnfinished : Progress → Change → Type 0
+IsUnfinished p out =
+    (out.new ≡ out.old) ⊎ ((end : End) × (reads p.text ≡ record { steps = steps_of p; end = end }) × AppendsPrefix (end_answer end) out.old out.new)
 
 -- nothing of the script has come
 pub record IsFirst (s : Dialogue) : Type 0 where

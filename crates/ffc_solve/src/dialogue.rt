@@ -11,6 +11,7 @@ ghost use Rattle.ffc_elab.specs.Histories.{check_now, known_of};
 ghost use Rattle.ffc_answer.specs.Answers.{Last, answer_of, last_after, verdict};
 ghost use Rattle.ffc_script.specs.Answers.{Gives, IsAtCheck};
 ghost use Rattle.ffc_script.specs.Progress.{Progress, known_at};
+ghost use Rattle.ffc_solve.specs.Changes.{change};
 ghost use Rattle.ffc_solve.specs.Solving.{IsRight};
 ghost use Rattle.ffc_solve.specs.Remembering.{Holds, HasRoom, IsAsked, IsBudget, IsChecked, IsNext, asked_in, core_in};
 ghost use Rattle.ffc_solve.specs.Remembering.{counted, effect_by, entry_in, fresh_in, remembered_after};
@@ -81,8 +82,7 @@ fn tell<O: Sink, C: Sink>(
     requires { FitsVersion 2 entry.now }
     ensures ok { OnOk result (Appends (entry_text entry.now) (C.holds cert.old) (C.holds cert.new)
         × Appends (verdict entry.now) (O.holds out.old) (O.holds out.new)) }
-    ensures err { OnErr result (IsHalfTold entry.now (C.holds cert.old) (C.holds cert.new) (O.holds out.old)
-        (O.holds out.new)) }
+    ensures err { OnErr result (IsHalfTold entry.now (change C.holds cert) (change O.holds out)) }
     ensures same_name { C.name cert.new ≡ C.name cert.old }
     ensures later_out { O.faults out.old ≤ O.faults out.new }
     ensures later_cert { C.faults cert.old ≤ C.faults cert.new }
@@ -148,8 +148,7 @@ impl Dialogue {
             × Appends (entry_text entry) (C.holds cert.old) (C.holds cert.new)
             × Appends (verdict entry) (O.holds out.old) (O.holds out.new)) }
         ensures err { OnErr result ((entry : CertEntry) × IsRight self.old.steps (check_now (known_at self.old.reader))
-            entry
-            × IsHalfTold entry (C.holds cert.old) (C.holds cert.new) (O.holds out.old) (O.holds out.new)) }
+            entry × IsHalfTold entry (change C.holds cert) (change O.holds out)) }
         ensures same_name { C.name cert.new ≡ C.name cert.old }
         ensures later_out { O.faults out.old ≤ O.faults out.new }
         ensures later_cert { C.faults cert.old ≤ C.faults cert.new }
@@ -252,12 +251,10 @@ impl Dialogue {
             × Gives p self.old.reader command }
         ensures ok { IfOk result (λ a. (p : Progress) (entries : List CertEntry) (l : Option Last)
             → Holds p self.old entries l → Gives p self.old.reader command
-            → GoesOn (record self.old { reader = p }) self.new entries (C.holds cert.old) (C.holds cert.new)
-            (O.holds out.old) (O.holds out.new) a) }
+            → GoesOn (record self.old { reader = p }) self.new entries (change C.holds cert) (change O.holds out) a) }
         ensures err { OnErr result ((p : Progress) (entries : List CertEntry) (l : Option Last) (more : List ℕ)
             → Holds p self.old entries l → Gives p self.old.reader command
-            → IsCutAt (record self.old { reader = p }) entries more (C.holds cert.old) (C.holds cert.new)
-            (O.holds out.old) (O.holds out.new)) }
+            → IsCutAt (record self.old { reader = p }) entries more (change C.holds cert) (change O.holds out)) }
         ensures same_name { C.name cert.new ≡ C.name cert.old }
         ensures later_out { O.faults out.old ≤ O.faults out.new }
         ensures later_cert { C.faults cert.old ≤ C.faults cert.new }
@@ -289,11 +286,10 @@ impl Dialogue {
         requires held { (entries : List CertEntry) × (l : Option Last) × Holds self.old.reader self.old entries l }
         ensures ok { IfOk result (λ a. (entries : List CertEntry) (l : Option Last)
             → Holds self.old.reader self.old entries l
-            → GoesOn self.old self.new entries (C.holds cert.old) (C.holds cert.new) (O.holds out.old) (O.holds out.new)
-            a) }
+            → GoesOn self.old self.new entries (change C.holds cert) (change O.holds out) a) }
         ensures err { OnErr result ((entries : List CertEntry) (l : Option Last) (more : List ℕ)
             → Holds self.old.reader self.old entries l
-            → IsCutAt self.old entries more (C.holds cert.old) (C.holds cert.new) (O.holds out.old) (O.holds out.new)) }
+            → IsCutAt self.old entries more (change C.holds cert) (change O.holds out)) }
         ensures same_name { C.name cert.new ≡ C.name cert.old }
         ensures later_out { O.faults out.old ≤ O.faults out.new }
         ensures later_cert { C.faults cert.old ≤ C.faults cert.new }

@@ -4,6 +4,7 @@ ghost use Rattle.std.specs.Prelude.{IfErr, IfSome, IsErrOf};
 ghost use Rattle.ffc_base.specs.Outside.{Rose, Appends, AppendsPrefix};
 ghost use Rattle.ffc_answer.specs.Answers.{fault_answer};
 ghost use Rattle.ffc_script.specs.Answers.{HasRun};
+ghost use Rattle.ffc_solve.specs.Changes.{change};
 ghost use Rattle.ffc_solve.specs.Solving.{EndsSoon, IsTaken};
 ghost use Rattle.ffc_solve.specs.Remembering.{IsBudget};
 ghost use Rattle.ffc_solve.specs.Underway.{HasFed, IsAnswered, IsCut, IsEnd, IsFinished, IsFirst, IsPausedAt};
@@ -28,10 +29,9 @@ fn read_on<S: Source>(dialogue: &mut Dialogue, script: &mut S) -> Result<bool, S
     requires active { dialogue.old.reader.over ≡ false }
     requires taken { dialogue.old.taken ≡ length dialogue.old.reader.text }
     requires short { length dialogue.old.reader.text ≤ 67108865 }
-    ensures more { IfOk result (λ more. more ≡ true → HasFed dialogue.old dialogue.new (S.left script.old)
-        (S.left script.new)) }
+    ensures more { IfOk result (λ more. more ≡ true → HasFed dialogue.old dialogue.new (change S.left script)) }
     ensures end { IfOk result (λ more. more ≡ false → (dialogue.new ≡ dialogue.old)
-        × IsEnd dialogue.old (S.left script.old) (S.left script.new)) }
+        × IsEnd dialogue.old (change S.left script)) }
     ensures failed { IsErrOf result Stop.ReadFault → (dialogue.new ≡ dialogue.old)
         × (S.left script.new ≡ S.left script.old) }
     ensures memory { IsErrOf result Stop.Memory → IfSome (S.left script.old) (λ bytes. (piece : List ℕ)
@@ -74,8 +74,8 @@ fn tell_fault<O: Sink>(alloc: Global, fault: ScriptFault, out: &mut O) -> Result
 /// Answers the end of a text, and says whether it is a fault.
 fn finish<O: Sink>(dialogue: &mut Dialogue, out: &mut O) -> Result<bool, Stop>
     requires { HasRun dialogue.old.reader }
-    ensures ok { IfOk result (λ refused. IsFinished dialogue.old.reader refused (O.holds out.old) (O.holds out.new)) }
-    ensures err { OnErr result (IsUnfinished dialogue.old.reader (O.holds out.old) (O.holds out.new)) }
+    ensures ok { IfOk result (λ refused. IsFinished dialogue.old.reader refused (change O.holds out)) }
+    ensures err { OnErr result (IsUnfinished dialogue.old.reader (change O.holds out)) }
     ensures tally { dialogue.new.tally ≡ dialogue.old.tally }
     ensures later { O.faults out.old ≤ O.faults out.new }
     ensures cause { IsErrOf result Stop.WriteFault → Rose (O.faults out.old) (O.faults out.new) }
@@ -102,14 +102,12 @@ pub fn run<S: Source, O: Sink, C: Sink>(
     requires budget { IsBudget dialogue.old.steps }
     ensures ok { IfOk result
         (λ refused. IfSome (S.left script.old) (λ bytes. IsAnswered dialogue.old.steps bytes refused dialogue.new
-        (C.holds cert.old) (C.holds cert.new) (O.holds out.old) (O.holds out.new))) }
-    ensures err { OnErr result
-        (IfSome (S.left script.old) (λ bytes. IsCut dialogue.old.steps bytes (C.holds cert.old) (C.holds cert.new)
-        (O.holds out.old) (O.holds out.new))) }
+        (change C.holds cert) (change O.holds out))) }
+    ensures err { OnErr result (IfSome (S.left script.old) (λ bytes. IsCut dialogue.old.steps bytes
+        (change C.holds cert) (change O.holds out))) }
     ensures paused { IsErrOf result Stop.ReadFault → IfSome (S.left script.old) (λ bytes. (text : List ℕ)
         × IsTaken text bytes (S.left script.new)
-        × IsPausedAt dialogue.old.steps text (C.holds cert.old) (C.holds cert.new) (O.holds out.old)
-        (O.holds out.new)) }
+        × IsPausedAt dialogue.old.steps text (change C.holds cert) (change O.holds out)) }
     ensures taken { IfSome (S.left script.old) (λ bytes. (text : List ℕ) × IsTaken text bytes (S.left script.new)
         × EndsSoon text) }
     ensures same_name { C.name cert.new ≡ C.name cert.old }

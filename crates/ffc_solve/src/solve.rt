@@ -7,6 +7,7 @@ ghost use Rattle.ffc_base.specs.Outside.{Rose, Becomes};
 ghost use Rattle.ffc_smt.specs.Scripts.{reads};
 ghost use Rattle.ffc_solve.specs.Arguments.{AreRefused, AskToMake, HasPlan};
 ghost use Rattle.ffc_solve.specs.declared.arguments.Plan.{Plan as SolvePlan};
+ghost use Rattle.ffc_solve.specs.Changes.{change};
 ghost use Rattle.ffc_solve.specs.Generated.{made_text};
 ghost use Rattle.ffc_solve.specs.Remembering.{Counts, IsBudget};
 ghost use Rattle.ffc_solve.specs.Solving.{EndsSoon, IsPaused, IsStopped, IsTaken, IsWhole};
@@ -87,22 +88,20 @@ fn answer_script<S: Source, O: Sink, C: NamedSink>(
     cert: &mut C,
 ) -> Result<bool, Stop>
     requires budget { IsBudget plan.now.steps }
-    ensures ok { OnOk result
-        (IfSome (S.left script.old) (λ bytes. IsWhole plan.now.steps None bytes (C.holds cert.old) (C.holds cert.new)
-        (O.holds out.old) (O.holds out.new))) }
+    ensures ok { OnOk result (IfSome (S.left script.old) (λ bytes. IsWhole plan.now.steps None bytes
+        (change C.holds cert) (change O.holds out))) }
     ensures refused { IfOk result
         (λ refused. IfSome (S.left script.old) (λ bytes. refused ≡ is_fault (reads bytes).end)) }
-    ensures err { OnErr result
-        (IfSome (S.left script.old) (λ bytes. IsStopped plan.now.steps None bytes (C.holds cert.old) (C.holds cert.new)
-        (O.holds out.old) (O.holds out.new))) }
+    ensures err { OnErr result (IfSome (S.left script.old) (λ bytes. IsStopped plan.now.steps None bytes
+        (change C.holds cert) (change O.holds out))) }
     ensures paused { IsErrOf result Stop.ReadFault → IfSome (S.left script.old) (λ bytes. (text : List ℕ)
         × IsTaken text bytes (S.left script.new)
-        × IsPaused plan.now.steps text (C.holds cert.old) (C.holds cert.new) (O.holds out.old) (O.holds out.new)) }
+        × IsPaused plan.now.steps text (change C.holds cert) (change O.holds out)) }
     ensures taken { IfSome (S.left script.old) (λ bytes. (text : List ℕ) × IsTaken text bytes (S.left script.new)
         × EndsSoon text) }
     ensures named { OnOk result (Becomes plan.now.cert_name (C.name cert.old) (C.name cert.new)) }
-    ensures begun { OnErr result (IsUntouchedOrNamed plan.now.cert_name (C.holds cert.old) (C.holds cert.new)
-        (O.holds out.old) (O.holds out.new) (C.name cert.old) (C.name cert.new)) }
+    ensures begun { OnErr result (IsUntouchedOrNamed plan.now.cert_name (change C.holds cert) (change O.holds out)
+        (change C.name cert)) }
     ensures cause_script { IsErrOf result Stop.ReadFault → Rose (S.faults script.old) (S.faults script.new) }
     ensures cause_out { IsErrOf result Stop.WriteFault → Rose (O.faults out.old) (O.faults out.new) }
     ensures cause_cert { IsErrOf result Stop.CertFault → Rose (C.faults cert.old) (C.faults cert.new) }
@@ -137,14 +136,14 @@ fn answer_generated<O: Sink, C: NamedSink>(
     requires budget { IsBudget plan.now.steps }
     requires some { 0 < size }
     requires few { size ≤ 10000 }
-    ensures ok { OnOk result (IsWhole plan.now.steps (Some size) (made_text size) (C.holds cert.old) (C.holds cert.new)
-        (O.holds out.old) (O.holds out.new)) }
+    ensures ok { OnOk result (IsWhole plan.now.steps (Some size) (made_text size)
+        (change C.holds cert) (change O.holds out)) }
     ensures refused { IfOk result (λ refused. refused ≡ is_fault (reads (made_text size)).end) }
-    ensures err { OnErr result (IsStopped plan.now.steps (Some size) (made_text size) (C.holds cert.old)
-        (C.holds cert.new) (O.holds out.old) (O.holds out.new)) }
+    ensures err { OnErr result (IsStopped plan.now.steps (Some size) (made_text size)
+        (change C.holds cert) (change O.holds out)) }
     ensures named { OnOk result (Becomes plan.now.cert_name (C.name cert.old) (C.name cert.new)) }
-    ensures begun { OnErr result (IsUntouchedOrNamed plan.now.cert_name (C.holds cert.old) (C.holds cert.new)
-        (O.holds out.old) (O.holds out.new) (C.name cert.old) (C.name cert.new)) }
+    ensures begun { OnErr result (IsUntouchedOrNamed plan.now.cert_name (change C.holds cert) (change O.holds out)
+        (change C.name cert)) }
     ensures only { ¬ (IsErrOf result Stop.ReadFault) }
     ensures cause_out { IsErrOf result Stop.WriteFault → Rose (O.faults out.old) (O.faults out.new) }
     ensures cause_cert { IsErrOf result Stop.CertFault → Rose (C.faults cert.old) (C.faults cert.new) }
@@ -199,8 +198,8 @@ pub fn solve_main<'a, S: Source, O: Sink, C: NamedSink>(
     ensures unread { AskToMake (map (λ w. w.now) words.now) → script.new ≡ script.old }
 
     // What the certificate and the output have, by the status and by what the arguments ask for.
-    ensures left { Leaves (map (λ w. w.now) words.now) result (S.left script.old) (C.holds cert.old) (C.holds cert.new)
-        (O.holds out.old) (O.holds out.new) (C.name cert.old) (C.name cert.new) }
+    ensures left { Leaves (map (λ w. w.now) words.now) result (S.left script.old)
+        (change C.holds cert) (change O.holds out) (change C.name cert) }
 
     // Where the words are accepted and no count of faults rose, the run ends as its script does, or out of memory.
     ensures ends { ¬ (AreRefused (map (λ w. w.now) words.now)) → ¬ (Rose (S.faults script.old) (S.faults script.new))
@@ -211,7 +210,7 @@ pub fn solve_main<'a, S: Source, O: Sink, C: NamedSink>(
     // How much of the script was taken, and what is answered where reading failed.
     ensures paused { result ≡ SolveStatus.ReadFault → IfSome (S.left script.old) (λ bytes. (plan : SolvePlan)
         × HasPlan (map (λ w. w.now) words.now) plan × (text : List ℕ) × IsTaken text bytes (S.left script.new)
-        × IsPaused plan.steps text (C.holds cert.old) (C.holds cert.new) (O.holds out.old) (O.holds out.new)) }
+        × IsPaused plan.steps text (change C.holds cert) (change O.holds out)) }
     ensures taken { IfSome (S.left script.old) (λ bytes. (text : List ℕ) × IsTaken text bytes (S.left script.new)
         × EndsSoon text) }
     ensures read_fault { result ≡ SolveStatus.ReadFault → Rose (S.faults script.old) (S.faults script.new) }

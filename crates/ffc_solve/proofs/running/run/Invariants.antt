@@ -1,12 +1,13 @@
 use Rattle.std.proofs.Common.{◌≡◌, ◌+◌, ◌-◌, ◌≤◌, length}
 use Rattle.ffc_script.specs.Progress.{steps_of}
+use Rattle.ffc_solve.proofs.ListLemmas.{between}
 use Rattle.ffc_solve.proofs.RunLemmas.{IsGoing}
 use Rattle.ffc_solve.proofs.running.run.Given as goal
 
 -- the commands so far are answered
 abbrev pub invariant-commands : goal.invariant-commands
 invariant-commands g l = record {
-  going : IsGoing l.dialogue (g.C.Sink.holds l.initial.cert) (g.C.Sink.holds l.cert) (g.O.Sink.holds l.initial.out) (g.O.Sink.holds l.out) (g.S.Source.left l.initial.script) (g.S.Source.left l.script);
+  going : IsGoing l.dialogue (between (g.C.Sink.holds l.initial.cert) (g.C.Sink.holds l.cert)) (between (g.O.Sink.holds l.initial.out) (g.O.Sink.holds l.out)) (g.S.Source.left l.initial.script) (g.S.Source.left l.script);
   budget : l.dialogue.steps ≡ l.initial.dialogue.steps;
   name : g.C.Sink.name l.cert ≡ g.C.Sink.name l.initial.cert;
   later_script : g.S.Source.faults l.initial.script ≤ g.S.Source.faults l.script;

@@ -2,6 +2,7 @@ use Rattle.std.proofs.Common.{rules, map, None, Some}
 use Rattle.ffc_solve.specs.Solving.{IsPaused, IsTaken}
 use Rattle.ffc_solve.proofs.ArgumentLemmas.{none_given, not_planned}
 use Rattle.ffc_solve.proofs.EndingLemmas.{ends_as, ends_memory, planned}
+use Rattle.ffc_solve.proofs.ListLemmas.{between}
 use Rattle.ffc_solve.proofs.PausedLemmas.{paused_under}
 use Rattle.ffc_solve.proofs.solve.solve_main.Goals as goal
 
@@ -10,14 +11,12 @@ returns-in-Err-Usage-clause-usage g c = λ _. c.read.ensures.usage (search rules
 
 pub returns-in-None-clause-left : goal.returns-in-None-clause-left
 returns-in-None-clause-left g c =
-    planned (map (λ w. w.now) c.args.words.now) c.in-Ok.plan None c.answer_script.result (g.S.Source.left c.args.script.now) (g.C.Sink.holds c.args.cert.now) (g.C.Sink.holds c.answer_script.new.cert)
-    (g.O.Sink.holds c.args.out.now) (g.O.Sink.holds c.answer_script.new.out) (g.C.Sink.name c.args.cert.now) (g.C.Sink.name c.answer_script.new.cert) _
+    planned (map (λ w. w.now) c.args.words.now) c.in-Ok.plan None c.answer_script.result (g.S.Source.left c.args.script.now) _ _ _ _
     c.in-Ok.ensures.plan (search rules) c.status_of.ensures c.answer_script.ensures.ok c.answer_script.ensures.refused c.answer_script.ensures.err c.answer_script.ensures.named c.answer_script.ensures.begun
 
 pub returns-clause-left : goal.returns-clause-left
 returns-clause-left g c =
-    planned (map (λ w. w.now) c.args.words.now) c.in-Ok.plan (Some c.in-Some.size) c.answer_generated.result (g.S.Source.left c.args.script.now) (g.C.Sink.holds c.args.cert.now) (g.C.Sink.holds c.answer_generated.new.cert)
-    (g.O.Sink.holds c.args.out.now) (g.O.Sink.holds c.answer_generated.new.out) (g.C.Sink.name c.args.cert.now) (g.C.Sink.name c.answer_generated.new.cert) _
+    planned (map (λ w. w.now) c.args.words.now) c.in-Ok.plan (Some c.in-Some.size) c.answer_generated.result (g.S.Source.left c.args.script.now) _ _ _ _
     c.in-Ok.ensures.plan (search rules) c.status_of-in-Some.ensures c.answer_generated.ensures.ok c.answer_generated.ensures.refused c.answer_generated.ensures.err c.answer_generated.ensures.named c.answer_generated.ensures.begun
 
 pub returns-in-Err-Usage-clause-ends : goal.returns-in-Err-Usage-clause-ends
@@ -48,5 +47,5 @@ returns-clause-ends g c = λ accepted read write cert bytes script.
 pub returns-in-None-clause-paused : goal.returns-in-None-clause-paused
 returns-in-None-clause-paused g c =
     paused_under (map (λ w. w.now) c.args.words.now) c.in-Ok.plan c.answer_script.result c.status_of.result (g.S.Source.left c.args.script.now)
-    (λ text b. IsTaken text b (g.S.Source.left c.answer_script.new.script)) (λ steps text. IsPaused steps text (g.C.Sink.holds c.args.cert.now) (g.C.Sink.holds c.answer_script.new.cert) (g.O.Sink.holds c.args.out.now) (g.O.Sink.holds c.answer_script.new.out))
+    (λ text b. IsTaken text b (g.S.Source.left c.answer_script.new.script)) (λ steps text. IsPaused steps text (between (g.C.Sink.holds c.args.cert.now) (g.C.Sink.holds c.answer_script.new.cert)) (between (g.O.Sink.holds c.args.out.now) (g.O.Sink.holds c.answer_script.new.out)))
     c.in-Ok.ensures.plan c.status_of.ensures c.answer_script.ensures.paused

@@ -30,7 +30,7 @@ returns-in_err-check-in-Check-clause-err g c =
     on_err c.from_residual.result _ (λ p entries l more holds gives.
     let s = c.args.self.now in
     let (entry, right, half) = c.in_err-check-in-Check.ensures.err in
-    cut_check p s entries l c.args.command holds gives c.steps_come_first.ensures (gives.check ∙ ap (λ d. check_by d (known_at s.reader)) c.in-Check.is) entry right more _ _ _ _ half)
+    cut_check p s entries l c.args.command holds gives c.steps_come_first.ensures (gives.check ∙ ap (λ d. check_by d (known_at s.reader)) c.in-Check.is) entry right more _ _ half)
 
 pub check-requires-in-CheckAssuming-clause-check : goal.check-requires-in-CheckAssuming-clause-check
 check-requires-in-CheckAssuming-clause-check g c =
@@ -48,7 +48,7 @@ returns-in_err-check-in-CheckAssuming-clause-err g c =
     on_err c.from_residual-in_err-check-in-CheckAssuming.result _ (λ p entries l more holds gives.
     let s = c.args.self.now in
     let (entry, right, half) = c.in_err-check-in-CheckAssuming.ensures.err in
-    cut_check p s entries l c.args.command holds gives c.steps_come_first.ensures (gives.check ∙ ap (λ d. check_by d (known_at s.reader)) c.in-CheckAssuming.is) entry right more _ _ _ _ half)
+    cut_check p s entries l c.args.command holds gives c.steps_come_first.ensures (gives.check ∙ ap (λ d. check_by d (known_at s.reader)) c.in-CheckAssuming.is) entry right more _ _ half)
 
 pub returns-in_ok-check-in-Check-clause-ok : goal.returns-in_ok-check-in-Check-clause-ok
 returns-in_ok-check-in-Check-clause-ok g c = λ p entries l holds gives.
@@ -56,7 +56,7 @@ returns-in_ok-check-in-Check-clause-ok g c = λ p entries l holds gives.
     let (entry, right, is, cert, out) = c.in_ok-check-in-Check.ensures.ok in
     let first = c.steps_come_first.ensures in
     let answered = answered_is p s entries l c.args.command holds gives first in (
-      told_then p s entries l c.args.command holds gives first (gives.check ∙ ap (λ d. check_by d (known_at s.reader)) c.in-Check.is) entry right c.check.new.self None _ _ _ _ (omega (arith, c.requires.budget.few)) is
+      told_then p s entries l c.args.command holds gives first (gives.check ∙ ap (λ d. check_by d (known_at s.reader)) c.in-Check.is) entry right c.check.new.self None _ _ (omega (arith, c.requires.budget.few)) is
           (no_texts (then gives.step) gives.step.command (subst (IsAnswered (then gives.step) gives.step.command) c.in-Check.is answered)) cert out,
       ap (λ r. r.over) is.reader ∙ gives.over ∙ ap ends c.in-Check.is,
     )
@@ -67,7 +67,7 @@ returns-in_ok-check-in-CheckAssuming-clause-ok g c = λ p entries l holds gives.
     let (entry, right, is, cert, out) = c.in_ok-check-in-CheckAssuming.ensures.ok in
     let first = c.steps_come_first.ensures in
     let answered = answered_is p s entries l c.args.command holds gives first in (
-      told_then p s entries l c.args.command holds gives first (gives.check ∙ ap (λ d. check_by d (known_at s.reader)) c.in-CheckAssuming.is) entry right c.check-in-CheckAssuming.new.self (Some c.in-CheckAssuming.asked) _ _ _ _ (omega (arith, c.requires.budget.few)) is
+      told_then p s entries l c.args.command holds gives first (gives.check ∙ ap (λ d. check_by d (known_at s.reader)) c.in-CheckAssuming.is) entry right c.check-in-CheckAssuming.new.self (Some c.in-CheckAssuming.asked) _ _ (omega (arith, c.requires.budget.few)) is
           (asked_texts (then gives.step) gives.step.command c.in-CheckAssuming.asked (subst (IsAnswered (then gives.step) gives.step.command) c.in-CheckAssuming.is answered)) cert out,
       ap (λ r. r.over) is.reader ∙ gives.over ∙ ap ends c.in-CheckAssuming.is,
     )
@@ -79,8 +79,8 @@ pub returns-in_default : goal.returns-in_default
 returns-in_default g c =
     let plain = plain_from c.args.command c.in_default.not-Check c.in_default.not-CheckAssuming c.in_default.not-Exit in
     record {
-      ok = plain_ok c.reply.result c.args.self.now c.reply.new.self c.args.command _ _ _ c.steps_come_first.ensures c.reply.ensures.dialogue plain c.reply.ensures.ok c.reply.ensures.answered;
-      err = plain_err c.reply.result c.args.self.now c.args.command _ _ _ c.steps_come_first.ensures plain c.reply.ensures.err;
+      ok = plain_ok c.reply.result c.args.self.now c.reply.new.self c.args.command _ _ c.steps_come_first.ensures c.reply.ensures.dialogue plain c.reply.ensures.ok c.reply.ensures.answered;
+      err = plain_err c.reply.result c.args.self.now c.args.command _ _ c.steps_come_first.ensures plain c.reply.ensures.err;
       same_name = refl;
       later_out = c.reply.ensures.later_out;
       later_cert = omega arith;
