@@ -1,7 +1,8 @@
 //! Bases of systems of equations, completed as far as so many units go.
 ghost use Rattle.std.specs.Prelude.{◌≤◌};
 
-use crate::systems::{self, LARGEST, Sparse, Stop, System};
+use crate::drafts::{Sparse, Stop, polys_of};
+use crate::systems::{LARGEST, System};
 use ffc_base::{Meter, Unit};
 use ffc_basis::{Basis, BasisStop, Completion};
 use ffc_field::{BabyBear, Field, KoalaBear};
@@ -20,19 +21,26 @@ struct Outcome {
     differences: usize,
 }
 
-/// The system of a case.
-fn system<F: Field>(alloc: Global, kind: u32, size: u32) -> Result<System<F>, Stop>
+/// Appends the equations of a case.
+fn append(system: &mut System, kind: u32, size: u32) -> Result<(), Stop>
     requires some { 1 ≤ size }
     requires small { size ≤ LARGEST }
 {
     match kind {
-        0 => systems::katsura(alloc, size),
-        1 => systems::cyclic(alloc, size),
-        2 => systems::definitions(alloc, size),
-        3 => systems::rounds(alloc, size),
-        4 => systems::linear(alloc, size),
-        _ => systems::bits(alloc, size),
+        0 => system.katsura(size),
+        1 => system.cyclic(size),
+        2 => system.definitions(size),
+        3 => system.rounds(size),
+        4 => system.linear(size),
+        _ => system.bits(size),
     }
+}
+
+/// The system of a case over the field of this order.
+fn system(alloc: Global, order: u64, kind: u32, size: u32) -> Result<System, Stop> {
+    let mut system = System::new(alloc, order);
+    append(&mut system, kind, size.clamp(1, LARGEST))?;
+    Ok(system)
 }
 
 /// How many of these polynomials the lines reduce to zero.
@@ -64,14 +72,15 @@ fn completed<F: Field>(
     }
 }
 
-/// What completing the basis of a case with so many units comes to. The differences may take as many again.
-fn case<F: Field>(alloc: Global, kind: u32, size: u32, units: u32) -> Result<Outcome, Stop> {
-    let system = system::<F>(alloc, kind, size.clamp(1, LARGEST))?;
-    let mut basis = Basis::start(alloc, system.generators.as_slice())?;
-    let mut meter = Meter::new(u64::from(units));
-    let completion = completed(&mut basis, &mut meter)?;
-    let differences = system.differences.as_slice();
-    let zeros = zeros(&mut basis, differences, &mut Meter::new(u64::from(units)))?;
+/// What completing a basis with so many units comes to. The differences may take as many again.
+fn measured<F: Field>(
+    basis: &mut Basis<F, GradedReverseLex>,
+    differences: &[Sparse<F>],
+    units: u64,
+) -> Result<Outcome, Stop> {
+    let mut meter = Meter::new(units);
+    let completion = completed(basis, &mut meter)?;
+    let zeros = zeros(basis, differences, &mut Meter::new(units))?;
     Ok(Outcome {
         completion,
         lines: basis.lines().len(),
@@ -79,6 +88,19 @@ fn case<F: Field>(alloc: Global, kind: u32, size: u32, units: u32) -> Result<Out
         zeros,
         differences: differences.len(),
     })
+}
+
+/// The same for the basis of a case.
+fn case<F: Field>(alloc: Global, kind: u32, size: u32, units: u32) -> Result<Outcome, Stop> {
+    let System {
+        generators,
+        differences,
+        ..
+    } = system(alloc, F::ORDER, kind, size)?;
+    let generators = polys_of::<F>(alloc, generators)?;
+    let differences = polys_of::<F>(alloc, differences)?;
+    let mut basis = Basis::start(alloc, generators.as_slice())?;
+    measured(&mut basis, differences.as_slice(), u64::from(units))
 }
 
 /// What a completion is, in words.
@@ -91,37 +113,29 @@ fn words(completion: &Option<Completion>) -> &'static str {
     }
 }
 
-/// Prints what a case over a field comes to.
-fn print<R: Print, F: Field>(
-    rt: &R,
-    alloc: Global,
-    kind: u32,
-    size: u32,
-    units: u32,
-) -> io::Result<()> {
-    match case::<F>(alloc, kind, size, units) {
-        Ok(outcome) => {
-            let words = words(&outcome.completion);
-            println!(rt; "{words}, {} lines, {} units", outcome.lines, outcome.units)?;
-            if outcome.differences > 0 {
-                println!(rt;
-                    "{} of {} differences are zero",
-                    outcome.zeros, outcome.differences
-                )?;
-            }
-            Ok(())
-        }
-        Err(_) => println!(rt; "no result"),
+fn print<R: Print>(rt: &R, outcome: &Outcome) -> io::Result<()> {
+    let words = words(&outcome.completion);
+    println!(rt; "{words}, {} lines, {} units", outcome.lines, outcome.units)?;
+    if outcome.differences == 0 {
+        return Ok(());
     }
+    println!(rt;
+        "{} of {} differences are zero",
+        outcome.zeros, outcome.differences
+    )
 }
 
 /// Runs a case over BabyBear: 0 Katsura's equations, 1 the cyclic ones, 2 definitions in two copies with equal factors,
 /// 3 rounds in two copies with equal inputs, 4 random linear equations, 5 bits with their sum; 6 more for the same over
 /// KoalaBear.
 pub fn run<R: Print>(rt: &R, alloc: Global, kind: u32, size: u32, units: u32) -> io::Result<()> {
-    if kind < 6 {
-        print::<R, BabyBear>(rt, alloc, kind, size, units)
+    let found = if kind < 6 {
+        case::<BabyBear>(alloc, kind, size, units)
     } else {
-        print::<R, KoalaBear>(rt, alloc, kind - 6, size, units)
+        case::<KoalaBear>(alloc, kind - 6, size, units)
+    };
+    match found {
+        Ok(outcome) => print(rt, &outcome),
+        Err(_) => println!(rt; "no result"),
     }
 }

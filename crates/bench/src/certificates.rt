@@ -1,7 +1,7 @@
 //! Reads a certificate that repeats one entry, and counts its entries.
 ghost use Rattle.std.specs.Prelude.{◌≡◌, false};
 
-use crate::Pieces;
+use crate::pieces::{Pieces, piece, repeated};
 use ffc_cert::{CertReader, CertStop};
 use std::alloc::Global;
 use std::io;
@@ -25,17 +25,13 @@ fn drain(reader: &mut CertReader, count: u64) -> Result<u64, CertStop>
 
 fn count_of_entries(alloc: Global, pieces: Pieces) -> Result<u64, CertStop> {
     let size = pieces.bytes;
-    let mut text = Vec::new(alloc);
-    for _ in 0..size / ENTRY.len() + 2 {
-        text.extend_from_slice(ENTRY)?;
-    }
+    let text = repeated(alloc, ENTRY, size)?;
     let mut reader = CertReader::new(alloc, u64::from(u32::MAX));
     reader.feed(b"ffcert 2\n")?;
     let mut entries = 0;
     let mut start = 0;
     'pieces: for _ in 0..pieces.count {
-        let rest = &text[start.min(text.len())..];
-        reader.feed(&rest[..size.min(rest.len())])?;
+        reader.feed(piece(text.as_slice(), start, size))?;
         entries = drain(&mut reader, entries)?;
         start = start.wrapping_add(size) % ENTRY.len();
     }

@@ -1,8 +1,8 @@
 //! Takes the forms of a script that repeats one line: names, sorts, levels and nodes.
 ghost use Rattle.std.specs.Prelude.{◌≡◌, false};
 
-use crate::Pieces;
-use crate::scripts::{LINE, repeated};
+use crate::pieces::{Pieces, piece, repeated};
+use crate::scripts::LINE;
 use ffc_elab::Context;
 use ffc_lex::{LexStop, Lexer};
 use ffc_words::TakeStop;
@@ -72,22 +72,34 @@ fn drain(lexer: &mut Lexer, context: &mut Context, count: u64) -> Result<u64, St
     Ok(forms)
 }
 
+/// Takes the forms of the pieces, and counts them.
+fn take_pieces(
+    lexer: &mut Lexer,
+    context: &mut Context,
+    script: &[u8],
+    pieces: Pieces,
+) -> Result<u64, Stop>
+    requires { lexer.old.finished ≡ false }
+{
+    let mut forms = 0;
+    let mut start = 0;
+    'pieces: for _ in 0..pieces.count {
+        lexer.feed(piece(script, start, pieces.bytes))?;
+        forms = drain(lexer, context, forms)?;
+        start = start.wrapping_add(pieces.bytes) % LINE.len();
+    }
+    Ok(forms)
+}
+
 /// How many forms the declarations and the pieces have, and how many assertions are active at their end.
 fn counts(alloc: Global, pieces: Pieces) -> Result<(u64, usize), Stop> {
-    let size = pieces.bytes;
-    let script = repeated(alloc, size)?;
+    let script = repeated(alloc, LINE, pieces.bytes)?;
     let mut context = Context::new(alloc)?;
     let mut lexer = Lexer::new(alloc);
     lexer.feed(DECLARATIONS)?;
-    let mut forms = drain(&mut lexer, &mut context, 0)?;
-    let mut start = 0;
-    'pieces: for _ in 0..pieces.count {
-        let rest = &script[start.min(script.len())..];
-        lexer.feed(&rest[..size.min(rest.len())])?;
-        forms = drain(&mut lexer, &mut context, forms)?;
-        start = start.wrapping_add(size) % LINE.len();
-    }
-    Ok((forms, context.in_force().len()))
+    let declarations = drain(&mut lexer, &mut context, 0)?;
+    let forms = take_pieces(&mut lexer, &mut context, script.as_slice(), pieces)?;
+    Ok((declarations.wrapping_add(forms), context.in_force().len()))
 }
 
 /// Prints how many forms were taken, and how many assertions are active.

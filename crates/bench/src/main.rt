@@ -12,89 +12,85 @@ mod bases;
 mod certificates;
 mod chains;
 mod checks;
+mod drafts;
 mod elaboration;
 mod entries;
+mod pieces;
 mod polynomials;
 mod refutations;
 mod roots;
 mod scripts;
 mod systems;
 
+use crate::pieces::pieces_of;
 use std::alloc::Global;
 use std::{env, io};
 
-/// The sizes of the small inputs, and of an argument that is left out.
-const KIB: u32 = 64;
-
-const PIECE: u32 = 4096;
-
-const NODES: u32 = 1000;
-
-const TERMS: u32 = 60;
-
-const DEGREE: u32 = 16;
-
-const DEPTH: u32 = 4;
-
-const EQUATIONS: u32 = 3;
-
-const UNITS: u32 = 1_000_000;
-
-/// So many pieces of so many bytes.
+/// The parts that are measured.
 #[derive(Clone, Copy)]
-struct Pieces {
-    count: u64,
-    bytes: usize,
+enum Part {
+    Lex,
+    Elab,
+    Cert,
+    Term,
+    Poly,
+    Roots,
+    Check,
+    Bases,
 }
 
-/// The pieces of a text of so many KiB.
-fn pieces_of(kib: u32, bytes: u32) -> Pieces {
-    let bytes = bytes.max(1);
-    Pieces {
-        count: u64::from(kib) * 1024 / u64::from(bytes),
-        bytes: bytes as usize,
+/// The numbers that stand for the arguments after a part's name.
+type Numbers = (u32, u32, u32);
+
+/// Each part with the numbers that take the place of arguments that are left out, which are a small input.
+const PARTS: [(&str, Part, Numbers); 8] = [
+    ("lex", Part::Lex, (64, 4096, 0)),
+    ("elab", Part::Elab, (64, 4096, 0)),
+    ("cert", Part::Cert, (64, 4096, 0)),
+    ("term", Part::Term, (1000, 0, 0)),
+    ("poly", Part::Poly, (0, 60, 1)),
+    ("roots", Part::Roots, (0, 16, 0)),
+    ("check", Part::Check, (0, 4, 1)),
+    ("bases", Part::Bases, (0, 3, 1_000_000)),
+];
+
+fn run<R: Print>(rt: &R, alloc: Global, part: Part, numbers: Numbers) -> io::Result<()> {
+    let (first, second, third) = numbers;
+    match part {
+        Part::Lex => scripts::run(rt, alloc, pieces_of(first, second)),
+        Part::Elab => elaboration::run(rt, alloc, pieces_of(first, second)),
+        Part::Cert => certificates::run(rt, alloc, pieces_of(first, second)),
+        Part::Term => chains::run(rt, alloc, first),
+        Part::Poly => polynomials::run(rt, alloc, first, second, third),
+        Part::Roots => roots::run(rt, alloc, first, second),
+        Part::Check => entries::run(rt, alloc, first, second, third),
+        Part::Bases => bases::run(rt, alloc, first, second, third),
     }
 }
 
-fn run<R: Print>(
-    rt: &R,
-    alloc: Global,
-    name: &str,
-    first: Option<u32>,
-    second: Option<u32>,
-    third: Option<u32>,
-) -> io::Result<()> {
-    let pieces = pieces_of(first.unwrap_or(KIB), second.unwrap_or(PIECE));
-    match name {
-        "lex" => scripts::run(rt, alloc, pieces),
-        "elab" => elaboration::run(rt, alloc, pieces),
-        "cert" => certificates::run(rt, alloc, pieces),
-        "term" => chains::run(rt, alloc, first.unwrap_or(NODES)),
-        "poly" => polynomials::run(
-            rt,
-            alloc,
-            first.unwrap_or(0),
-            second.unwrap_or(TERMS),
-            third.unwrap_or(1),
-        ),
-        "roots" => roots::run(rt, alloc, first.unwrap_or(0), second.unwrap_or(DEGREE)),
-        "check" => entries::run(
-            rt,
-            alloc,
-            first.unwrap_or(0),
-            second.unwrap_or(DEPTH),
-            third.unwrap_or(1),
-        ),
-        "bases" => bases::run(
-            rt,
-            alloc,
-            first.unwrap_or(0),
-            second.unwrap_or(EQUATIONS),
-            third.unwrap_or(UNITS),
-        ),
-        _ => println!(rt;
-            "bench lex KIB PIECE | elab KIB PIECE | cert KIB PIECE | term COUNT | poly CASE TERMS TIMES | roots CASE DEGREE | check CASE SIZE COUNT | bases CASE SIZE UNITS"
-        ),
+/// Runs each part on a small input.
+fn run_all<R: Print>(rt: &R, alloc: Global) -> io::Result<()> {
+    for (_, part, numbers) in PARTS {
+        run(rt, alloc, part, numbers)?;
+    }
+    Ok(())
+}
+
+/// The part of a name, with the numbers of a small input.
+fn part_of(name: &str) -> Option<(Part, Numbers)> {
+    for (known, part, numbers) in PARTS {
+        if known == name {
+            return Some((part, numbers));
+        }
+    }
+    None
+}
+
+/// The number of an argument, or another one where there is none.
+fn number(argument: Option<String>, otherwise: u32) -> u32 {
+    match argument {
+        Some(argument) => argument.parse::<u32>().unwrap_or(otherwise),
+        None => otherwise,
     }
 }
 
@@ -102,21 +98,17 @@ fn main(rt: HostRuntime) -> io::Result<()> {
     let mut arguments = env::args(&rt)?;
     let _program = arguments.next();
     let Some(name) = arguments.next() else {
-        for name in [
-            "lex", "elab", "cert", "term", "poly", "roots", "check", "bases",
-        ] {
-            run(&rt, rt.alloc(), name, None, None, None)?;
-        }
-        return Ok(());
+        return run_all(&rt, rt.alloc());
     };
-    let first = arguments
-        .next()
-        .and_then(|argument| argument.parse::<u32>().ok());
-    let second = arguments
-        .next()
-        .and_then(|argument| argument.parse::<u32>().ok());
-    let third = arguments
-        .next()
-        .and_then(|argument| argument.parse::<u32>().ok());
-    run(&rt, rt.alloc(), name.as_str(), first, second, third)
+    let Some((part, (first, second, third))) = part_of(name.as_str()) else {
+        return println!(rt;
+            "bench lex KIB PIECE | elab KIB PIECE | cert KIB PIECE | term COUNT | poly CASE TERMS TIMES | roots CASE DEGREE | check CASE SIZE COUNT | bases CASE SIZE UNITS"
+        );
+    };
+    let numbers = (
+        number(arguments.next(), first),
+        number(arguments.next(), second),
+        number(arguments.next(), third),
+    );
+    run(&rt, rt.alloc(), part, numbers)
 }

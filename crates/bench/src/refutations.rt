@@ -1,8 +1,10 @@
 //! Texts of certificates for a check that asserts 1 = 2 and its negation. The nodes are 1, 2, 1 = 2 as node 2, and negations
 //! from node 3 on.
+ghost use Rattle.std.specs.Prelude.{◌≤◌, length};
+
 use ffc_base::Meter;
 use ffc_field::{Field, Goldilocks};
-use ffc_uni::{Uni, UniStop, pow_mod_chain};
+use ffc_uni::{Chain, Uni, UniStop, pow_mod_chain};
 use std::alloc::{AllocError, Global};
 
 /// The node of the first literal that is not asserted.
@@ -36,21 +38,24 @@ fn push_level(text: &mut String, literals: u32, below: u32) -> Result<(), AllocE
     Ok(())
 }
 
+/// Appends the clauses of this many literals, each by the two asserted ones.
+fn push_leaves(text: &mut String, depth: u32) -> Result<(), AllocError> {
+    for number in 0..1u32 << depth.min(20) {
+        write!(text, "r {depth}")?;
+        push_literals(text, number, depth)?;
+        text.push_str(" 3 0 1 2\n")?;
+    }
+    Ok(())
+}
+
 /// A clause refutation in the form of a full binary tree: all clauses over so many nodes, and by each two of them the clause
 /// without the last literal.
 pub fn clauses(alloc: Global, depth: u32) -> Result<String, AllocError> {
     let depth = depth.min(20);
-    let leaves = 1u32 << depth;
     let mut text = String::new(alloc);
-    writeln!(text, "ffcert 2")?;
-    let clauses = leaves.saturating_mul(2).saturating_add(2);
-    writeln!(text, "unsat {clauses}")?;
-    text.push_str("a 0\na 1\nn 3 1 0\n")?;
-    for number in 0..leaves {
-        write!(text, "r {depth}")?;
-        push_literals(&mut text, number, depth)?;
-        text.push_str(" 3 0 1 2\n")?;
-    }
+    let clauses = (2u32 << depth).saturating_add(2);
+    writeln!(text, "ffcert 2\nunsat {clauses}\na 0\na 1\nn 3 1 0")?;
+    push_leaves(&mut text, depth)?;
     let mut below = 3u32;
     for up in 0..depth {
         let literals = depth - 1 - up;
@@ -64,17 +69,13 @@ pub fn clauses(alloc: Global, depth: u32) -> Result<String, AllocError> {
 fn begun(alloc: Global) -> Result<String, AllocError> {
     let mut text = String::new(alloc);
     let order = Goldilocks::ORDER;
-    writeln!(text, "ffcert 2")?;
-    text.push_str("unsat 3\na 0\n")?;
-    writeln!(text, "f {order} 1 -2")?;
+    writeln!(text, "ffcert 2\nunsat 3\na 0\nf {order} 1 -2")?;
     Ok(text)
 }
 
 /// Ends it by the constant 1.
 fn end(text: &mut String) -> Result<(), AllocError> {
-    let order = Goldilocks::ORDER;
-    writeln!(text, "c 1 0 1 {} 0", order - 1)?;
-    text.push_str("z\nr 0 2 0 1\n")
+    writeln!(text, "c 1 0 1 {} 0\nz\nr 0 2 0 1", Goldilocks::ORDER - 1)
 }
 
 /// A coefficient other than 0.
@@ -90,15 +91,20 @@ fn push_power(text: &mut String, variable: u32, exponent: u32) -> Result<(), All
     Ok(())
 }
 
-/// Appends a line that multiplies another one by 2,048 terms in two variables.
+/// Appends a term in two variables.
+fn push_term(text: &mut String, number: u32) -> Result<(), AllocError> {
+    let (i, j) = (number / 8, number % 8);
+    let variables = u32::from(i > 0) + u32::from(j > 0);
+    write!(text, " {} {variables}", coefficient(number))?;
+    push_power(text, 10, i)?;
+    push_power(text, 11, j)
+}
+
+/// Appends a line that multiplies another one by 2,048 terms.
 fn push_multiple(text: &mut String, line: u32) -> Result<(), AllocError> {
     write!(text, "c 1 {line} 2048")?;
     for number in 0..2048u32 {
-        let (i, j) = (number / 8, number % 8);
-        let variables = u32::from(i > 0) + u32::from(j > 0);
-        write!(text, " {} {variables}", coefficient(number))?;
-        push_power(text, 10, i)?;
-        push_power(text, 11, j)?;
+        push_term(text, number)?;
     }
     text.push_str("\n")
 }
@@ -127,11 +133,14 @@ fn push_list(text: &mut String, coefs: &[Goldilocks]) -> Result<(), AllocError> 
 fn push_polynomial(text: &mut String, coefs: &[Goldilocks]) -> Result<(), AllocError> {
     write!(text, "c 1 0 {}", coefs.len())?;
     for (exponent, coef) in coefs.iter().enumerate() {
-        write!(text, " {}", coef.neg().residue())?;
-        if exponent == 0 {
-            text.push_str(" 0")?;
-        } else {
-            write!(text, " 1 10 {exponent}")?;
+        write!(
+            text,
+            " {} {}",
+            coef.neg().residue(),
+            u32::from(exponent > 0)
+        )?;
+        if exponent > 0 {
+            write!(text, " 10 {exponent}")?;
         }
     }
     text.push_str("\n")
@@ -146,25 +155,43 @@ fn polynomial(alloc: Global, degree: u32) -> Result<Uni<Goldilocks>, AllocError>
     Uni::from_coefs(alloc, coefs.as_slice())
 }
 
+/// Appends a chain that raises a variable to the order of the field modulo a polynomial.
+fn push_chain(text: &mut String, chain: &Chain<Goldilocks>) -> Result<(), AllocError> {
+    writeln!(text, "p 1 10 {}", chain.steps.as_slice().len())?;
+    for step in chain.steps.as_slice() {
+        text.push_str("u")?;
+        push_list(text, step.0.coefs())?;
+        push_list(text, step.1.coefs())?;
+        text.push_str("\n")?;
+    }
+    Ok(())
+}
+
+/// Appends so many chains over a polynomial.
+fn push_chains(
+    text: &mut String,
+    alloc: Global,
+    f: &Uni<Goldilocks>,
+    count: u32,
+) -> Result<(), UniStop>
+    requires { 2 ≤ length f.now }
+{
+    let chain = pow_mod_chain(alloc, f, &mut Meter::new(BUDGET))?;
+    for _ in 0..count {
+        push_chain(text, &chain)?;
+    }
+    Ok(())
+}
+
 /// A refutation with so many chains over a polynomial of this degree.
 pub fn chains(alloc: Global, degree: u32, count: u32) -> Result<String, UniStop> {
     let f = polynomial(alloc, degree)?;
     if f.coefs().len() < 2 {
         return Err(UniStop::Memory);
     }
-    let mut meter = Meter::new(BUDGET);
-    let chain = pow_mod_chain(alloc, &f, &mut meter)?;
     let mut text = begun(alloc)?;
     push_polynomial(&mut text, f.coefs())?;
-    for _ in 0..count {
-        writeln!(text, "p 1 10 {}", chain.steps.as_slice().len())?;
-        for step in chain.steps.as_slice() {
-            text.push_str("u")?;
-            push_list(&mut text, step.0.coefs())?;
-            push_list(&mut text, step.1.coefs())?;
-            text.push_str("\n")?;
-        }
-    }
+    push_chains(&mut text, alloc, &f, count)?;
     end(&mut text)?;
     Ok(text)
 }

@@ -64,20 +64,16 @@ fn case<F: Field>(alloc: Global, kind: u32, degree: u32) -> Result<usize, RootSt
     count(alloc, &f)
 }
 
-/// Prints how many roots the polynomial of a case has.
-fn print<R: Print, F: Field>(rt: &R, alloc: Global, kind: u32, degree: u32) -> io::Result<()> {
-    match case::<F>(alloc, kind, degree) {
+/// Prints how many roots the polynomial of a case has: 0 one of this degree with all its roots in the field, 1 one with none,
+/// and 2 more for the same over BabyBear in place of Goldilocks.
+pub fn run<R: Print>(rt: &R, alloc: Global, kind: u32, degree: u32) -> io::Result<()> {
+    let found = if kind < 2 {
+        case::<Goldilocks>(alloc, kind, degree)
+    } else {
+        case::<BabyBear>(alloc, kind - 2, degree)
+    };
+    match found {
         Ok(count) => println!(rt; "{count} roots"),
         Err(_) => println!(rt; "no result"),
-    }
-}
-
-/// Runs a case: 0 a polynomial of this degree with all its roots in the field, 1 one with none, and 2 more for the same
-/// over BabyBear in place of Goldilocks.
-pub fn run<R: Print>(rt: &R, alloc: Global, kind: u32, degree: u32) -> io::Result<()> {
-    if kind < 2 {
-        print::<R, Goldilocks>(rt, alloc, kind, degree)
-    } else {
-        print::<R, BabyBear>(rt, alloc, kind - 2, degree)
     }
 }

@@ -1,23 +1,14 @@
 //! Reads a script that repeats one line, and counts its forms.
 ghost use Rattle.std.specs.Prelude.{◌≡◌, false};
 
-use crate::Pieces;
+use crate::pieces::{Pieces, piece, repeated};
 use ffc_lex::{LexStop, Lexer};
-use std::alloc::{AllocError, Global};
+use std::alloc::Global;
 use std::io;
 
 /// The line that is repeated.
 pub(crate) const LINE: &[u8] =
     b"(assert (= (ff.add x |y z| #f3m17) (as ff-1 F))) (set-info :k \"s\"\"t\") ; c\n";
-
-/// The line so often that a piece of so many bytes may begin at any place of it.
-pub(crate) fn repeated(alloc: Global, size: usize) -> Result<Vec<u8>, AllocError> {
-    let mut script = Vec::new(alloc);
-    for _ in 0..size / LINE.len() + 2 {
-        script.extend_from_slice(LINE)?;
-    }
-    Ok(script)
-}
 
 /// Takes the forms that are whole, and counts them.
 fn drain(lexer: &mut Lexer, count: u64) -> Result<u64, LexStop>
@@ -36,13 +27,12 @@ fn drain(lexer: &mut Lexer, count: u64) -> Result<u64, LexStop>
 
 fn count_of_forms(alloc: Global, pieces: Pieces) -> Result<u64, LexStop> {
     let size = pieces.bytes;
-    let script = repeated(alloc, size)?;
+    let script = repeated(alloc, LINE, size)?;
     let mut lexer = Lexer::new(alloc);
     let mut forms = 0;
     let mut start = 0;
     'pieces: for _ in 0..pieces.count {
-        let rest = &script[start.min(script.len())..];
-        lexer.feed(&rest[..size.min(rest.len())])?;
+        lexer.feed(piece(script.as_slice(), start, size))?;
         forms = drain(&mut lexer, forms)?;
         start = start.wrapping_add(size) % LINE.len();
     }

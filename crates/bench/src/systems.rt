@@ -1,10 +1,8 @@
-//! Systems of equations over a field, and differences that follow from them. The variable of the lowest number leads.
+//! Systems of equations, and differences that follow from them. The variable of the lowest number leads.
 ghost use Rattle.std.specs.Prelude.{◌≤◌, ◌<◌};
 
-use ffc_field::Field;
-use ffc_mono::{GradedReverseLex, Mono, MonoStop};
-use ffc_poly::{Poly, PolyStop};
-use std::alloc::{AllocError, AllocFailed, Global};
+use crate::drafts::{Draft, Stop, push};
+use std::alloc::Global;
 
 /// The greatest size of a system.
 pub const LARGEST: u32 = 100_000;
@@ -16,200 +14,278 @@ const LANES: u32 = 3;
 const FACTORS: u32 = 4 * LANES;
 
 /// The weighted sum of the bits.
-const SUM: u128 = 5;
-
-pub type Sparse<F> = Poly<F, GradedReverseLex>;
+const SUM: u64 = 5;
 
 /// The variables of a state of the rounds, or of powers.
 type Lanes = [u32; 3];
 
-/// A limit was passed, or there was no memory.
-#[derive(Clone, Copy, Debug, Drop)]
-pub struct Stop;
-
-impl From<MonoStop> for Stop {
-    fn from(_: MonoStop) -> Stop {
-        Stop
-    }
-}
-
-impl From<PolyStop> for Stop {
-    fn from(_: PolyStop) -> Stop {
-        Stop
-    }
-}
-
-impl From<AllocError> for Stop {
-    fn from(_: AllocError) -> Stop {
-        Stop
-    }
-}
-
-impl<T: Drop> From<AllocFailed<T>> for Stop {
-    fn from(_: AllocFailed<T>) -> Stop {
-        Stop
-    }
-}
-
 /// Polynomials that are zero, and differences that are zero where those are.
-#[derive(Debug, Drop)]
-pub struct System<F: Field> {
-    pub generators: Vec<Sparse<F>>,
-    pub differences: Vec<Sparse<F>>,
-}
-
-/// Appends a coefficient times a product of variables.
-fn push<F: Field>(terms: &mut Vec<(F, Mono)>, coefficient: F, factors: &[u32]) -> Result<(), Stop> {
-    let alloc = *terms.allocator();
-    let mut product = Mono::from_pairs(alloc, &[])?;
-    for variable in factors {
-        product = product.mul(&Mono::from_pairs(alloc, &[(*variable, 1)])?)?;
-    }
-    terms.push((coefficient, product))?;
-    Ok(())
-}
-
-/// A variable with a constant added to it.
-fn shifted<F: Field>(alloc: Global, variable: u32, constant: u32) -> Result<Sparse<F>, Stop> {
-    let mut terms = Vec::new(alloc);
-    push(&mut terms, F::of(1), &[variable])?;
-    push(&mut terms, F::of(u128::from(constant)), &[])?;
-    Ok(Poly::from_terms(alloc, terms.as_slice())?)
-}
-
-/// A variable.
-fn variable<F: Field>(alloc: Global, variable: u32) -> Result<Sparse<F>, Stop> {
-    shifted(alloc, variable, 0)
+#[derive(Drop)]
+pub struct System {
+    /// The order of the field.
+    order: u64,
+    pub generators: Vec<Draft>,
+    pub differences: Vec<Draft>,
 }
 
 /// One variable minus another one.
-fn difference<F: Field>(alloc: Global, left: u32, right: u32) -> Result<Sparse<F>, Stop> {
-    Ok(variable::<F>(alloc, left)?.sub(&variable(alloc, right)?)?)
+fn difference(alloc: Global, left: u32, right: u32, minus_one: u64) -> Result<Draft, Stop> {
+    let mut draft = Vec::new(alloc);
+    push(&mut draft, 1, &[left])?;
+    push(&mut draft, minus_one, &[right])?;
+    Ok(draft)
 }
 
-/// A variable minus the product that defines it.
-fn definition<F: Field>(
-    alloc: Global,
-    defined: u32,
-    left: &Sparse<F>,
-    right: &Sparse<F>,
-) -> Result<Sparse<F>, Stop> {
-    Ok(variable::<F>(alloc, defined)?.sub(&left.mul(right)?)?)
-}
-
-/// The sum of Katsura's variables, each but the first one twice, minus 1.
-fn katsura_sum<F: Field>(alloc: Global, size: u32) -> Result<Sparse<F>, Stop>
-    requires small { size ≤ LARGEST }
-{
-    let mut terms = Vec::new(alloc);
-    for place in 0..2 * size + 1 {
-        push(&mut terms, F::of(1), &[place.abs_diff(size)])?;
-    }
-    push(&mut terms, F::of(1).neg(), &[])?;
-    Ok(Poly::from_terms(alloc, terms.as_slice())?)
-}
-
-/// The sum of products of two of Katsura's variables whose places differ by a number, minus the variable of this number.
-fn katsura_products<F: Field>(alloc: Global, size: u32, number: u32) -> Result<Sparse<F>, Stop>
-    requires small { size ≤ LARGEST }
-    requires number { number ≤ size }
-{
-    let mut terms = Vec::new(alloc);
-    for place in 0..2 * size + 1 {
-        let other = place.abs_diff(size + number);
-        if other <= size {
-            push(&mut terms, F::of(1), &[place.abs_diff(size), other])?;
+impl System {
+    pub fn new(alloc: Global, order: u64) -> System {
+        System {
+            order,
+            generators: Vec::new(alloc),
+            differences: Vec::new(alloc),
         }
     }
-    push(&mut terms, F::of(1).neg(), &[number])?;
-    Ok(Poly::from_terms(alloc, terms.as_slice())?)
-}
 
-/// Katsura's equations in one variable more than the size.
-pub fn katsura<F: Field>(alloc: Global, size: u32) -> Result<System<F>, Stop>
-    requires small { size ≤ LARGEST }
-{
-    let mut generators = Vec::new(alloc);
-    generators.push(katsura_sum(alloc, size)?)?;
-    for number in 0..size {
-        generators.push(katsura_products(alloc, size, number)?)?;
+    fn alloc(&self) -> Global {
+        *self.generators.allocator()
     }
-    Ok(System {
-        generators,
-        differences: Vec::new(alloc),
-    })
+
+    /// The negation of a number.
+    fn minus(&self, number: u64) -> u64 {
+        self.order.wrapping_sub(number % self.order.max(1))
+    }
+
+    /// Appends a generator.
+    fn add(&mut self, draft: Draft) -> Result<(), Stop> {
+        self.generators.push(draft)?;
+        Ok(())
+    }
+
+    /// Two variables are equal.
+    fn equate(&mut self, left: u32, right: u32) -> Result<(), Stop> {
+        let draft = difference(self.alloc(), left, right, self.minus(1))?;
+        self.add(draft)
+    }
+
+    /// Two variables are equal where the generators are zero.
+    fn differ(&mut self, left: u32, right: u32) -> Result<(), Stop> {
+        let draft = difference(self.alloc(), left, right, self.minus(1))?;
+        self.differences.push(draft)?;
+        Ok(())
+    }
+
+    /// A variable minus the product that defines it.
+    fn definition(&self, defined: u32, left: u32, right: u32) -> Result<Draft, Stop> {
+        let mut draft = Vec::new(self.alloc());
+        push(&mut draft, 1, &[defined])?;
+        push(&mut draft, self.minus(1), &[left, right])?;
+        Ok(draft)
+    }
+
+    /// Defines a variable as a product.
+    fn define(&mut self, defined: u32, left: u32, right: u32) -> Result<(), Stop> {
+        let draft = self.definition(defined, left, right)?;
+        self.add(draft)
+    }
+
+    /// The sum of Katsura's variables, each but the first one twice, minus 1.
+    fn katsura_sum(&mut self, size: u32) -> Result<(), Stop>
+        requires small { size ≤ LARGEST }
+    {
+        let mut draft = Vec::new(self.alloc());
+        for place in 0..2 * size + 1 {
+            push(&mut draft, 1, &[place.abs_diff(size)])?;
+        }
+        push(&mut draft, self.minus(1), &[])?;
+        self.add(draft)
+    }
+
+    /// The sum of products of two of Katsura's variables whose places differ by a number, minus the variable of this
+    /// number.
+    fn katsura_products(&mut self, size: u32, number: u32) -> Result<(), Stop>
+        requires small { size ≤ LARGEST }
+        requires number { number ≤ size }
+    {
+        let mut draft = Vec::new(self.alloc());
+        for place in 0..2 * size + 1 {
+            let other = place.abs_diff(size + number);
+            if other <= size {
+                push(&mut draft, 1, &[place.abs_diff(size), other])?;
+            }
+        }
+        push(&mut draft, self.minus(1), &[number])?;
+        self.add(draft)
+    }
+
+    /// Katsura's equations in one variable more than the size.
+    pub fn katsura(&mut self, size: u32) -> Result<(), Stop>
+        requires small { size ≤ LARGEST }
+    {
+        self.katsura_sum(size)?;
+        for number in 0..size {
+            self.katsura_products(size, number)?;
+        }
+        Ok(())
+    }
+
+    /// The cyclic equations in so many variables: the sums of products of each count, of which the product of all is 1.
+    pub fn cyclic(&mut self, size: u32) -> Result<(), Stop>
+        requires some { 1 ≤ size }
+        requires small { size ≤ LARGEST }
+    {
+        for count in 1..size {
+            let draft = cycles(self.alloc(), size, size, count)?;
+            self.add(draft)?;
+        }
+        let mut draft = cycles(self.alloc(), size, 1, size)?;
+        push(&mut draft, self.minus(1), &[])?;
+        self.add(draft)
+    }
+
+    /// Definitions of variables as products of two others each, in two copies with equal factors.
+    pub fn definitions(&mut self, size: u32) -> Result<(), Stop>
+        requires small { size ≤ LARGEST }
+    {
+        for number in 0..size {
+            self.definition_twice(size, number)?;
+        }
+        Ok(())
+    }
+
+    fn definition_twice(&mut self, size: u32, number: u32) -> Result<(), Stop>
+        requires small { size ≤ LARGEST }
+        requires number { number < size }
+    {
+        let (z, x, y) = (number, 2 * size + number, 3 * size + number);
+        let (w, u, v) = (size + number, 4 * size + number, 5 * size + number);
+        self.define(z, x, y)?;
+        self.define(w, u, v)?;
+        self.equate(x, u)?;
+        self.equate(y, v)?;
+        self.differ(z, w)
+    }
+
+    /// Random linear equations, as many as variables.
+    pub fn linear(&mut self, size: u32) -> Result<(), Stop> {
+        let mut residues = Residues { state: 1 };
+        for _ in 0..size {
+            let draft = residues.equation(self.alloc(), size)?;
+            self.add(draft)?;
+        }
+        Ok(())
+    }
+
+    /// Bits whose sum with the weights 1, 2, 4 and so on is a constant.
+    pub fn bits(&mut self, size: u32) -> Result<(), Stop> {
+        let mut sum = Vec::new(self.alloc());
+        let mut weight = 1u64;
+        for bit in 0..size {
+            self.define(bit, bit, bit)?;
+            push(&mut sum, weight, &[bit])?;
+            weight = weight.wrapping_mul(2) % self.order.max(1);
+        }
+        push(&mut sum, self.minus(SUM), &[])?;
+        self.add(sum)
+    }
+
+    /// Rounds of exponent 7 with a dense linear layer each, in two copies with equal inputs.
+    pub fn rounds(&mut self, size: u32) -> Result<(), Stop> {
+        let mut numbers = RoundNumbers::new(size);
+        let mut left = numbers.factors.take_lanes();
+        let mut right = numbers.factors.take_lanes();
+        for (x, y) in left.into_iter().zip(right) {
+            self.equate(x, y)?;
+        }
+        for number in 0..size {
+            left = self.round(&mut numbers, left, number)?;
+            right = self.round(&mut numbers, right, number)?;
+        }
+        for (x, y) in left.into_iter().zip(right) {
+            self.differ(x, y)?;
+        }
+        Ok(())
+    }
+
+    /// The state after a round.
+    fn round(
+        &mut self,
+        numbers: &mut RoundNumbers,
+        state: Lanes,
+        number: u32,
+    ) -> Result<Lanes, Stop> {
+        let mut constant = number.saturating_mul(LANES);
+        let mut powers = state;
+        for lane in &mut powers {
+            constant = constant.saturating_add(1);
+            *lane = self.power(numbers, *lane, constant)?;
+        }
+        let next = numbers.factors.take_lanes();
+        for (lane, twice) in next.into_iter().zip(powers) {
+            self.mix(lane, powers, twice)?;
+        }
+        Ok(next)
+    }
+
+    /// Defines the 7th power of a variable with a constant added to it, by the powers 2, 4 and 6.
+    fn power(&mut self, numbers: &mut RoundNumbers, base: u32, constant: u32) -> Result<u32, Stop> {
+        let [second, fourth, sixth] = numbers.factors.take_lanes();
+        let seventh = numbers.sevenths.take();
+        self.square(second, base, u64::from(constant))?;
+        self.define(fourth, second, second)?;
+        self.define(sixth, fourth, second)?;
+        self.multiply(seventh, sixth, base, u64::from(constant))?;
+        Ok(seventh)
+    }
+
+    /// Defines a variable as the square of another one with a constant added to it.
+    fn square(&mut self, defined: u32, base: u32, constant: u64) -> Result<(), Stop> {
+        let mut draft = self.definition(defined, base, base)?;
+        push(&mut draft, self.minus(constant.wrapping_mul(2)), &[base])?;
+        push(&mut draft, self.minus(constant.wrapping_mul(constant)), &[])?;
+        self.add(draft)
+    }
+
+    /// Defines a variable as a product, whose second factor has a constant added to it.
+    fn multiply(&mut self, defined: u32, left: u32, right: u32, constant: u64) -> Result<(), Stop> {
+        let mut draft = self.definition(defined, left, right)?;
+        push(&mut draft, self.minus(constant), &[left])?;
+        self.add(draft)
+    }
+
+    /// Defines a lane as the sum of the powers, of which one counts twice.
+    fn mix(&mut self, lane: u32, powers: Lanes, twice: u32) -> Result<(), Stop> {
+        let mut draft = difference(self.alloc(), lane, twice, self.minus(1))?;
+        for power in powers {
+            push(&mut draft, self.minus(1), &[power])?;
+        }
+        self.add(draft)
+    }
 }
 
-/// Appends the product of so many variables from one on, where the first comes after the last.
-fn push_cycle<F: Field>(
-    terms: &mut Vec<(F, Mono)>,
-    size: u32,
-    first: u32,
-    count: u32,
-) -> Result<(), Stop>
+/// The sum of the products of so many variables that follow one another, from each of the first ones on. The first of all
+/// variables comes after the last.
+fn cycles(alloc: Global, size: u32, firsts: u32, count: u32) -> Result<Draft, Stop>
+    requires small { size ≤ LARGEST }
+    requires firsts { firsts ≤ size }
+    requires count { count ≤ size }
+{
+    let mut draft = Vec::new(alloc);
+    for first in 0..firsts {
+        push_cycle(&mut draft, size, first, count)?;
+    }
+    Ok(draft)
+}
+
+/// Appends the product of so many variables from one on.
+fn push_cycle(draft: &mut Draft, size: u32, first: u32, count: u32) -> Result<(), Stop>
     requires small { size ≤ LARGEST }
     requires first { first < size }
     requires count { count ≤ size }
 {
-    let mut factors = Vec::new(*terms.allocator());
+    let mut factors = Vec::new(*draft.allocator());
     for step in 0..count {
         factors.push((first + step) % size)?;
     }
-    push(terms, F::of(1), factors.as_slice())
-}
-
-/// The sum of all products of so many variables that follow one another.
-fn cyclic_sum<F: Field>(alloc: Global, size: u32, count: u32) -> Result<Sparse<F>, Stop>
-    requires small { size ≤ LARGEST }
-    requires count { count < size }
-{
-    let mut terms = Vec::new(alloc);
-    for first in 0..size {
-        push_cycle::<F>(&mut terms, size, first, count)?;
-    }
-    Ok(Poly::from_terms(alloc, terms.as_slice())?)
-}
-
-/// The cyclic equations in so many variables: the sums of products of each count, of which the product of all is 1.
-pub fn cyclic<F: Field>(alloc: Global, size: u32) -> Result<System<F>, Stop>
-    requires some { 1 ≤ size }
-    requires small { size ≤ LARGEST }
-{
-    let mut generators = Vec::new(alloc);
-    for count in 1..size {
-        generators.push(cyclic_sum(alloc, size, count)?)?;
-    }
-    let mut terms = Vec::new(alloc);
-    push_cycle::<F>(&mut terms, size, 0, size)?;
-    push(&mut terms, F::of(1).neg(), &[])?;
-    generators.push(Poly::from_terms(alloc, terms.as_slice())?)?;
-    Ok(System {
-        generators,
-        differences: Vec::new(alloc),
-    })
-}
-
-/// Definitions of variables as products of two others each, in two copies with equal factors.
-pub fn definitions<F: Field>(alloc: Global, size: u32) -> Result<System<F>, Stop>
-    requires small { size ≤ LARGEST }
-{
-    let mut generators = Vec::new(alloc);
-    let mut differences = Vec::new(alloc);
-    for number in 0..size {
-        let (z, x, y) = (number, 2 * size + number, 3 * size + number);
-        let (w, u, v) = (size + number, 4 * size + number, 5 * size + number);
-        let product = definition::<F>(alloc, z, &variable(alloc, x)?, &variable(alloc, y)?)?;
-        generators.push(product)?;
-        let product = definition::<F>(alloc, w, &variable(alloc, u)?, &variable(alloc, v)?)?;
-        generators.push(product)?;
-        generators.push(difference(alloc, x, u)?)?;
-        generators.push(difference(alloc, y, v)?)?;
-        differences.push(difference(alloc, z, w)?)?;
-    }
-    Ok(System {
-        generators,
-        differences,
-    })
+    push(draft, 1, factors.as_slice())
 }
 
 /// Numbers of variables, of which a later one leads.
@@ -229,113 +305,25 @@ impl Numbers {
     }
 }
 
-/// The equations of rounds. As in the engine those variables lead that are no factors.
+/// The variables of rounds. As in the engine those lead that are no factors.
 #[derive(Drop)]
-struct Circuit<F: Field> {
-    generators: Vec<Sparse<F>>,
+struct RoundNumbers {
     sevenths: Numbers,
     factors: Numbers,
 }
 
-impl<F: Field> Circuit<F> {
+impl RoundNumbers {
     /// So many rounds of two copies, before the first.
-    fn new(alloc: Global, count: u32) -> Self {
+    fn new(count: u32) -> RoundNumbers {
         let sevenths = count.saturating_mul(2 * LANES);
         let factors = count.saturating_add(1).saturating_mul(2 * FACTORS);
-        Circuit {
-            generators: Vec::new(alloc),
+        RoundNumbers {
             sevenths: Numbers { next: sevenths },
             factors: Numbers {
                 next: sevenths.saturating_add(factors),
             },
         }
     }
-
-    /// Defines a variable as a product.
-    fn define(
-        &mut self,
-        defined: u32,
-        left: &Sparse<F>,
-        right: &Sparse<F>,
-    ) -> Result<Sparse<F>, Stop> {
-        let alloc = *self.generators.allocator();
-        self.generators
-            .push(definition(alloc, defined, left, right)?)?;
-        variable(alloc, defined)
-    }
-
-    /// Defines the 7th power of a variable with a constant added to it, by the powers 2, 4 and 6.
-    fn power(&mut self, base: u32, constant: u32) -> Result<u32, Stop> {
-        let base = shifted(*self.generators.allocator(), base, constant)?;
-        let [second, fourth, sixth] = self.factors.take_lanes();
-        let second = self.define(second, &base, &base)?;
-        let fourth = self.define(fourth, &second, &second)?;
-        let sixth = self.define(sixth, &fourth, &second)?;
-        let seventh = self.sevenths.take();
-        let _power = self.define(seventh, &sixth, &base)?;
-        Ok(seventh)
-    }
-
-    /// Defines a lane as the sum of the powers, of which one counts twice.
-    fn mix(&mut self, lane: u32, powers: Lanes, twice: u32) -> Result<(), Stop> {
-        let alloc = *self.generators.allocator();
-        let mut terms = Vec::new(alloc);
-        push(&mut terms, F::of(1), &[lane])?;
-        push(&mut terms, F::of(1).neg(), &[twice])?;
-        for power in powers {
-            push(&mut terms, F::of(1).neg(), &[power])?;
-        }
-        self.generators
-            .push(Poly::from_terms(alloc, terms.as_slice())?)?;
-        Ok(())
-    }
-
-    /// The state after a round.
-    fn round(&mut self, state: Lanes, number: u32) -> Result<Lanes, Stop> {
-        let constant = number.saturating_mul(LANES);
-        let [a, b, c] = state;
-        let a = self.power(a, constant.saturating_add(1))?;
-        let b = self.power(b, constant.saturating_add(2))?;
-        let c = self.power(c, constant.saturating_add(3))?;
-        let next = self.factors.take_lanes();
-        let [x, y, z] = next;
-        self.mix(x, [a, b, c], a)?;
-        self.mix(y, [a, b, c], b)?;
-        self.mix(z, [a, b, c], c)?;
-        Ok(next)
-    }
-}
-
-/// Appends the differences of the lanes of two states.
-fn push_differences<F: Field>(
-    polys: &mut Vec<Sparse<F>>,
-    left: Lanes,
-    right: Lanes,
-) -> Result<(), Stop> {
-    let alloc = *polys.allocator();
-    for (x, y) in left.into_iter().zip(right) {
-        polys.push(difference(alloc, x, y)?)?;
-    }
-    Ok(())
-}
-
-/// Rounds of exponent 7 with a dense linear layer each, in two copies with equal inputs.
-pub fn rounds<F: Field>(alloc: Global, size: u32) -> Result<System<F>, Stop> {
-    let mut circuit = Circuit::<F>::new(alloc, size);
-    let mut left = circuit.factors.take_lanes();
-    let mut right = circuit.factors.take_lanes();
-    push_differences(&mut circuit.generators, left, right)?;
-    for number in 0..size {
-        left = circuit.round(left, number)?;
-        right = circuit.round(right, number)?;
-    }
-    let mut differences = Vec::new(alloc);
-    push_differences(&mut differences, left, right)?;
-    let Circuit { generators, .. } = circuit;
-    Ok(System {
-        generators,
-        differences,
-    })
 }
 
 /// Pseudo random residues, by the linear congruential generator of Knuth's MMIX.
@@ -345,51 +333,21 @@ struct Residues {
 }
 
 impl Residues {
-    fn draw<F: Field>(&mut self) -> F {
+    fn draw(&mut self) -> u64 {
         self.state = self
             .state
             .wrapping_mul(6_364_136_223_846_793_005)
             .wrapping_add(1_442_695_040_888_963_407);
-        F::of(u128::from(self.state >> 32))
+        self.state >> 32
     }
 
     /// An equation in so many variables.
-    fn equation<F: Field>(&mut self, alloc: Global, variables: u32) -> Result<Sparse<F>, Stop> {
-        let mut terms = Vec::new(alloc);
+    fn equation(&mut self, alloc: Global, variables: u32) -> Result<Draft, Stop> {
+        let mut draft = Vec::new(alloc);
         for variable in 0..variables {
-            push(&mut terms, self.draw::<F>(), &[variable])?;
+            push(&mut draft, self.draw(), &[variable])?;
         }
-        push(&mut terms, self.draw::<F>(), &[])?;
-        Ok(Poly::from_terms(alloc, terms.as_slice())?)
+        push(&mut draft, self.draw(), &[])?;
+        Ok(draft)
     }
-}
-
-/// Random linear equations, as many as variables.
-pub fn linear<F: Field>(alloc: Global, size: u32) -> Result<System<F>, Stop> {
-    let mut residues = Residues { state: 1 };
-    let mut generators = Vec::new(alloc);
-    for _ in 0..size {
-        generators.push(residues.equation(alloc, size)?)?;
-    }
-    Ok(System {
-        generators,
-        differences: Vec::new(alloc),
-    })
-}
-
-/// Bits whose sum with the weights 1, 2, 4 and so on is a constant.
-pub fn bits<F: Field>(alloc: Global, size: u32) -> Result<System<F>, Stop> {
-    let mut generators = Vec::new(alloc);
-    let mut terms = Vec::new(alloc);
-    for bit in 0..size {
-        let factor = variable::<F>(alloc, bit)?;
-        generators.push(definition(alloc, bit, &factor, &factor)?)?;
-        push(&mut terms, F::of(2).pow(u64::from(bit)), &[bit])?;
-    }
-    push(&mut terms, F::of(SUM).neg(), &[])?;
-    generators.push(Poly::from_terms(alloc, terms.as_slice())?)?;
-    Ok(System {
-        generators,
-        differences: Vec::new(alloc),
-    })
 }

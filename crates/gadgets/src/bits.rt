@@ -1,95 +1,157 @@
-//! Bits: sums, selections, exclusive ors and an adder.
-use crate::script::{declare, declare_bit, power_of_two};
-use std::io;
+//! Bits: sums, selections, exclusive ors and an adder. A sum adds the powers of 2 of the places of bits, step by step.
+use crate::script::Part;
 
-/// The sum of bits times the powers of 2 of their places, step by step in constants of another letter.
-fn sum_up<R: Print>(rt: &R, bit: &str, sum: &str, size: u32) -> io::Result<()> {
-    declare(rt, sum, 0)?;
-    println!(rt; "(assert (= {sum}0 (as ff0 F)))")?;
-    for i in 0..size {
-        let j = i.wrapping_add(1);
-        let power = power_of_two(i);
-        declare(rt, sum, j)?;
-        println!(rt; "(assert (= {sum}{j} (ff.add {sum}{i} (ff.mul (as ff{power} F) {bit}{i}))))")?;
-    }
-    Ok(())
-}
+/// Bits a.
+const BITS_A: Part = Part::Each(
+    "(declare-const a{i} F)
+(assert (= (ff.mul a{i} a{i}) a{i}))
+",
+);
 
-fn declare_bits<R: Print>(rt: &R, letter: &str, size: u32) -> io::Result<()> {
-    for i in 0..size {
-        declare_bit(rt, letter, i)?;
-    }
-    Ok(())
-}
+/// Bits b.
+const BITS_B: Part = Part::Each(
+    "(declare-const b{i} F)
+(assert (= (ff.mul b{i} b{i}) b{i}))
+",
+);
 
-/// Bits whose sum is the power of 2 after their greatest sum, or just that sum.
-pub fn range<R: Print>(rt: &R, size: u32, past: bool) -> io::Result<()> {
-    declare_bits(rt, "b", size)?;
-    sum_up(rt, "b", "s", size)?;
-    let power = power_of_two(size);
-    let value = if past { power } else { power.wrapping_sub(1) };
-    println!(rt; "(assert (= s{size} (as ff{value} F)))")
-}
+/// The sum s of no bits.
+const NO_SUM: Part = Part::Once(
+    "(declare-const s0 F)
+(assert (= s0 (as ff0 F)))
+",
+);
+
+/// The sum s of one more of the bits b.
+const SUM_OF_B: Part = Part::Each(
+    "(declare-const s{i+1} F)
+(assert (= s{i+1} (ff.add s{i} (ff.mul (as ff{2^i} F) b{i}))))
+",
+);
+
+/// The sum s of one more of the bits a.
+const SUM_OF_A: Part = Part::Each(
+    "(declare-const s{i+1} F)
+(assert (= s{i+1} (ff.add s{i} (ff.mul (as ff{2^i} F) a{i}))))
+",
+);
+
+/// The sum t of no bits.
+const NO_OTHER_SUM: Part = Part::Once(
+    "(declare-const t0 F)
+(assert (= t0 (as ff0 F)))
+",
+);
+
+/// The sum t of one more of the bits b.
+const OTHER_SUM_OF_B: Part = Part::Each(
+    "(declare-const t{i+1} F)
+(assert (= t{i+1} (ff.add t{i} (ff.mul (as ff{2^i} F) b{i}))))
+",
+);
+
+/// Bits whose sum is the power of 2 after their greatest sum.
+pub const RANGE: &[Part] = &[
+    BITS_B,
+    NO_SUM,
+    SUM_OF_B,
+    Part::Once("(assert (= s{n} (as ff{2^n} F)))\n"),
+];
+
+/// Bits whose sum is their greatest.
+pub const OPEN: &[Part] = &[
+    BITS_B,
+    NO_SUM,
+    SUM_OF_B,
+    Part::Once("(assert (= s{n} (as ff{2^n-1} F)))\n"),
+];
 
 /// Two lists of bits with one sum whose first bits differ.
-pub fn unique<R: Print>(rt: &R, size: u32) -> io::Result<()> {
-    declare_bits(rt, "a", size)?;
-    declare_bits(rt, "b", size)?;
-    sum_up(rt, "a", "s", size)?;
-    sum_up(rt, "b", "t", size)?;
-    println!(rt; "(assert (= s{size} t{size}))")?;
-    println!(rt; "(assert (not (= a0 b0)))")
-}
+pub const UNIQUE: &[Part] = &[
+    BITS_A,
+    BITS_B,
+    NO_SUM,
+    SUM_OF_A,
+    NO_OTHER_SUM,
+    OTHER_SUM_OF_B,
+    Part::Once(
+        "(assert (= s{n} t{n}))
+(assert (not (= a0 b0)))
+",
+    ),
+];
 
 /// Selections by bits in a chain, whose answer is none of the inputs.
-pub fn select<R: Print>(rt: &R, size: u32) -> io::Result<()> {
-    declare(rt, "y", 0)?;
-    for i in 0..size {
-        let j = i.wrapping_add(1);
-        declare_bit(rt, "b", i)?;
-        declare(rt, "x", i)?;
-        declare(rt, "y", j)?;
-        println!(rt; "(assert (= y{j} (ff.add y{i} (ff.mul b{i} (ff.add x{i} (ff.neg y{i}))))))")?;
-    }
-    println!(rt; "(assert (not (= y{size} y0)))")?;
-    for i in 0..size {
-        println!(rt; "(assert (not (= y{size} x{i})))")?;
-    }
-    Ok(())
-}
+pub const SELECT: &[Part] = &[
+    Part::Once("(declare-const y0 F)\n"),
+    Part::Each(
+        "(declare-const b{i} F)
+(assert (= (ff.mul b{i} b{i}) b{i}))
+(declare-const x{i} F)
+(declare-const y{i+1} F)
+(assert (= y{i+1} (ff.add y{i} (ff.mul b{i} (ff.add x{i} (ff.neg y{i}))))))
+",
+    ),
+    Part::Once("(assert (not (= y{n} y0)))\n"),
+    Part::Each("(assert (not (= y{n} x{i})))\n"),
+];
 
 /// Exclusive ors of bits in a chain, whose answer is no bit.
-pub fn xor<R: Print>(rt: &R, size: u32) -> io::Result<()> {
-    declare_bit(rt, "y", 0)?;
-    for i in 0..size {
-        let j = i.wrapping_add(1);
-        declare_bit(rt, "b", i)?;
-        declare(rt, "y", j)?;
-        println!(rt; "(assert (= y{j} (ff.add y{i} b{i} (ff.mul (as ff-2 F) y{i} b{i}))))")?;
-    }
-    println!(rt; "(assert (not (= y{size} (as ff0 F))))")?;
-    println!(rt; "(assert (not (= y{size} (as ff1 F))))")
-}
+pub const XOR: &[Part] = &[
+    Part::Once(
+        "(declare-const y0 F)
+(assert (= (ff.mul y0 y0) y0))
+",
+    ),
+    Part::Each(
+        "(declare-const b{i} F)
+(assert (= (ff.mul b{i} b{i}) b{i}))
+(declare-const y{i+1} F)
+(assert (= y{i+1} (ff.add y{i} b{i} (ff.mul (as ff-2 F) y{i} b{i}))))
+",
+    ),
+    Part::Once(
+        "(assert (not (= y{n} (as ff0 F))))
+(assert (not (= y{n} (as ff1 F))))
+",
+    ),
+];
 
 /// An adder with carries from bit to bit, which does not agree with the sum of the numbers.
-pub fn adder<R: Print>(rt: &R, size: u32) -> io::Result<()> {
-    declare_bits(rt, "a", size)?;
-    declare_bits(rt, "b", size)?;
-    declare_bits(rt, "d", size)?;
-    declare(rt, "c", 0)?;
-    println!(rt; "(assert (= c0 (as ff0 F)))")?;
-    for i in 0..size {
-        let j = i.wrapping_add(1);
-        declare_bit(rt, "c", j)?;
-        println!(rt;
-            "(assert (= (ff.add d{i} (ff.mul (as ff2 F) c{j})) (ff.add a{i} b{i} c{i})))"
-        )?;
-    }
-    sum_up(rt, "a", "s", size)?;
-    sum_up(rt, "b", "t", size)?;
-    sum_up(rt, "d", "u", size)?;
-    let power = power_of_two(size);
-    println!(rt;
-        "(assert (not (= (ff.add s{size} t{size}) (ff.add u{size} (ff.mul (as ff{power} F) c{size})))))"
-    )
-}
+pub const ADDER: &[Part] = &[
+    BITS_A,
+    BITS_B,
+    Part::Each(
+        "(declare-const d{i} F)
+(assert (= (ff.mul d{i} d{i}) d{i}))
+",
+    ),
+    Part::Once(
+        "(declare-const c0 F)
+(assert (= c0 (as ff0 F)))
+",
+    ),
+    Part::Each(
+        "(declare-const c{i+1} F)
+(assert (= (ff.mul c{i+1} c{i+1}) c{i+1}))
+(assert (= (ff.add d{i} (ff.mul (as ff2 F) c{i+1})) (ff.add a{i} b{i} c{i})))
+",
+    ),
+    NO_SUM,
+    SUM_OF_A,
+    NO_OTHER_SUM,
+    OTHER_SUM_OF_B,
+    Part::Once(
+        "(declare-const u0 F)
+(assert (= u0 (as ff0 F)))
+",
+    ),
+    Part::Each(
+        "(declare-const u{i+1} F)
+(assert (= u{i+1} (ff.add u{i} (ff.mul (as ff{2^i} F) d{i}))))
+",
+    ),
+    Part::Once(
+        "(assert (not (= (ff.add s{n} t{n}) (ff.add u{n} (ff.mul (as ff{2^n} F) c{n})))))\n",
+    ),
+];

@@ -1,113 +1,88 @@
-//! Rounds of permutations, and linear equations.
-ghost use Rattle.std.specs.Prelude.{◌≤◌};
+//! Rounds of permutations of exponent 7, with small numbers that differ as their constants.
+use crate::script::Part;
 
-use crate::script::declare;
-use std::io;
+/// One round on two states of width 3: each lane with a constant to the 7th power, then a mix of the lanes.
+const ROUND: Part = Part::Each(
+    "(declare-const s{3i} F)
+(assert (= s{3i} (let ((u (ff.add x{3i} (as ff{3i+1} F)))) (ff.mul u u u u u u u))))
+(declare-const s{3i+1} F)
+(assert (= s{3i+1} (let ((u (ff.add x{3i+1} (as ff{3i+2} F)))) (ff.mul u u u u u u u))))
+(declare-const s{3i+2} F)
+(assert (= s{3i+2} (let ((u (ff.add x{3i+2} (as ff{3i+3} F)))) (ff.mul u u u u u u u))))
+(declare-const x{3i+3} F)
+(assert (= x{3i+3} (ff.add s{3i} s{3i+1} s{3i+2} s{3i})))
+(declare-const x{3i+4} F)
+(assert (= x{3i+4} (ff.add s{3i} s{3i+1} s{3i+2} s{3i+1})))
+(declare-const x{3i+5} F)
+(assert (= x{3i+5} (ff.add s{3i} s{3i+1} s{3i+2} s{3i+2})))
+(declare-const t{3i} F)
+(assert (= t{3i} (let ((u (ff.add y{3i} (as ff{3i+1} F)))) (ff.mul u u u u u u u))))
+(declare-const t{3i+1} F)
+(assert (= t{3i+1} (let ((u (ff.add y{3i+1} (as ff{3i+2} F)))) (ff.mul u u u u u u u))))
+(declare-const t{3i+2} F)
+(assert (= t{3i+2} (let ((u (ff.add y{3i+2} (as ff{3i+3} F)))) (ff.mul u u u u u u u))))
+(declare-const y{3i+3} F)
+(assert (= y{3i+3} (ff.add t{3i} t{3i+1} t{3i+2} t{3i})))
+(declare-const y{3i+4} F)
+(assert (= y{3i+4} (ff.add t{3i} t{3i+1} t{3i+2} t{3i+1})))
+(declare-const y{3i+5} F)
+(assert (= y{3i+5} (ff.add t{3i} t{3i+1} t{3i+2} t{3i+2})))
+",
+);
 
-/// A constant of a round, as small numbers that differ.
-fn round_constant(round: u32, lane: u32) -> u32 {
-    round.wrapping_mul(3).wrapping_add(lane).wrapping_add(1)
-}
+/// The first outputs differ.
+const OUTPUTS: Part = Part::Once("(assert (not (= x{3n} y{3n})))\n");
 
-/// One round on a state of width 3: each lane with a constant to the 7th power, then a mix of the lanes.
-fn round<R: Print>(rt: &R, x: &str, t: &str, number: u32) -> io::Result<()> {
-    let at = number.wrapping_mul(3);
-    let next = at.wrapping_add(3);
-    for lane in 0..3u32 {
-        let (i, c) = (at.wrapping_add(lane), round_constant(number, lane));
-        declare(rt, t, i)?;
-        println!(rt;
-            "(assert (= {t}{i} (let ((u (ff.add {x}{i} (as ff{c} F)))) (ff.mul u u u u u u u))))"
-        )?;
-    }
-    for lane in 0..3u32 {
-        let (i, own) = (next.wrapping_add(lane), at.wrapping_add(lane));
-        let (a, b, c) = (at, at.wrapping_add(1), at.wrapping_add(2));
-        declare(rt, x, i)?;
-        println!(rt; "(assert (= {x}{i} (ff.add {t}{a} {t}{b} {t}{c} {t}{own})))")?;
-    }
-    Ok(())
-}
+/// Two copies of a permutation of width 3 with equal inputs whose first outputs differ.
+pub const PERMUTATION: &[Part] = &[
+    Part::Once(
+        "(declare-const x0 F)
+(declare-const y0 F)
+(assert (= x0 y0))
+(declare-const x1 F)
+(declare-const y1 F)
+(assert (= x1 y1))
+(declare-const x2 F)
+(declare-const y2 F)
+(assert (= x2 y2))
+",
+    ),
+    ROUND,
+    OUTPUTS,
+];
 
-/// Two copies of a permutation of width 3 with equal inputs, all or but one, whose first outputs differ.
-pub fn permutation<R: Print>(rt: &R, size: u32, all: bool) -> io::Result<()> {
-    for lane in 0..3u32 {
-        declare(rt, "x", lane)?;
-        declare(rt, "y", lane)?;
-        if all || lane > 0 {
-            println!(rt; "(assert (= x{lane} y{lane}))")?;
-        }
-    }
-    for number in 0..size {
-        round(rt, "x", "s", number)?;
-        round(rt, "y", "t", number)?;
-    }
-    let last = size.wrapping_mul(3);
-    println!(rt; "(assert (not (= x{last} y{last})))")
-}
+/// The same, where the first inputs may differ.
+pub const OPEN: &[Part] = &[
+    Part::Once(
+        "(declare-const x0 F)
+(declare-const y0 F)
+(declare-const x1 F)
+(declare-const y1 F)
+(assert (= x1 y1))
+(declare-const x2 F)
+(declare-const y2 F)
+(assert (= x2 y2))
+",
+    ),
+    ROUND,
+    OUTPUTS,
+];
 
 /// Two copies of rounds of width 1 with equal inputs whose outputs differ.
-pub fn mimc<R: Print>(rt: &R, size: u32) -> io::Result<()> {
-    declare(rt, "k", 0)?;
-    declare(rt, "x", 0)?;
-    declare(rt, "y", 0)?;
-    println!(rt; "(assert (= x0 y0))")?;
-    for i in 0..size {
-        let (j, c) = (i.wrapping_add(1), round_constant(i, 0));
-        declare(rt, "x", j)?;
-        declare(rt, "y", j)?;
-        println!(rt;
-            "(assert (= x{j} (let ((u (ff.add x{i} k0 (as ff{c} F)))) (ff.mul u u u u u u u))))"
-        )?;
-        println!(rt;
-            "(assert (= y{j} (let ((u (ff.add y{i} k0 (as ff{c} F)))) (ff.mul u u u u u u u))))"
-        )?;
-    }
-    println!(rt; "(assert (not (= x{size} y{size})))")
-}
-
-/// The coefficient of a constant in an equation, from 1 to 1,000.
-fn coefficient(row: u32, column: u32) -> u64
-    ensures { (1 ≤ result) × (result ≤ 1000) }
-{
-    let seed = u64::from(row)
-        .wrapping_mul(7919)
-        .wrapping_add(u64::from(column).wrapping_mul(104_729));
-    seed.wrapping_mul(6_364_136_223_846_793_005)
-        .wrapping_add(1_442_695_040_888_963_407)
-        / 4_294_967_296
-        % 1000
-        + 1
-}
-
-/// A sum of all constants with the coefficients of a row, or with the sum of all rows' coefficients.
-fn combination<R: Print>(rt: &R, size: u32, first: u32, end: u32) -> io::Result<()> {
-    print!(rt; "(ff.add (as ff0 F)")?;
-    for column in 0..size {
-        let mut c: u64 = 0;
-        for row in first..end {
-            c = c.wrapping_add(coefficient(row, column));
-        }
-        print!(rt; " (ff.mul (as ff{c} F) x{column})")?;
-    }
-    print!(rt; ")")
-}
-
-/// As many linear equations as constants, and their sum with another value.
-pub fn linear<R: Print>(rt: &R, size: u32, contradicted: bool) -> io::Result<()> {
-    for i in 0..size {
-        declare(rt, "x", i)?;
-    }
-    for row in 0..size {
-        print!(rt; "(assert (= ")?;
-        combination(rt, size, row, row.wrapping_add(1))?;
-        println!(rt; " (as ff1 F)))")?;
-    }
-    if contradicted {
-        print!(rt; "(assert (= ")?;
-        combination(rt, size, 0, size)?;
-        let other = u64::from(size).wrapping_add(1);
-        println!(rt; " (as ff{other} F)))")?;
-    }
-    Ok(())
-}
+pub const MIMC: &[Part] = &[
+    Part::Once(
+        "(declare-const k0 F)
+(declare-const x0 F)
+(declare-const y0 F)
+(assert (= x0 y0))
+",
+    ),
+    Part::Each(
+        "(declare-const x{i+1} F)
+(declare-const y{i+1} F)
+(assert (= x{i+1} (let ((u (ff.add x{i} k0 (as ff{3i+1} F)))) (ff.mul u u u u u u u))))
+(assert (= y{i+1} (let ((u (ff.add y{i} k0 (as ff{3i+1} F)))) (ff.mul u u u u u u u))))
+",
+    ),
+    Part::Once("(assert (not (= x{n} y{n})))\n"),
+];

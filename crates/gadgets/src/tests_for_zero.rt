@@ -1,68 +1,93 @@
-//! Tests for zero, inverses and square roots.
-use crate::script::declare;
-use std::io;
+//! Tests for zero, inverses and square roots. In a test for zero the answer is 1 where x is 0, else 0, with a hint v for the
+//! inverse of x.
+use crate::script::Part;
 
-/// A test for zero: the answer is 1 where x is 0, else 0, with a hint v for the inverse of x.
-fn test<R: Print>(rt: &R, x: &str, v: &str, i: u32, bound: bool) -> io::Result<()> {
-    let j = i.wrapping_add(1);
-    declare(rt, v, i)?;
-    declare(rt, x, j)?;
-    println!(rt; "(assert (= (ff.mul {x}{i} {v}{i}) (ff.add (as ff1 F) (ff.neg {x}{j}))))")?;
-    if bound {
-        println!(rt; "(assert (= (ff.mul {x}{i} {x}{j}) (as ff0 F)))")?;
-    }
-    Ok(())
-}
+/// Tests for zero in a chain, and an answer that is no bit.
+pub const BIT: &[Part] = &[
+    Part::Once("(declare-const x0 F)\n"),
+    Part::Each(
+        "(declare-const v{i} F)
+(declare-const x{i+1} F)
+(assert (= (ff.mul x{i} v{i}) (ff.add (as ff1 F) (ff.neg x{i+1}))))
+(assert (= (ff.mul x{i} x{i+1}) (as ff0 F)))
+",
+    ),
+    Part::Once(
+        "(assert (not (= x{n} (as ff0 F))))
+(assert (not (= x{n} (as ff1 F))))
+",
+    ),
+];
 
-/// Tests for zero in a chain, and an answer that is no bit. The last test may lack the equation that binds its answer.
-pub fn bit<R: Print>(rt: &R, size: u32, bound: bool) -> io::Result<()> {
-    declare(rt, "x", 0)?;
-    for i in 0..size {
-        let last = i.wrapping_add(1) == size;
-        test(rt, "x", "v", i, bound || !last)?;
-    }
-    println!(rt; "(assert (not (= x{size} (as ff0 F))))")?;
-    println!(rt; "(assert (not (= x{size} (as ff1 F))))")
-}
+/// The same, where the last test lacks the equation that binds its answer.
+pub const OPEN: &[Part] = &[
+    Part::Once("(declare-const x0 F)\n"),
+    Part::AllButLast(
+        "(declare-const v{i} F)
+(declare-const x{i+1} F)
+(assert (= (ff.mul x{i} v{i}) (ff.add (as ff1 F) (ff.neg x{i+1}))))
+(assert (= (ff.mul x{i} x{i+1}) (as ff0 F)))
+",
+    ),
+    Part::Last(
+        "(declare-const v{i} F)
+(declare-const x{i+1} F)
+(assert (= (ff.mul x{i} v{i}) (ff.add (as ff1 F) (ff.neg x{i+1}))))
+",
+    ),
+    Part::Once(
+        "(assert (not (= x{n} (as ff0 F))))
+(assert (not (= x{n} (as ff1 F))))
+",
+    ),
+];
 
 /// Two chains with one input whose answers differ.
-pub fn twice<R: Print>(rt: &R, size: u32) -> io::Result<()> {
-    declare(rt, "x", 0)?;
-    declare(rt, "y", 0)?;
-    println!(rt; "(assert (= x0 y0))")?;
-    for i in 0..size {
-        test(rt, "x", "v", i, true)?;
-        test(rt, "y", "w", i, true)?;
-    }
-    println!(rt; "(assert (not (= x{size} y{size})))")
-}
+pub const TWICE: &[Part] = &[
+    Part::Once(
+        "(declare-const x0 F)
+(declare-const y0 F)
+(assert (= x0 y0))
+",
+    ),
+    Part::Each(
+        "(declare-const v{i} F)
+(declare-const x{i+1} F)
+(assert (= (ff.mul x{i} v{i}) (ff.add (as ff1 F) (ff.neg x{i+1}))))
+(assert (= (ff.mul x{i} x{i+1}) (as ff0 F)))
+(declare-const w{i} F)
+(declare-const y{i+1} F)
+(assert (= (ff.mul y{i} w{i}) (ff.add (as ff1 F) (ff.neg y{i+1}))))
+(assert (= (ff.mul y{i} y{i+1}) (as ff0 F)))
+",
+    ),
+    Part::Once("(assert (not (= x{n} y{n})))\n"),
+];
 
 /// Numbers with two different inverses, of which one number has to have them.
-pub fn inverse<R: Print>(rt: &R, size: u32) -> io::Result<()> {
-    for i in 0..size {
-        declare(rt, "x", i)?;
-        declare(rt, "y", i)?;
-        declare(rt, "z", i)?;
-        println!(rt; "(assert (= (ff.mul x{i} y{i}) (as ff1 F)))")?;
-        println!(rt; "(assert (= (ff.mul x{i} z{i}) (as ff1 F)))")?;
-    }
-    print!(rt; "(assert (or false")?;
-    for i in 0..size {
-        print!(rt; " (not (= y{i} z{i}))")?;
-    }
-    println!(rt; "))")
-}
+pub const INVERSE: &[Part] = &[
+    Part::Each(
+        "(declare-const x{i} F)
+(declare-const y{i} F)
+(declare-const z{i} F)
+(assert (= (ff.mul x{i} y{i}) (as ff1 F)))
+(assert (= (ff.mul x{i} z{i}) (as ff1 F)))
+",
+    ),
+    Part::Once("(assert (or false"),
+    Part::Each(" (not (= y{i} z{i}))"),
+    Part::Once("))\n"),
+];
 
 /// Numbers with one square that are neither equal nor each other's negation.
-pub fn square<R: Print>(rt: &R, size: u32) -> io::Result<()> {
-    for i in 0..size {
-        declare(rt, "x", i)?;
-        declare(rt, "y", i)?;
-        println!(rt; "(assert (= (ff.mul x{i} x{i}) (ff.mul y{i} y{i})))")?;
-    }
-    print!(rt; "(assert (or false")?;
-    for i in 0..size {
-        print!(rt; " (and (not (= x{i} y{i})) (not (= x{i} (ff.neg y{i}))))")?;
-    }
-    println!(rt; "))")
-}
+pub const SQUARE: &[Part] = &[
+    Part::Each(
+        "(declare-const x{i} F)
+(declare-const y{i} F)
+(assert (= (ff.mul x{i} x{i}) (ff.mul y{i} y{i})))
+",
+    ),
+    Part::Once("(assert (or false"),
+    Part::Each(" (and (not (= x{i} y{i})) (not (= x{i} (ff.neg y{i}))))"),
+    Part::Once("))\n"),
+];

@@ -1,5 +1,5 @@
 use Rattle.std.proofs.Common.{◌≡◌, false}
-use Rattle.bench.proofs.elaboration.counts.Given as goal
+use Rattle.bench.proofs.elaboration.take_pieces.Given as goal
 
 abbrev pub invariant-pieces : goal.invariant-pieces
 invariant-pieces l = l.lexer.finished ≡ false
