@@ -1,18 +1,14 @@
 -- What the clauses of a polynomial's operations say of values, refusals and zero.
-use Rattle.std.proofs.Common.{◌≡◌, ℕ, suc, ◌+◌, ◌-◌, ◌*◌, ◌%◌, ◌<◌, ◌↔◌, true, eqb, eq-eqb, [], ◌∷◌, ◌++◌, length, refl, sym, ap, ◌∙◌, append-nil, inl, inr, arith, mul-one, zero-mul, eqb-true, mod-eq_of_lt, Result, Ok, Err, IfErr, IsErrAnd, IsErrOf}
+use Rattle.std.proofs.Common.{◌≡◌, ℕ, suc, ◌+◌, ◌-◌, ◌*◌, ◌%◌, ◌<◌, ◌≤◌, ◌↔◌, true, eqb, eq-eqb, [], ◌∷◌, ◌++◌, length, refl, sym, ap, ◌∙◌, subst, append-nil, length-append, inl, inr, arith, mul-one, zero-mul, eqb-true, mod-eq_of_lt, Result, Ok, Err, IfOk}
 use Rattle.std.proofs.lemmas.Nat.{mul-mod_first, mul-mod_second}
 use Rattle.std.proofs.Math.Nat.{mod_self, mul_assoc}
 use Rattle.ffc_field.proofs.ModularLaws.{add_mod-neg, neg_mod-only}
 use Rattle.ffc_field.specs.Modular.{add_mod, sub_mod, mul_mod, neg_mod}
 use Rattle.ffc_ring.specs.Monomial.{Monomial, mono_value, mono_mul}
-use Rattle.ffc_ring.specs.Polynomial.{Terms, written, coefficient, SamePolynomial, term_product, product, scaled, difference, value_sum, poly_value, PassesDegree}
+use Rattle.ffc_ring.specs.Polynomial.{Terms, written, coefficient, SamePolynomial, term_product, product, scaled, difference, value_sum, poly_value, PassesDegree, PassesTerms}
 use Rattle.ffc_ring.proofs.PolynomialLemmas.{weighted, weighted-term_product, SamePolynomial-from_weighted, one_value, poly_value-append, poly_value-product, poly_value-difference, value_sum-term_product, same_sums, coefficient-scaled, cases_monomial, written-at, written-off, negated_mod}
-use Rattle.ffc_poly.specs.declared.stop.PolyStop.{PolyStop}
-use Rattle.ffc_poly.specs.declared.stop.PolyStop.TheVariants.{DegreeOver, TermsOver, Memory}
-use Rattle.ffc_poly.specs.Ordered.{multiplied, times}
-use Rattle.ffc_poly.proofs.Merging.{weighted-multiplied}
 use Rattle.ffc_poly.proofs.ProductLemmas.{SamePolynomial-scaled_one}
-use Rattle.ffc_poly.proofs.Coefficients.{coefficient-none}
+use Rattle.ffc_poly.proofs.Coefficients.{coefficient-none, PassesTerms-length, PassesTerms-same}
 
 -- ---- values
 
@@ -35,15 +31,15 @@ value_of_scaled p c r a same point = value_of_term p c [] r a same point ∙ ap 
 
 -- ---- sums and differences by a factor
 
-pub sum_by_one : (p one : ℕ) (a b : Terms) → one ≡ 1 → SamePolynomial p (a ++ scaled one b) (a ++ b)
-sum_by_one p one a b e =
-    same_sums p a a (scaled one b) b (λ m. refl) (λ m. ap (λ k. written (scaled k b) m % p) e ∙ SamePolynomial-scaled_one p b m)
+pub sum_by_one : (p one : ℕ) (a b : Terms) → 1 < p → one ≡ 1 % p → SamePolynomial p (a ++ scaled one b) (a ++ b)
+sum_by_one p one a b h e =
+    same_sums p a a (scaled one b) b (λ m. refl)
+    (λ m. ap (λ k. written (scaled k b) m % p) (e ∙ mod-eq_of_lt h) ∙ SamePolynomial-scaled_one p b m)
 
-pub minus_one : (p one minus : ℕ) → 1 < p → one ≡ 1 % p → minus ≡ neg_mod p one → minus ≡ p - 1
-minus_one p one minus h e f = f ∙ ap (neg_mod p) (e ∙ mod-eq_of_lt h) ∙ mod-eq_of_lt (omega arith)
-
-pub difference_by_factor : (p k : ℕ) (a b : Terms) → k ≡ p - 1 → SamePolynomial p (a ++ scaled k b) (difference p a b)
-difference_by_factor p k a b e m = ap (λ j. written (a ++ scaled j b) m % p) e
+pub difference_by_minus_one : (p one minus : ℕ) (a b : Terms) → 1 < p → one ≡ 1 % p → minus ≡ neg_mod p one → SamePolynomial p (a ++ scaled minus b) (difference p a b)
+difference_by_minus_one p one minus a b h e f m =
+    let is : minus ≡ p - 1 = f ∙ ap (neg_mod p) (e ∙ mod-eq_of_lt h) ∙ mod-eq_of_lt (omega arith) in
+    ap (λ j. written (a ++ scaled j b) m % p) is
 
 -- ---- zero
 
@@ -51,9 +47,6 @@ pub nothing_times : (p c : ℕ) (m : Monomial) (ts : Terms) → c ≡ 0 → Same
 nothing_times p c m ts e =
     SamePolynomial-from_weighted p [] (term_product c m ts)
     (λ g. ap (λ k. k % p) (sym (weighted-term_product g c m ts ∙ ap (λ k. k * weighted (λ n. g (mono_mul m n)) ts) e ∙ zero-mul (weighted (λ n. g (mono_mul m n)) ts))))
-
-pub times_nothing : (p c : ℕ) (m : Monomial) (ts : Terms) → ts ≡ [] → SamePolynomial p [] (term_product c m ts)
-times_nothing p c m ts e n = ap (λ k. written (term_product c m k) n % p) (sym e)
 
 pub nothing_product : (p : ℕ) (a b : Terms) → a ≡ [] → SamePolynomial p [] (product a b)
 nothing_product p a b e n = ap (λ k. written (product k b) n % p) (sym e)
@@ -78,35 +71,21 @@ pub zero_test : (ts : Terms) (n : ℕ) → n ≡ length ts → (eqb n 0 ≡ true
 zero_test [] n e = (λ _. refl, λ _. eq-eqb n 0 e)
 zero_test (t ∷ ts) n e = (λ h. absurd (omega (arith, eqb-true n 0 h)), λ h. absurd (omega (arith, ap length h)))
 
--- ---- refusals
+-- ---- values given
 
-pub no_degree : {T : Type 0} (r : Result T PolyStop) (P : Type 0) → IfErr r (λ d. (d ≡ TermsOver) × P) → IsErrOf r DegreeOver → ⊥
-no_degree (Ok x) P h k = absurd (cc k)
-no_degree (Err d) P h k = absurd (cc (k, h.0))
+-- the value given has each property of what it equals
+pub IfOk-from_value : {T E : Type 0} (r : Result T E) (x : T) (P : T → Type 0) → IfOk r (λ v. v ≡ x) → P x → IfOk r P
+IfOk-from_value (Ok v) x P e h = subst P (sym e) h
+IfOk-from_value (Err d) x P e h = tt
 
-pub no_degree_ok : {T : Type 0} (x : T) → IsErrOf {E = PolyStop} (Ok x) DegreeOver → ⊥
-no_degree_ok x k = absurd (cc k)
+-- the value given is each polynomial that is the same
+pub IfOk-same : {E : Type 0} (p : ℕ) (r : Result Terms E) (x y : Terms) → SamePolynomial p x y → IfOk r (λ v. SamePolynomial p v x) → IfOk r (λ v. SamePolynomial p v y)
+IfOk-same p (Ok v) x y same h = λ m. h m ∙ same m
+IfOk-same p (Err d) x y same h = tt
 
-pub no_degree_memory : {T : Type 0} (r : Result T PolyStop) → IsErrAnd r (λ d. d ≡ Memory) → IsErrOf r DegreeOver → ⊥
-no_degree_memory (Ok x) h k = absurd (cc k)
-no_degree_memory (Err d) h k = absurd (cc (k, h))
+-- ---- multiples
 
--- ---- c times the terms
-
-pub length-times : (p c : ℕ) (m : Monomial) (ts : Terms) → length (times p c m ts) ≡ length ts
-length-times p c m [] = refl
-length-times p c m (t ∷ ts) = ap suc (length-times p c m ts)
-
-pub length-multiplied : (p c : ℕ) (ts : Terms) → length (multiplied p c ts) ≡ length ts
-length-multiplied p c [] = refl
-length-multiplied p c (t ∷ ts) = ap suc (length-multiplied p c ts)
-
-pub SamePolynomial-multiplied : (p c : ℕ) (ts : Terms) → SamePolynomial p (multiplied p c ts) (scaled c ts)
-SamePolynomial-multiplied p c ts =
-    SamePolynomial-from_weighted p (multiplied p c ts) (scaled c ts)
-    (λ g. weighted-multiplied p c g ts ∙ ap (λ k. k % p) (sym (weighted-term_product g c [] ts)))
-
-pub length-term_product : (c : ℕ) (m : Monomial) (ts : Terms) → length (term_product c m ts) ≡ length ts
+length-term_product : (c : ℕ) (m : Monomial) (ts : Terms) → length (term_product c m ts) ≡ length ts
 length-term_product c m [] = refl
 length-term_product c m (t ∷ ts) = ap suc (length-term_product c m ts)
 
@@ -157,3 +136,9 @@ negation_passes p limit c k m b below also e =
 -- a sum with what is 0
 pub sum_with_nothing : (p : ℕ) (a b : Terms) → SamePolynomial p [] b → SamePolynomial p a (a ++ b)
 sum_with_nothing p a b e n = ap (λ l. written l n % p) (sym (append-nil a)) ∙ same_sums p a a [] b (λ _. refl) e n
+
+-- what is the sum with a multiple of a short list has no more terms than both together
+pub sum_is_short : (p limit c : ℕ) (m : Monomial) (a b all : Terms) → length a + length b ≤ limit → SamePolynomial p all (a ++ term_product c m b) → PassesTerms p limit all → ⊥
+sum_is_short p limit c m a b all few same passes =
+    PassesTerms-length p limit (a ++ term_product c m b) (omega (arith, length-append a (term_product c m b), length-term_product c m b))
+    (PassesTerms-same p limit all (a ++ term_product c m b) same passes)

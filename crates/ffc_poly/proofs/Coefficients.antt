@@ -1,5 +1,5 @@
 -- What the list of an ordered polynomial says of its coefficients.
-use Rattle.std.proofs.Common.{◌≡◌, ◌≢◌, ℕ, zero, suc, get_or, ◌+◌, ◌%◌, ◌<◌, ◌≤◌, cond, List, [], ◌∷◌, ◌++◌, length, refl, sym, ap, ◌∙◌, subst, inl, inr, arith, mod-eq_of_lt, Result, Ok, Err, IfErr, IsErrOf}
+use Rattle.std.proofs.Common.{◌≡◌, ◌≢◌, ℕ, zero, suc, get_or, ◌+◌, ◌%◌, ◌<◌, ◌≤◌, cond, List, [], ◌∷◌, length, refl, sym, ap, ◌∙◌, subst, inl, inr, arith, mod-eq_of_lt}
 use Rattle.std.proofs.Math.Nat.{zero-mod}
 use Rattle.std.proofs.lemmas.Bool.{cond-true, cond-false}
 use Rattle.std.proofs.lemmas.Cmp.{tied_itself}
@@ -43,11 +43,6 @@ pub ProductFits-within : (limit d e : ℕ) (a b : Terms) → AreWithin d a → A
 ProductFits-within limit d e [] b v w h = tt
 ProductFits-within limit d e (t ∷ a) b v w h = (RowFits-within limit e t.1 b w (omega (arith, v.0)), ProductFits-within limit d e a b v.1 w h)
 
-pub ProductFits-append : (limit : ℕ) (x y b : Terms) → ProductFits limit (x ++ y) b → ProductFits limit x b × ProductFits limit y b
-ProductFits-append limit [] y b h = (tt, h)
-ProductFits-append limit (t ∷ x) y b h =
-    let rest = ProductFits-append limit x y b h.1 in ((h.0, rest.0), rest.1)
-
 pub ProductFits-at : (limit : ℕ) (a b : Terms) (i : ℕ) → ProductFits limit a b → i < length a → RowFits limit (get_or a i (0, [])).1 b
 ProductFits-at limit [] b i h g = absurd (omega arith)
 ProductFits-at limit (t ∷ a) b zero h g = h.0
@@ -57,16 +52,6 @@ pub IsOrdered-at : (p : ℕ) (cmp : Monomial → Monomial → Ordering) (limit :
 IsOrdered-at p cmp limit [] i h g = absurd (omega arith)
 IsOrdered-at p cmp limit (t ∷ a) zero h g = (h.0, h.1)
 IsOrdered-at p cmp limit (t ∷ a) (suc i) h g = IsOrdered-at p cmp limit a i h.5 (omega arith)
-
-IsAbove-front : (cmp : Monomial → Monomial → Ordering) (m : Monomial) (x y : Terms) → IsAbove cmp m (x ++ y) → IsAbove cmp m x
-IsAbove-front cmp m [] y h = tt
-IsAbove-front cmp m (t ∷ x) y h = (h.0, IsAbove-front cmp m x y h.1)
-
-pub IsOrdered-append : (p : ℕ) (cmp : Monomial → Monomial → Ordering) (limit : ℕ) (x y : Terms) → IsOrdered p cmp limit (x ++ y) → IsOrdered p cmp limit x × IsOrdered p cmp limit y
-IsOrdered-append p cmp limit [] y h = (tt, h)
-IsOrdered-append p cmp limit (t ∷ x) y h =
-    let rest = IsOrdered-append p cmp limit x y h.5 in
-    ((h.0, h.1, h.2, h.3, IsAbove-front cmp t.1 x y h.4, rest.0), rest.1)
 
 -- the monomials of a list
 abbrev pub monomials_of : Terms → List Monomial
@@ -112,14 +97,14 @@ IsNoneOf-removed m k (n ∷ ns) h =
     ]
 
 -- the monomials but the first term's have coefficients after it
-removed_behind : (p : ℕ) (all : Terms) (t : ℕ × Monomial) (ts : Terms) (ns : List Monomial) → ((m : Monomial) → coefficient p all m ≢ 0 → coefficient p (t ∷ ts) m ≢ 0) → AreItsMonomials p all ns → AreItsMonomials p ts (removed t.1 ns)
-removed_behind p all t ts [] into d = tt
-removed_behind p all t ts (n ∷ ns) into d =
+removed_after : (p : ℕ) (all : Terms) (t : ℕ × Monomial) (ts : Terms) (ns : List Monomial) → ((m : Monomial) → coefficient p all m ≢ 0 → coefficient p (t ∷ ts) m ≢ 0) → AreItsMonomials p all ns → AreItsMonomials p ts (removed t.1 ns)
+removed_after p all t ts [] into d = tt
+removed_after p all t ts (n ∷ ns) into d =
     elim (cases_monomial n t.1) [
-      | inl here ↦ rw (removed-at t.1 n ns here) (removed_behind p all t ts ns into d.2)
+      | inl here ↦ rw (removed-at t.1 n ns here) (removed_after p all t ts ns into d.2)
       | inr there ↦
           rw (removed-off t.1 n ns there)
-          ((λ e. into n d.0 (coefficient-other p t ts n (λ k. there (sym k)) ∙ e)), IsNoneOf-removed t.1 n ns d.1, removed_behind p all t ts ns into d.2)
+          ((λ e. into n d.0 (coefficient-other p t ts n (λ k. there (sym k)) ∙ e)), IsNoneOf-removed t.1 n ns d.1, removed_after p all t ts ns into d.2)
     ]
 
 -- so many different monomials with coefficients need as many terms
@@ -127,7 +112,7 @@ monomials_no_more : (p : ℕ) (all ts : Terms) (ns : List Monomial) → ((m : Mo
 monomials_no_more p all [] [] into d = omega arith
 monomials_no_more p all [] (n ∷ ns) into d = absurd (into n d.0 (coefficient-none p n))
 monomials_no_more p all (t ∷ ts) ns into d =
-    omega (arith, length-removed p all t.1 ns d, monomials_no_more p ts ts (removed t.1 ns) (λ m h. h) (removed_behind p all t ts ns into d))
+    omega (arith, length-removed p all t.1 ns d, monomials_no_more p ts ts (removed t.1 ns) (λ m h. h) (removed_after p all t ts ns into d))
 
 pub PassesTerms-length : (p limit : ℕ) (ts : Terms) → length ts ≤ limit → PassesTerms p limit ts → ⊥
 PassesTerms-length p limit ts h (ms, long, d) = omega (arith, monomials_no_more p ts ts ms (λ m k. k) d)
@@ -162,8 +147,8 @@ module _ (p : ℕ) (cmp : Monomial → Monomial → Ordering) (laws : IsMonomial
   first_nonzero t ts h e = omega (arith, coefficient-first t ts h, h.0)
 
   -- what has a coefficient after the first term has it in the whole
-  pub behind_nonzero : (t : ℕ × Monomial) (ts : Terms) → IsOrdered p cmp limit (t ∷ ts) → (m : Monomial) → coefficient p ts m ≢ 0 → coefficient p (t ∷ ts) m ≢ 0
-  behind_nonzero t ts h m ne e =
+  pub nonzero_after : (t : ℕ × Monomial) (ts : Terms) → IsOrdered p cmp limit (t ∷ ts) → (m : Monomial) → coefficient p ts m ≢ 0 → coefficient p (t ∷ ts) m ≢ 0
+  nonzero_after t ts h m ne e =
       elim (cases_monomial t.1 m) [
         | inl here ↦ ne (ap (coefficient p ts) (sym here) ∙ coefficient-above t.1 ts h.4)
         | inr there ↦ ne (sym (coefficient-other p t ts m there) ∙ e)
@@ -174,7 +159,7 @@ module _ (p : ℕ) (cmp : Monomial → Monomial → Ordering) (laws : IsMonomial
   monomial_of_degree d [] h e = absurd e
   monomial_of_degree d (t ∷ ts) h (inl e) = (t.1, first_nonzero t ts h, e)
   monomial_of_degree d (t ∷ ts) h (inr e) =
-      let found = monomial_of_degree d ts h.5 e in (found.0, behind_nonzero t ts h found.0 found.1, found.2)
+      let found = monomial_of_degree d ts h.5 e in (found.0, nonzero_after t ts h found.0 found.1, found.2)
 
   pub PassesDegree-reached : (bound d e : ℕ) (a b : Terms) → IsOrdered p cmp limit a → IsOrdered p cmp limit b → HasDegree d a → HasDegree e b → bound < d + e → PassesDegree p bound a b
   PassesDegree-reached bound d e a b v w h k over =
@@ -189,7 +174,7 @@ module _ (p : ℕ) (cmp : Monomial → Monomial → Ordering) (laws : IsMonomial
   its_monomials : (all ts : Terms) → IsOrdered p cmp limit ts → ((m : Monomial) → coefficient p ts m ≢ 0 → coefficient p all m ≢ 0) → AreItsMonomials p all (monomials_of ts)
   its_monomials all [] h into = tt
   its_monomials all (t ∷ ts) h into =
-      (into t.1 (first_nonzero t ts h), none_of_above t.1 ts h.4, its_monomials all ts h.5 (λ m ne. into m (behind_nonzero t ts h m ne)))
+      (into t.1 (first_nonzero t ts h), none_of_above t.1 ts h.4, its_monomials all ts h.5 (λ m ne. into m (nonzero_after t ts h m ne)))
 
   -- a list that is too long passes
   pub PassesTerms-long : (bound : ℕ) (ts all : Terms) → IsOrdered p cmp limit ts → SamePolynomial p ts all → bound < length ts → PassesTerms p bound all
@@ -201,7 +186,7 @@ module _ (p : ℕ) (cmp : Monomial → Monomial → Ordering) (laws : IsMonomial
   monomials_bounded [] all [] into d = omega arith
   monomials_bounded [] all (m ∷ ms) into d = absurd (into m d.0 (coefficient-none p m))
   monomials_bounded (t ∷ ts) all ms into d =
-      let rest : length (removed t.1 ms) ≤ length ts = monomials_bounded ts ts (removed t.1 ms) (λ m ne. ne) (removed_behind p all t ts ms into d) in
+      let rest : length (removed t.1 ms) ≤ length ts = monomials_bounded ts ts (removed t.1 ms) (λ m ne. ne) (removed_after p all t ts ms into d) in
       omega (arith, length-removed p all t.1 ms d)
 
   pub PassesTerms-short : (bound : ℕ) (ts all : Terms) → SamePolynomial p ts all → length ts ≤ bound → PassesTerms p bound all → ⊥
@@ -237,13 +222,6 @@ ProductFits-swap limit a [] h = tt
 ProductFits-swap limit a (t ∷ b) h =
     let column = column_fits limit a t b h in (column.0, ProductFits-swap limit a b column.1)
 
--- ---- refusals
-
--- what one refusal says
-pub err_of : {T E : Type 0} (r : Result T E) (e : E) (P : Type 0) → IfErr r (λ d. (d ≡ e) × P) → IsErrOf r e → P
-err_of (Ok x) e P h k = absurd (cc k)
-err_of (Err d) e P h k = h.1
-
 -- ---- constants
 
 pub degree_zero : (m : Monomial) → IsMonomial m → degree m ≡ 0 → m ≡ []
@@ -267,9 +245,6 @@ module _ (p : ℕ) (cmp : Monomial → Monomial → Ordering) (laws : IsMonomial
 
   pub first_of_constant : (t : ℕ × Monomial) (ts : Terms) → IsOrdered p cmp limit (t ∷ ts) → IsConstant p (t ∷ ts) → degree t.1 ≡ 0
   first_of_constant t ts o h = ap degree (h t.1 (first_nonzero p cmp laws limit t ts o))
-
-  pub IsConstant-zero : IsConstant p []
-  IsConstant-zero m ne = absurd (ne (coefficient-none p m))
 
 -- one term and a term of that degree pass the limit
 pub PassesDegree-reached_term : (p : ℕ) (cmp : Monomial → Monomial → Ordering) → IsMonomialOrder cmp → (limit bound c : ℕ) (m : Monomial) (e : ℕ) (b : Terms) → c ≢ 0 → c < p → IsOrdered p cmp limit b → HasDegree e b → bound < degree m + e → PassesDegree p bound ((c, m) ∷ []) b

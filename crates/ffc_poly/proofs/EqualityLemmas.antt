@@ -1,32 +1,20 @@
 -- Equal polynomials, and the one ordered list of each.
-use Rattle.std.proofs.Common.{◌≡◌, ◌≢◌, ℕ, ◌↔◌, Bool, true, false, not, ◌&&◌, eqb, true≢false, List, [], ◌∷◌, IsTrue, refl, sym, ap, ap₂, ◌∙◌, subst, inl, inr, eqb-true, eq-eqb}
+use Rattle.std.proofs.Common.{◌≡◌, ◌≢◌, ℕ, Bool, true, false, not, true≢false, [], ◌∷◌, refl, sym, ap, ap₂, ◌∙◌, subst, inl, inr, eqb-true, eq-eqb}
 use Rattle.std.proofs.lemmas.Bool.{and_parts, and_from}
-use Rattle.std.proofs.lemmas.Bool.Decides.{same_from_decides, Decides-eqb}
 use Rattle.std.specs.Bool.{Decides}
-use Rattle.std.specs.Cmp.Lexicographic.{pointwise, pointwise_decides}
+use Rattle.std.specs.Cmp.Lexicographic.{pointwise_decides}
 use Rattle.std.specs.declared.cmp.Ordering.{Ordering}
 use Rattle.std.specs.declared.cmp.Ordering.TheVariants.{Greater}
 use Rattle.ffc_ring.specs.Monomial.{Monomial, same_monomial}
 use Rattle.ffc_ring.specs.Polynomial.{Terms, coefficient, SamePolynomial}
 use Rattle.ffc_ring.proofs.PolynomialLemmas.{cases_monomial, same_monomial-true, same_monomial-equal, same_monomial-self}
 use Rattle.ffc_mono.specs.MonomialOrder.{IsMonomialOrder}
-use Rattle.ffc_poly.specs.Ordered.{residues, IsOrdered}
+use Rattle.ffc_poly.specs.Ordered.{IsOrdered}
 use Rattle.ffc_poly.specs.Equality.{same_term, same_terms}
 use Rattle.ffc_poly.proofs.Coefficients.{coefficient-none, coefficient-other, coefficient-above, coefficient-first, first_nonzero, not_itself, IsLeading-first}
 use Rattle.ffc_poly.proofs.Merging.{greater_trans}
 
 -- ---- the test
-
-module _ {F : Type 0} (value : F → ℕ) (test : F → F → Bool) (is : (x y : F) → IsTrue (test x y) ↔ (value x ≡ value y)) where
-  -- the test of the slices is the test of the terms
-  pub pointwise-is_same : (a b : List (F × Monomial)) → pointwise (λ (s t : F × Monomial). test s.0 t.0 && same_monomial s.1 t.1) a b ≡ same_terms (residues value a) (residues value b)
-  pointwise-is_same [] [] = refl
-  pointwise-is_same [] (t ∷ b) = refl
-  pointwise-is_same (s ∷ a) [] = refl
-  pointwise-is_same (s ∷ a) (t ∷ b) =
-      ap₂ (λ x y. (x && same_monomial s.1 t.1) && y)
-      (same_from_decides (test s.0 t.0) (eqb (value s.0) (value t.0)) (is s.0 t.0) (Decides-eqb (value s.0) (value t.0)))
-      (pointwise-is_same a b)
 
 same_term-decides : (s t : ℕ × Monomial) → (same_term s t ≡ true → s ≡ t) × (s ≡ t → same_term s t ≡ true)
 same_term-decides s t = (
@@ -47,7 +35,7 @@ module _ (p : ℕ) (cmp : Monomial → Monomial → Ordering) (laws : IsMonomial
             let none : coefficient p a n ≡ 0 = subst (λ m. coefficient p a m ≡ 0) first (coefficient-above p cmp laws limit s.1 a h.4) in
             let other : coefficient p b n ≡ 0 = subst (λ m. coefficient p b m ≡ 0) (sym here ∙ first) (coefficient-above p cmp laws limit t.1 b g.4) in
             none ∙ sym other
-        | inr behind ↦ sym (coefficient-other p s a n behind) ∙ same n ∙ coefficient-other p t b n (λ e. behind (here ∙ e))
+        | inr off ↦ sym (coefficient-other p s a n off) ∙ same n ∙ coefficient-other p t b n (λ e. off (here ∙ e))
       ]
 
   leads_above : (s t : ℕ × Monomial) (a b : Terms) → IsOrdered p cmp limit (s ∷ a) → IsOrdered p cmp limit (t ∷ b) → s.1 ≢ t.1 → SamePolynomial p (s ∷ a) (t ∷ b) → cmp s.1 t.1 ≡ Greater

@@ -1,5 +1,6 @@
 mod Clauses
 mod Coefficients
+mod Degrees
 mod EqualityLemmas
 mod LeadLemmas
 mod Lists

@@ -1,12 +1,8 @@
 -- Lists of terms over the elements of a field, seen as terms of residues.
-use Rattle.std.proofs.Common.{◌≡◌, ℕ, zero, suc, ◌+◌, ◌<◌, ◌≤◌, List, [], ◌∷◌, ◌++◌, length, get_or, take, drop, refl, sym, ap, ap₂, ◌∙◌, inl, inr, arith, append_assoc, drop-cons, add-one, take-append-drop}
+use Rattle.std.proofs.Common.{◌≡◌, ℕ, zero, suc, ◌+◌, ◌<◌, ◌≤◌, List, [], ◌∷◌, ◌++◌, length, get_or, take, drop, refl, sym, ap, ap₂, ◌∙◌, inl, inr, arith, drop-cons, add-one, take-append-drop}
 use Rattle.ffc_ring.specs.Monomial.{Monomial, degree}
 use Rattle.ffc_ring.specs.Polynomial.{Terms}
 use Rattle.ffc_poly.specs.Ordered.{residues, AreWithin, HasDegree}
-
--- an element pushed is in front of what is left
-pub pushed : {A : Type 0} (out out' : List A) (x : A) (left all : List A) → out' ≡ out ++ x ∷ [] → out ++ (x ∷ left) ≡ all → out' ++ left ≡ all
-pushed out out' x left all e h = ap (λ k. k ++ left) e ∙ simp append_assoc h
 
 -- what is left from a place on begins with the element there
 pub left_at : {A : Type 0} (xs : List A) (i : ℕ) (x : A) → i < length xs → x ≡ get_or xs i x → drop i xs ≡ x ∷ drop (i + 1) xs
@@ -20,11 +16,6 @@ module _ {F : Type 0} (value : F → ℕ) where
   pub length-residues : (a : List (F × Monomial)) → length (residues value a) ≡ length a
   length-residues [] = refl
   length-residues (t ∷ a) = ap suc (length-residues a)
-
-  -- one term more at the end
-  pub residues-push : (out out' : List (F × Monomial)) (k : F) (m : Monomial) (r : ℕ) (n : Monomial) → out' ≡ out ++ (k, m) ∷ [] → value k ≡ r → m ≡ n → residues value out' ≡ residues value out ++ (r, n) ∷ []
-  residues-push out out' k m r n e v w =
-      ap (residues value) e ∙ residues-append out ((k, m) ∷ []) ∙ ap₂ (λ (x : ℕ) (y : Monomial). residues value out ++ (x, y) ∷ []) v w
 
 -- one element more is taken
 pub taken_at : {A : Type 0} (xs : List A) (i : ℕ) (x : A) → i < length xs → x ≡ get_or xs i x → take (i + 1) xs ≡ take i xs ++ x ∷ []
@@ -59,9 +50,3 @@ pub get_or-any : {A : Type 0} (xs : List A) (i : ℕ) (d e : A) → i < length x
 get_or-any [] i d e h = absurd (omega arith)
 get_or-any (x ∷ xs) zero d e h = refl
 get_or-any (x ∷ xs) (suc i) d e h = get_or-any xs i d e (omega arith)
-
--- a list of one element
-pub only_one : {A : Type 0} (xs : List A) (x : A) → 1 ≤ length xs → length xs < 2 → x ≡ get_or xs 0 x → xs ≡ x ∷ []
-only_one [] x h g e = absurd (omega arith)
-only_one (y ∷ []) x h g e = ap (λ k. k ∷ []) (sym e)
-only_one (y ∷ z ∷ ys) x h g e = absurd (omega arith)

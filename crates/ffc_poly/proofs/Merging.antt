@@ -147,7 +147,7 @@ weighted-multiplied p c g (t ∷ ts) =
     (mul-mod_first (c * t.0) (g t.1) p ∙ ap (λ k. k % p) (mul_assoc c t.0 (g t.1))) (weighted-multiplied p c g ts)
     ∙ ap (λ k. k % p) (sym (mul-add c (t.0 * g t.1) (weighted g ts)))
 
-weighted-kept : (g : Monomial → ℕ) (k : ℕ) (m : Monomial) (ts : Terms) → weighted g (kept k m ts) ≡ k * g m + weighted g ts
+pub weighted-kept : (g : Monomial → ℕ) (k : ℕ) (m : Monomial) (ts : Terms) → weighted g (kept k m ts) ≡ k * g m + weighted g ts
 weighted-kept g k m ts =
     elim (cases_eq k 0) [
       | inl zero_k ↦ rw (eq-eqb k 0 zero_k) (sym (ap (λ j. j * g m + weighted g ts) zero_k ∙ omega arith))

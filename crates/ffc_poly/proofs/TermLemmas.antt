@@ -105,9 +105,9 @@ drop_after n (suc m) (x ∷ xs) =
 
 pub range_split : {A : Type 0} (xs : List A) (from mid to : ℕ) → from ≤ mid → mid ≤ to → slice_range xs from mid ++ slice_range xs mid to ≡ slice_range xs from to
 range_split xs from mid to h g =
-    let behind : drop mid xs ≡ drop (mid - from) (drop from xs) = sym (drop_after (mid - from) from xs ∙ ap (λ k. drop k xs) (omega arith)) in
+    let rest_is : drop mid xs ≡ drop (mid - from) (drop from xs) = sym (drop_after (mid - from) from xs ∙ ap (λ k. drop k xs) (omega arith)) in
     let size : mid - from + (to - mid) ≡ to - from = omega arith in
-    ap (λ k. take (mid - from) (drop from xs) ++ take (to - mid) k) behind
+    ap (λ k. take (mid - from) (drop from xs) ++ take (to - mid) k) rest_is
     ∙ sym (take-add (mid - from) (to - mid) (drop from xs)) ∙ ap (λ k. take k (drop from xs)) size
 
 pub whole_range : {A : Type 0} (xs : List A) (n : ℕ) → n ≡ length xs → slice_range xs 0 n ≡ xs

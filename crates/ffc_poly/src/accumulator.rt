@@ -4,13 +4,12 @@ ghost use Rattle.std.specs.Prelude.{OnErr, IsErrOf, MatchOption};
 ghost use Rattle.ffc_ring.specs.Polynomial.{SamePolynomial, term_product, scaled, difference, PassesDegree};
 ghost use Rattle.ffc_ring.specs.Polynomial.{PassesTerms};
 ghost use Rattle.ffc_mono.specs.Leading.{IsLeading};
+ghost use Rattle.ffc_poly.specs.Ordered.{IsWithinTerms, IsOverTerms};
 
 use crate::poly::{Poly, TERM_LIMIT};
 use crate::stop::PolyStop;
-use crate::sums::add_scaled_from;
 use crate::tail::Tail;
 use crate::tails::{self, is_within};
-use crate::terms::TermList;
 use ffc_field::Field;
 use ffc_mono::{DEGREE_LIMIT, Mono, MonoOrder, MonoRef};
 use std::alloc::{AllocError, Global};
@@ -60,26 +59,23 @@ impl<F: Field, O: MonoOrder> Accumulator<F, O> {
     fn put(&mut self, k: F, p: &Poly<F, O>) -> Result<(), PolyStop>
         requires { F.value k ≢ 0 }
         ensures sum { OnOk result (SamePolynomial F.ORDER self.new (self.old ++ scaled (F.value k) p.now)) }
-        ensures fits { OnOk result (PassesTerms F.ORDER TERM_LIMIT (self.old ++ scaled (F.value k) p.now) → ⊥) }
-        ensures terms_over { IsErrOf result PolyStop.TermsOver → PassesTerms F.ORDER TERM_LIMIT
+        ensures fits { OnOk result (IsWithinTerms F.ORDER TERM_LIMIT (self.old ++ scaled (F.value k) p.now)) }
+        ensures over { IsErrOf result PolyStop.TermsOver → IsOverTerms F.ORDER TERM_LIMIT
             (self.old ++ scaled (F.value k) p.now) }
         ensures no_product { IsErrOf result PolyStop.DegreeOver → ⊥ }
         ensures unchanged { OnErr result (self.new ≡ self.old) }
     {
-        let alloc = *self.tails.allocator();
+        let terms = p.listed();
         if is_within(self.tails.as_slice(), TERM_LIMIT - p.len()) {
-            let mut terms = TermList::new(alloc);
-            terms.extend_multiple(k, p.listed(), 0, p.len())?;
-            tails::append(&mut self.tails, terms)?;
-            tails::settle::<F, O>(&mut self.tails);
+            tails::append_multiple::<F, O>(&mut self.tails, k, terms)?;
             return Ok(());
         }
-        let whole = tails::merged::<F, O>(alloc, self.tails.as_slice())?;
-        let terms = add_scaled_from::<F, O>(alloc, &whole, 0, k, p.listed(), 0)?;
-        if terms.len() > TERM_LIMIT {
+        let alloc = *self.tails.allocator();
+        let whole = tails::merged_with_multiple::<F, O>(alloc, self.tails.as_slice(), k, terms)?;
+        if whole.len() > TERM_LIMIT {
             return Err(PolyStop::TermsOver);
         }
-        self.tails = tails::single(alloc, terms)?;
+        self.tails = tails::single(alloc, whole)?;
         Ok(())
     }
 
@@ -137,11 +133,9 @@ impl<F: Field, O: MonoOrder> Accumulator<F, O> {
         ensures zero { IfOk result (λ o. IsNone o ↔ SamePolynomial F.ORDER self.old []) }
         ensures leading { IfOk result (λ o. IfSome o (λ t. IsLeading F.ORDER O.cmp self.old (F.value t.0) t.1)) }
     {
-        let alloc = *self.tails.allocator();
-        let Some(i) = tails::settled::<F, O>(&mut self.tails) else {
+        let Some((_, first)) = tails::settled_lead::<F, O>(&mut self.tails)? else {
             return Ok(None);
         };
-        let first = tails::first_of(alloc, self.tails.as_slice(), i)?;
         Ok(Some(first))
     }
 
@@ -153,12 +147,10 @@ impl<F: Field, O: MonoOrder> Accumulator<F, O> {
             (λ t. SamePolynomial F.ORDER self.old ((F.value t.0, t.1) ∷ self.new))) }
         ensures unchanged { OnErr result (SamePolynomial F.ORDER self.new self.old) }
     {
-        let alloc = *self.tails.allocator();
-        let Some(i) = tails::settled::<F, O>(&mut self.tails) else {
+        let Some((i, first)) = tails::settled_lead::<F, O>(&mut self.tails)? else {
             return Ok(None);
         };
-        let first = tails::first_of(alloc, self.tails.as_slice(), i)?;
-        tails::drop_first_of(&mut self.tails, i);
+        tails::drop_lead::<F, O>(&mut self.tails, i);
         Ok(Some(first))
     }
 

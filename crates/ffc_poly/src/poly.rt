@@ -1,6 +1,6 @@
 //! Polynomials.
 ghost use Rattle.std.specs.Prelude.{◌≡◌, ◌≢◌, ℕ, ◌+◌, ◌*◌, ◌<◌, ◌≤◌, ◌↔◌, List, [], ◌∷◌, ◌++◌, length, drop, get_or};
-ghost use Rattle.std.specs.Prelude.{IsTrue, IsOk, IsNone, IfOk, IfSome, OnOk, IsErrOf, IfErr};
+ghost use Rattle.std.specs.Prelude.{IsTrue, IsNone, IfOk, IfSome, OnOk, IsErrOf, IfErr};
 ghost use Rattle.ffc_field.specs.Modular.{add_mod, sub_mod, mul_mod};
 ghost use Rattle.ffc_ring.specs.Monomial.{mono_value};
 ghost use Rattle.ffc_ring.specs.Polynomial.{SamePolynomial, term_product, product, scaled, difference, poly_value};
@@ -97,7 +97,8 @@ impl<F: Field, O: MonoOrder> Poly<F, O> {
         requires { IsOrdered F.ORDER O.cmp DEGREE_LIMIT terms }
         ensures value { IfOk result (λ r. r ≡ terms) }
         ensures fits { OnOk result (IsWithinTerms F.ORDER TERM_LIMIT terms) }
-        ensures over { IfErr result (λ stop. (stop ≡ PolyStop.TermsOver) × IsOverTerms F.ORDER TERM_LIMIT terms) }
+        ensures over { IsErrOf result PolyStop.TermsOver → IsOverTerms F.ORDER TERM_LIMIT terms }
+        ensures no_product { IsErrOf result PolyStop.DegreeOver → ⊥ }
     {
         if terms.len() > TERM_LIMIT {
             return Err(PolyStop::TermsOver);
@@ -261,11 +262,8 @@ impl<F: Field, O: MonoOrder> Poly<F, O> {
         if c.residue() == 0 {
             return Ok(self.clone()?);
         }
-        if other.is_zero() {
-            return Ok(self.clone()?);
-        }
         let more = other.listed();
-        if m.degree() + products::greatest_degree(more) > DEGREE_LIMIT {
+        if products::multiple_passes_degree::<F, O>(c, m, more) {
             return Err(PolyStop::DegreeOver);
         }
         let alloc = self.terms.allocator();
@@ -309,13 +307,12 @@ impl<F: Field, O: MonoOrder> Poly<F, O> {
         if other.is_zero() {
             return Ok(Self::zero(alloc));
         }
-        let degree = products::greatest_degree(self.listed())
-            + products::greatest_degree(other.listed());
-        if degree > DEGREE_LIMIT {
+        let a = self.listed();
+        let b = other.listed();
+        if products::product_passes_degree::<F, O>(a, b) {
             return Err(PolyStop::DegreeOver);
         }
-        let terms = products::product::<F, O>(alloc, self.listed(), other.listed())?;
-        Self::within(terms)
+        Self::within(products::product::<F, O>(alloc, a, b)?)
     }
 
     /// The product with c*m, in one pass.
@@ -345,13 +342,11 @@ impl<F: Field, O: MonoOrder> Poly<F, O> {
         if c.residue() == 0 {
             return Ok(Self::zero(alloc));
         }
-        if self.is_zero() {
-            return Ok(Self::zero(alloc));
-        }
-        if m.degree() + products::greatest_degree(self.listed()) > DEGREE_LIMIT {
+        let own = self.listed();
+        if products::multiple_passes_degree::<F, O>(c, m, own) {
             return Err(PolyStop::DegreeOver);
         }
-        let terms = products::times_term(alloc, c, m, self.listed())?;
+        let terms = products::multiply_terms::<F, O>(alloc, c, m, own)?;
         Ok(Poly {
             terms,
             order: PhantomData,
@@ -369,8 +364,7 @@ impl<F: Field, O: MonoOrder> Poly<F, O> {
         if c.residue() == 0 {
             return Ok(Self::zero(alloc));
         }
-        let mut terms = TermList::new(alloc);
-        terms.extend_multiple(c, self.listed(), 0, self.len())?;
+        let terms = sums::scale_terms::<F, O>(alloc, c, self.listed())?;
         Ok(Poly {
             terms,
             order: PhantomData,

@@ -1,6 +1,6 @@
 //! Products of terms in strictly decreasing order.
-ghost use Rattle.std.specs.Prelude.{◌≡◌, ℕ, ◌+◌, ◌≤◌, ◌⊎◌, [], length, slice_range, IfOk};
-ghost use Rattle.ffc_ring.specs.Polynomial.{SamePolynomial, product};
+ghost use Rattle.std.specs.Prelude.{◌≡◌, ◌≢◌, ◌+◌, ◌<◌, ◌≤◌, ◌↔◌, [], ◌∷◌, length, false, slice_range, IsTrue, IfOk};
+ghost use Rattle.ffc_ring.specs.Polynomial.{SamePolynomial, term_product, product, PassesDegree};
 ghost use Rattle.ffc_poly.specs.Ordered.{IsOrdered, AreWithin, HasDegree, RowFits, ProductFits, times};
 
 use crate::sums::add_scaled;
@@ -27,6 +27,24 @@ pub fn times_term<F: Field>(
     Ok(out)
 }
 
+/// The terms of c*m times an ordered list, for a constant c other than 0.
+pub fn multiply_terms<F: Field, O: MonoOrder>(
+    alloc: Global,
+    c: F,
+    m: MonoRef<'_>,
+    terms: &TermList<F>,
+) -> Result<TermList<F>, AllocError>
+    requires terms_are { IsOrdered F.ORDER O.cmp DEGREE_LIMIT terms.now }
+    requires c_is { F.value c ≢ 0 }
+    requires fits { RowFits DEGREE_LIMIT m.powers.now terms.now }
+    ensures ordered { IfOk result (λ v. IsOrdered F.ORDER O.cmp DEGREE_LIMIT v) }
+    ensures same { IfOk result
+        (λ v. SamePolynomial F.ORDER v (term_product (F.value c) m.entry.powers.now terms.now)) }
+    ensures length { IfOk result (λ v. length v ≡ length terms.now) }
+{
+    times_term(alloc, c, m, terms)
+}
+
 /// The product of the terms of a from one place to another and b: the rows, which are b times each of these terms, are
 /// merged by halves. With n of them and m terms in b it takes at most n*m comparisons for each halving of n, and holds
 /// at most 2*n*m terms.
@@ -51,7 +69,7 @@ pub fn product_of<F: Field, O: MonoOrder>(
     }
     if count == 1 {
         let (c, m) = a.get(from);
-        return times_term(alloc, c, m, b);
+        return multiply_terms::<F, O>(alloc, c, m, b);
     }
     let mid = from + count / 2;
     let front = product_of::<F, O>(alloc, a, from, mid, b)?;
@@ -79,9 +97,9 @@ pub fn product<F: Field, O: MonoOrder>(
 }
 
 /// The greatest total degree of a term, and 0 where there is none.
-pub fn greatest_degree<F: Field>(terms: &TermList<F>) -> u32
+fn greatest_degree<F: Field>(terms: &TermList<F>) -> u32
     ensures within { AreWithin result terms.now }
-    ensures reached { (terms.now ≡ []) ⊎ HasDegree result terms.now }
+    ensures reached { 0 < result → HasDegree result terms.now }
     ensures limit { result ≤ DEGREE_LIMIT }
 {
     let mut greatest = 0;
@@ -89,4 +107,29 @@ pub fn greatest_degree<F: Field>(terms: &TermList<F>) -> u32
         greatest = terms.get(i).1.degree().max(greatest);
     }
     greatest
+}
+
+/// Whether some term of c*m times an ordered list passes the limit on degrees, for a constant c other than 0.
+pub fn multiple_passes_degree<F: Field, O: MonoOrder>(
+    c: F,
+    m: MonoRef<'_>,
+    terms: &TermList<F>,
+) -> bool
+    requires terms_are { IsOrdered F.ORDER O.cmp DEGREE_LIMIT terms.now }
+    requires c_is { F.value c ≢ 0 }
+    ensures passes { IsTrue result ↔ PassesDegree F.ORDER DEGREE_LIMIT ((F.value c, m.entry.powers.now) ∷ [])
+        terms.now }
+    ensures fits { result ≡ false → RowFits DEGREE_LIMIT m.entry.powers.now terms.now }
+{
+    m.degree() + greatest_degree(terms) > DEGREE_LIMIT
+}
+
+/// Whether the product of some term of a and some term of b passes the limit on degrees.
+pub fn product_passes_degree<F: Field, O: MonoOrder>(a: &TermList<F>, b: &TermList<F>) -> bool
+    requires a_is { IsOrdered F.ORDER O.cmp DEGREE_LIMIT a.now }
+    requires b_is { IsOrdered F.ORDER O.cmp DEGREE_LIMIT b.now }
+    ensures passes { IsTrue result ↔ PassesDegree F.ORDER DEGREE_LIMIT a.now b.now }
+    ensures fits { result ≡ false → ProductFits DEGREE_LIMIT a.now b.now }
+{
+    greatest_degree(a) + greatest_degree(b) > DEGREE_LIMIT
 }

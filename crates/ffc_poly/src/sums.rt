@@ -74,6 +74,23 @@ pub fn add_scaled_from<F: Field, O: MonoOrder>(
     Ok(out)
 }
 
+/// The terms of c times an ordered list, for a constant c other than 0.
+pub fn scale_terms<F: Field, O: MonoOrder>(
+    alloc: Global,
+    c: F,
+    terms: &TermList<F>,
+) -> Result<TermList<F>, AllocError>
+    requires terms_are { IsOrdered F.ORDER O.cmp DEGREE_LIMIT terms.now }
+    requires c_is { F.value c ≢ 0 }
+    ensures ordered { IfOk result (λ v. IsOrdered F.ORDER O.cmp DEGREE_LIMIT v) }
+    ensures same { IfOk result (λ v. SamePolynomial F.ORDER v (scaled (F.value c) terms.now)) }
+    ensures length { IfOk result (λ v. length v ≡ length terms.now) }
+{
+    let mut out = TermList::new(alloc);
+    out.extend_multiple(c, terms, 0, terms.len())?;
+    Ok(out)
+}
+
 /// The sum of any terms, merged by halves. With n terms it takes at most n comparisons for each halving of n.
 pub fn sum_of<F: Field, O: MonoOrder>(
     alloc: Global,

@@ -1,11 +1,12 @@
 //! Sums of ordered lists of terms.
-ghost use Rattle.std.specs.Prelude.{◌≡◌, ◌≢◌, ◌<◌, ◌≤◌, ◌⊎◌, [], ◌∷◌, ◌++◌, length, get_or, set, drop, ◌+◌, false};
-ghost use Rattle.std.specs.Prelude.{IsTrue, IfOk, OnOk, OnErr, MatchOption};
-ghost use Rattle.ffc_ring.specs.Polynomial.{SamePolynomial};
-ghost use Rattle.ffc_poly.specs.Ordered.{sum_of, IsOrdered};
+ghost use Rattle.std.specs.Prelude.{◌≡◌, ◌≢◌, ℕ, ◌<◌, ◌≤◌, ◌⊎◌, ◌↔◌, [], ◌∷◌, ◌++◌, length, get_or, set, drop, ◌+◌};
+ghost use Rattle.std.specs.Prelude.{false, IsTrue, IsNone, IfOk, IfSome, OnOk, OnErr, MatchOption};
+ghost use Rattle.ffc_ring.specs.Polynomial.{SamePolynomial, PassesTerms, scaled};
+ghost use Rattle.ffc_mono.specs.Leading.{IsLeading};
+ghost use Rattle.ffc_poly.specs.Ordered.{sum_of, IsOrdered, kept};
 ghost use Rattle.ffc_poly.specs.Tails.{AreOrdered, lead_of, AreEmpty, IsHighest, IsAlone, IsRival, IsTop};
 
-use crate::sums::add_scaled_from;
+use crate::sums::{add_scaled, add_scaled_from, scale_terms};
 use crate::tail::Tail;
 use crate::terms::TermList;
 use ffc_field::Field;
@@ -66,8 +67,25 @@ pub fn merged<F: Field, O: MonoOrder>(
     Ok(whole)
 }
 
+/// The sum of the lists and c times an ordered list as one, for a constant c other than 0.
+pub fn merged_with_multiple<F: Field, O: MonoOrder>(
+    alloc: Global,
+    tails: &[Tail<F>],
+    c: F,
+    terms: &TermList<F>,
+) -> Result<TermList<F>, AllocError>
+    requires tails_are { AreOrdered F.ORDER O.cmp DEGREE_LIMIT tails.now }
+    requires terms_are { IsOrdered F.ORDER O.cmp DEGREE_LIMIT terms.now }
+    requires c_is { F.value c ≢ 0 }
+    ensures ordered { IfOk result (λ v. IsOrdered F.ORDER O.cmp DEGREE_LIMIT v) }
+    ensures same { IfOk result (λ v. SamePolynomial F.ORDER v (sum_of tails.now ++ scaled (F.value c) terms.now)) }
+{
+    let whole = merged::<F, O>(alloc, tails)?;
+    add_scaled::<F, O>(alloc, &whole, c, terms)
+}
+
 /// Appends a list.
-pub fn append<F: Field>(tails: &mut Vec<Tail<F>>, terms: TermList<F>) -> Result<(), AllocError>
+fn append<F: Field>(tails: &mut Vec<Tail<F>>, terms: TermList<F>) -> Result<(), AllocError>
     ensures appended { OnOk result (tails.new.items ≡ tails.old.items ++ terms ∷ []) }
     ensures unchanged { OnErr result (tails.new.items ≡ tails.old.items) }
 {
@@ -75,9 +93,32 @@ pub fn append<F: Field>(tails: &mut Vec<Tail<F>>, terms: TermList<F>) -> Result<
     Ok(())
 }
 
+/// Appends c times an ordered list, for a constant c other than 0, and settles the lists. Without memory nothing
+/// changes.
+pub fn append_multiple<F: Field, O: MonoOrder>(
+    tails: &mut Vec<Tail<F>>,
+    c: F,
+    terms: &TermList<F>,
+) -> Result<(), AllocError>
+    requires tails_are { AreOrdered F.ORDER O.cmp DEGREE_LIMIT tails.old.items }
+    requires terms_are { IsOrdered F.ORDER O.cmp DEGREE_LIMIT terms.now }
+    requires c_is { F.value c ≢ 0 }
+    ensures ordered { AreOrdered F.ORDER O.cmp DEGREE_LIMIT tails.new.items }
+    ensures same { OnOk result (SamePolynomial F.ORDER (sum_of tails.new.items)
+        (sum_of tails.old.items ++ scaled (F.value c) terms.now)) }
+    ensures unchanged { OnErr result (tails.new.items ≡ tails.old.items) }
+{
+    let alloc = *tails.allocator();
+    let multiple = scale_terms::<F, O>(alloc, c, terms)?;
+    append(tails, multiple)?;
+    settle::<F, O>(tails);
+    Ok(())
+}
+
 /// A list of one.
 pub fn single<F: Field>(alloc: Global, terms: TermList<F>) -> Result<Vec<Tail<F>>, AllocError>
-    ensures { IfOk result (λ v. v.items ≡ terms ∷ []) }
+    ensures items { IfOk result (λ v. v.items ≡ terms ∷ []) }
+    ensures sum { IfOk result (λ v. sum_of v.items ≡ terms) }
 {
     let mut tails = Vec::new(alloc);
     tails.push(Tail::new(terms))?;
@@ -167,7 +208,7 @@ fn rival_of<F: Field>(tails: &[Tail<F>], i: usize) -> Option<usize>
 }
 
 /// Takes the first term of a list off.
-pub fn drop_first_of<F: Field>(tails: &mut Vec<Tail<F>>, i: usize)
+fn drop_first_of<F: Field>(tails: &mut Vec<Tail<F>>, i: usize)
     requires place { i < length tails.old.items }
     requires some { 0 < length (get_or tails.old.items i []) }
     ensures { tails.new.items ≡ set tails.old.items i (drop 1 (get_or tails.old.items i [])) }
@@ -198,15 +239,10 @@ fn coefficient_of<F: Field>(tails: &[Tail<F>], i: usize) -> F
 }
 
 /// The first term of a list.
-pub fn first_of<F: Field>(
-    alloc: Global,
-    tails: &[Tail<F>],
-    i: usize,
-) -> Result<(F, Mono), AllocError>
+fn first_of<F: Field>(alloc: Global, tails: &[Tail<F>], i: usize) -> Result<(F, Mono), AllocError>
     requires place { i < length tails.now }
     requires some { 0 < length (get_or tails.now i []) }
-    ensures { IfOk result (λ t. (F.value t.0 ≡ (get_or (get_or tails.now i []) 0 (0, [])).0)
-        × (t.1 ≡ lead_of tails.now i)) }
+    ensures { IfOk result (λ t. (F.value t.0, t.1) ≡ get_or (get_or tails.now i []) 0 (0, [])) }
 {
     let tail = &tails[i];
     let (c, m) = tail.first();
@@ -214,8 +250,22 @@ pub fn first_of<F: Field>(
     Ok((c, monomial))
 }
 
-/// Joins the first terms of two lists, which have the same monomial.
-fn join<F: Field, O: MonoOrder>(tails: &mut Vec<Tail<F>>, i: usize, j: usize)
+/// Gives the first term of a list another coefficient, or takes the term off where that is 0.
+fn replace_first_of<F: Field>(tails: &mut Vec<Tail<F>>, i: usize, c: F)
+    requires place { i < length tails.old.items }
+    requires some { 0 < length (get_or tails.old.items i []) }
+    ensures { tails.new.items ≡ set tails.old.items i (kept (F.value c) (lead_of tails.old.items i)
+        (drop 1 (get_or tails.old.items i []))) }
+{
+    if c.residue() == 0 {
+        drop_first_of(tails, i);
+    } else {
+        set_first_of(tails, i, c);
+    }
+}
+
+/// Merges the first terms of two lists, which have the same monomial.
+fn merge_firsts<F: Field, O: MonoOrder>(tails: &mut Vec<Tail<F>>, i: usize, j: usize)
     requires ordered { AreOrdered F.ORDER O.cmp DEGREE_LIMIT tails.old.items }
     requires place { i < length tails.old.items }
     requires some { 0 < length (get_or tails.old.items i []) }
@@ -226,18 +276,13 @@ fn join<F: Field, O: MonoOrder>(tails: &mut Vec<Tail<F>>, i: usize, j: usize)
 {
     let c = coefficient_of(tails.as_slice(), i);
     let d = coefficient_of(tails.as_slice(), j);
-    let sum = c.add(d);
     drop_first_of(tails, j);
-    if sum.residue() == 0 {
-        drop_first_of(tails, i);
-    } else {
-        set_first_of(tails, i, sum);
-    }
+    replace_first_of(tails, i, c.add(d));
 }
 
-/// Joins equal leading terms until one list has the leading monomial alone. It answers the list's place, or none where
+/// Merges equal leading terms until one list has the leading monomial alone. It answers the list's place, or none where
 /// all lists are empty.
-pub fn settled<F: Field, O: MonoOrder>(tails: &mut Vec<Tail<F>>) -> Option<usize>
+fn settled<F: Field, O: MonoOrder>(tails: &mut Vec<Tail<F>>) -> Option<usize>
     requires { AreOrdered F.ORDER O.cmp DEGREE_LIMIT tails.old.items }
     ensures ordered { AreOrdered F.ORDER O.cmp DEGREE_LIMIT tails.new.items }
     ensures same { SamePolynomial F.ORDER (sum_of tails.new.items) (sum_of tails.old.items) }
@@ -251,6 +296,42 @@ pub fn settled<F: Field, O: MonoOrder>(tails: &mut Vec<Tail<F>>) -> Option<usize
         let Some(j) = rival_of(tails.as_slice(), i) else {
             return Some(i);
         };
-        join::<F, O>(tails, i, j);
+        merge_firsts::<F, O>(tails, i, j);
     }
+}
+
+/// The place of the list that begins with the leading term of the sum, and that term, or none at zero. Leading terms
+/// that cancel are dropped as they are met.
+pub fn settled_lead<F: Field, O: MonoOrder>(
+    tails: &mut Vec<Tail<F>>,
+) -> Result<Option<(usize, (F, Mono))>, AllocError>
+    requires { AreOrdered F.ORDER O.cmp DEGREE_LIMIT tails.old.items }
+    ensures ordered { AreOrdered F.ORDER O.cmp DEGREE_LIMIT tails.new.items }
+    ensures same { SamePolynomial F.ORDER (sum_of tails.new.items) (sum_of tails.old.items) }
+    ensures zero { IfOk result (λ o. IsNone o ↔ SamePolynomial F.ORDER (sum_of tails.old.items) []) }
+    ensures leading { IfOk result (λ o. IfSome o
+        (λ t. IsLeading F.ORDER O.cmp (sum_of tails.old.items) (F.value t.1.0) t.1.1)) }
+    ensures top { IfOk result (λ o. IfSome o (λ t. IsTop O.cmp tails.new.items t.0)) }
+    ensures first { IfOk result (λ o. IfSome o
+        (λ t. (F.value t.1.0, t.1.1) ≡ get_or (get_or tails.new.items t.0 []) 0 (0, []))) }
+{
+    let alloc = *tails.allocator();
+    let Some(i) = settled::<F, O>(tails) else {
+        return Ok(None);
+    };
+    let first = first_of(alloc, tails.as_slice(), i)?;
+    Ok(Some((i, first)))
+}
+
+/// Takes the leading term of the sum off, with which the list at this place begins.
+pub fn drop_lead<F: Field, O: MonoOrder>(tails: &mut Vec<Tail<F>>, i: usize)
+    requires ordered { AreOrdered F.ORDER O.cmp DEGREE_LIMIT tails.old.items }
+    requires top { IsTop O.cmp tails.old.items i }
+    ensures ordered { AreOrdered F.ORDER O.cmp DEGREE_LIMIT tails.new.items }
+    ensures rest { SamePolynomial F.ORDER (sum_of tails.old.items)
+        (get_or (get_or tails.old.items i []) 0 (0, []) ∷ sum_of tails.new.items) }
+    ensures fewer { (limit : ℕ) → PassesTerms F.ORDER limit (sum_of tails.new.items)
+        → PassesTerms F.ORDER limit (sum_of tails.old.items) }
+{
+    drop_first_of(tails, i);
 }

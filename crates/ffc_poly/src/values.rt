@@ -1,5 +1,5 @@
 //! Values of terms at points, and the test for equal terms.
-ghost use Rattle.std.specs.Prelude.{◌≡◌, ℕ, ◌%◌, ◌↔◌, IsTrue};
+ghost use Rattle.std.specs.Prelude.{◌≡◌, ◌%◌, ◌↔◌, IsTrue};
 ghost use Rattle.ffc_ring.specs.Monomial.{mono_value};
 ghost use Rattle.ffc_field.specs.Modular.{pow_mod};
 ghost use Rattle.ffc_ring.specs.Polynomial.{poly_value};

@@ -18,16 +18,12 @@ loop-i-preserved g c =
     record {
       within = subst (AreWithin c.max-greatest.result) (sym now)
           (AreWithin-push c.max-greatest.result before t (AreWithin-higher c.loop-i.greatest c.max-greatest.result before i.within (omega (arith, greatest))) (omega (arith, greatest)));
-      reached = inr (subst (HasDegree c.max-greatest.result) (sym now)
+      reached = λ some. subst (HasDegree c.max-greatest.result) (sym now)
           (elim (cases_lt (degree t.1) c.loop-i.greatest) [
             | inl less ↦
-                elim i.reached [
-                  | inl none ↦ absurd (omega (arith, none.1))
-                  | inr found ↦
-                      let stays : c.loop-i.greatest ≡ c.max-greatest.result = omega (arith, greatest) in
-                      HasDegree-front c.max-greatest.result before _ (subst (λ d. HasDegree d before) stays found)
-                ]
+                let stays : c.loop-i.greatest ≡ c.max-greatest.result = omega (arith, greatest) in
+                HasDegree-front c.max-greatest.result before _ (subst (λ d. HasDegree d before) stays (i.reached (omega arith)))
             | inr not_less ↦ HasDegree-last c.max-greatest.result before t (omega (arith, greatest))
-          ]));
+          ]);
       limit = omega (arith, greatest, i.limit, its, c.degree.ensures.fits);
     }

@@ -1,4 +1,4 @@
-use Rattle.std.proofs.Common.{◌≡◌, ◌∷◌, ◌++◌, [], ◌%◌, refl, sym, ap, ◌∙◌, subst, arith, mod-eq_of_lt, append_assoc, append-nil}
+use Rattle.std.proofs.Common.{◌≡◌, ◌∷◌, ◌++◌, [], ◌%◌, refl, sym, ap, ◌∙◌, subst, arith, append_assoc, append-nil}
 use Rattle.ffc_mono.specs.declared.mono.TheConstants.{DEGREE_LIMIT}
 use Rattle.ffc_ring.specs.Polynomial.{SamePolynomial, scaled, written}
 use Rattle.ffc_ring.proofs.PolynomialLemmas.{same_sums}
@@ -24,10 +24,9 @@ loop-last-preserved g c =
     let rest = c.in-Some.rest.now in
     let last = c.in-Some.last.now in
     let left : c.loop-last.left.now ≡ rest ++ last ∷ [] = c.in-Some.ensures.cases.0 in
-    let one : value c.of.result ≡ 1 = c.of.ensures ∙ mod-eq_of_lt (omega (arith, g.met.F.Field.prime.least)) in
     let both : SamePolynomial p c.in_ok-whole.whole (last ++ c.loop-last.whole) =
     λ m. c.in_ok-whole.ensures.same m ∙ ap (λ x. written (x ++ scaled (value c.of.result) c.loop-last.whole) m % p) c.last.view_is
-    ∙ sum_by_one p (value c.of.result) last c.loop-last.whole one m in
+    ∙ sum_by_one p (value c.of.result) last c.loop-last.whole (omega (arith, g.met.F.Field.prime.least)) c.of.ensures m in
     let sums : sum_of rest ++ (last ++ c.loop-last.whole) ≡ sum_of c.loop-last.left.now ++ c.loop-last.whole =
     sym (append_assoc (sum_of rest) last c.loop-last.whole)
     ∙ ap (λ k. k ++ c.loop-last.whole) (sym (ap sum_of left ∙ sum_of-append rest (last ∷ []) ∙ ap (λ k. sum_of rest ++ k) (append-nil last))) in

@@ -1,150 +1,34 @@
-use Rattle.std.proofs.Common.{◌≡◌, ℕ, ◌%◌, List, [], ◌∷◌, get_or, drop, set, refl, sym, ap, ap₂, ◌∙◌, subst, subst₂, true≢false}
-use Rattle.ffc_mono.specs.declared.mono.TheConstants.{DEGREE_LIMIT}
-use Rattle.ffc_mono.specs.Leading.{IsLeading}
+use Rattle.std.proofs.Common.{◌≡◌, ℕ, ◌%◌, [], ◌∷◌, get_or, sym, ap, ◌∙◌}
 use Rattle.ffc_ring.specs.Monomial.{Monomial}
-use Rattle.ffc_ring.specs.Polynomial.{Terms, SamePolynomial, PassesTerms, written}
+use Rattle.ffc_ring.specs.Polynomial.{written}
 use Rattle.ffc_poly.specs.declared.poly.TheConstants.{TERM_LIMIT}
 use Rattle.ffc_poly.specs.Ordered.{sum_of}
-use Rattle.ffc_poly.specs.Tails.{AreOrdered, lead_of, IsTop}
 use Rattle.ffc_poly.proofs.Coefficients.{PassesTerms-same}
-use Rattle.ffc_poly.proofs.LeadLemmas.{empty_sum, lead_is_leading, leading_same, leading_is_some, whole_is, rest_passes_less, IsOrdered-rest}
-use Rattle.ffc_poly.proofs.TailLemmas.{AreOrdered-set, AreOrdered-at}
 use Rattle.ffc_poly.proofs.accumulator.Accumulator.take_lead.Goals as goal
 
 pub invariant_of-self : goal.invariant_of-self
-invariant_of-self g c =
-    let value = g.F.Field.value in
-    let p = g.F.Field.ORDER in
-    let cmp = g.O.MonoOrder.cmp in
-    let laws = g.met.O.MonoOrder.laws in
-    let xs = c.self.inside.tails.items in
-    let ns = c.settled.new.tails.items in
-    let now = c.args.self.now in
-    let same : SamePolynomial p (sum_of ns) now = λ m. c.settled.ensures.same m ∙ ap (λ t. written t m % p) c.self.view_is in
-    (c.settled.ensures.ordered, λ passes. c.self.invariant.1 (PassesTerms-same p TERM_LIMIT (sum_of ns) (sum_of xs) c.settled.ensures.same passes))
+invariant_of-self g c = (
+  c.settled_lead.ensures.ordered,
+  λ passes. c.self.invariant.1 (PassesTerms-same g.F.Field.ORDER TERM_LIMIT (sum_of c.settled_lead.new.tails.items) (sum_of c.self.inside.tails.items) c.settled_lead.ensures.same passes),
+)
 
-pub invariant_of-self-in_err-first : goal.invariant_of-self-in_err-first
-invariant_of-self-in_err-first g c =
-    let value = g.F.Field.value in
-    let p = g.F.Field.ORDER in
-    let cmp = g.O.MonoOrder.cmp in
-    let laws = g.met.O.MonoOrder.laws in
-    let xs = c.self.inside.tails.items in
-    let ns = c.settled.new.tails.items in
-    let now = c.args.self.now in
-    let same : SamePolynomial p (sum_of ns) now = λ m. c.settled.ensures.same m ∙ ap (λ t. written t m % p) c.self.view_is in
-    (c.settled.ensures.ordered, λ passes. c.self.invariant.1 (PassesTerms-same p TERM_LIMIT (sum_of ns) (sum_of xs) c.settled.ensures.same passes))
-
-pub returns-in_default-clause-zero : goal.returns-in_default-clause-zero
-returns-in_default-clause-zero g c =
-    let value = g.F.Field.value in
-    let p = g.F.Field.ORDER in
-    let cmp = g.O.MonoOrder.cmp in
-    let laws = g.met.O.MonoOrder.laws in
-    let xs = c.self.inside.tails.items in
-    let ns = c.settled.new.tails.items in
-    let now = c.args.self.now in
-    let same : SamePolynomial p (sum_of ns) now = λ m. c.settled.ensures.same m ∙ ap (λ t. written t m % p) c.self.view_is in
-    (λ _ m. sym (same m) ∙ ap (λ t. written t m % p) (empty_sum ns c.in_default.ensures.found), λ _. refl)
-
-pub returns-clause-zero : goal.returns-clause-zero
-returns-clause-zero g c =
-    let value = g.F.Field.value in
-    let p = g.F.Field.ORDER in
-    let cmp = g.O.MonoOrder.cmp in
-    let laws = g.met.O.MonoOrder.laws in
-    let xs = c.self.inside.tails.items in
-    let ns = c.settled.new.tails.items in
-    let now = c.args.self.now in
-    let same : SamePolynomial p (sum_of ns) now = λ m. c.settled.ensures.same m ∙ ap (λ t. written t m % p) c.self.view_is in
-    let i = c.in-Some.i in
-    let top : IsTop cmp ns i = c.in-Some.ensures.found in
-    let first : value c.in_ok-first.first.0 ≡ (get_or (get_or ns i []) 0 (0, [])).0 =
-    c.in_ok-first.ensures.0 ∙ ap (λ (ts : List Terms). (get_or (get_or ts i []) 0 (0, [])).0) c.as_slice.ensures.value in
-    let monomial : c.in_ok-first.first.1 ≡ lead_of ns i = c.in_ok-first.ensures.1 ∙ ap (λ ts. lead_of ts i) c.as_slice.ensures.value in
-    let leading : IsLeading p cmp now (value c.in_ok-first.first.0) c.in_ok-first.first.1 =
-    subst₂ (λ k m. IsLeading p cmp now k m) (sym first) (sym monomial)
-    (leading_same p cmp (sum_of ns) now (get_or (get_or ns i []) 0 (0, [])).0 (lead_of ns i) same (lead_is_leading p cmp laws DEGREE_LIMIT ns i c.settled.ensures.ordered top)) in
-    (λ e. absurd (true≢false e), λ none. absurd (leading_is_some p cmp now (value c.in_ok-first.first.0) c.in_ok-first.first.1 leading none))
-
-pub returns-clause-leading : goal.returns-clause-leading
-returns-clause-leading g c =
-    let value = g.F.Field.value in
-    let p = g.F.Field.ORDER in
-    let cmp = g.O.MonoOrder.cmp in
-    let laws = g.met.O.MonoOrder.laws in
-    let xs = c.self.inside.tails.items in
-    let ns = c.settled.new.tails.items in
-    let now = c.args.self.now in
-    let same : SamePolynomial p (sum_of ns) now = λ m. c.settled.ensures.same m ∙ ap (λ t. written t m % p) c.self.view_is in
-    let i = c.in-Some.i in
-    let top : IsTop cmp ns i = c.in-Some.ensures.found in
-    let first : value c.in_ok-first.first.0 ≡ (get_or (get_or ns i []) 0 (0, [])).0 =
-    c.in_ok-first.ensures.0 ∙ ap (λ (ts : List Terms). (get_or (get_or ts i []) 0 (0, [])).0) c.as_slice.ensures.value in
-    let monomial : c.in_ok-first.first.1 ≡ lead_of ns i = c.in_ok-first.ensures.1 ∙ ap (λ ts. lead_of ts i) c.as_slice.ensures.value in
-    let leading : IsLeading p cmp now (value c.in_ok-first.first.0) c.in_ok-first.first.1 =
-    subst₂ (λ k m. IsLeading p cmp now k m) (sym first) (sym monomial)
-    (leading_same p cmp (sum_of ns) now (get_or (get_or ns i []) 0 (0, [])).0 (lead_of ns i) same (lead_is_leading p cmp laws DEGREE_LIMIT ns i c.settled.ensures.ordered top)) in
-    leading
-
-pub returns-in_default-clause-rest : goal.returns-in_default-clause-rest
-returns-in_default-clause-rest g c =
-    let value = g.F.Field.value in
-    let p = g.F.Field.ORDER in
-    let cmp = g.O.MonoOrder.cmp in
-    let laws = g.met.O.MonoOrder.laws in
-    let xs = c.self.inside.tails.items in
-    let ns = c.settled.new.tails.items in
-    let now = c.args.self.now in
-    let same : SamePolynomial p (sum_of ns) now = λ m. c.settled.ensures.same m ∙ ap (λ t. written t m % p) c.self.view_is in
-    λ m. ap (λ t. written t m % p) (empty_sum ns c.in_default.ensures.found)
+pub invariant_of-self-in_default : goal.invariant_of-self-in_default
+invariant_of-self-in_default g c = (
+  c.settled_lead.ensures.ordered,
+  λ passes. c.self.invariant.1 (PassesTerms-same g.F.Field.ORDER TERM_LIMIT (sum_of c.settled_lead.new.tails.items) (sum_of c.self.inside.tails.items) c.settled_lead.ensures.same passes),
+)
 
 pub invariant_of-self-2 : goal.invariant_of-self-2
-invariant_of-self-2 g c =
-    let value = g.F.Field.value in
-    let p = g.F.Field.ORDER in
-    let cmp = g.O.MonoOrder.cmp in
-    let laws = g.met.O.MonoOrder.laws in
-    let xs = c.self.inside.tails.items in
-    let ns = c.settled.new.tails.items in
-    let now = c.args.self.now in
-    let same : SamePolynomial p (sum_of ns) now = λ m. c.settled.ensures.same m ∙ ap (λ t. written t m % p) c.self.view_is in
-    let i = c.in-Some.i in
-    let top : IsTop cmp ns i = c.in-Some.ensures.found in
-    let first : value c.in_ok-first.first.0 ≡ (get_or (get_or ns i []) 0 (0, [])).0 =
-    c.in_ok-first.ensures.0 ∙ ap (λ (ts : List Terms). (get_or (get_or ts i []) 0 (0, [])).0) c.as_slice.ensures.value in
-    let monomial : c.in_ok-first.first.1 ≡ lead_of ns i = c.in_ok-first.ensures.1 ∙ ap (λ ts. lead_of ts i) c.as_slice.ensures.value in
-    let leading : IsLeading p cmp now (value c.in_ok-first.first.0) c.in_ok-first.first.1 =
-    subst₂ (λ k m. IsLeading p cmp now k m) (sym first) (sym monomial)
-    (leading_same p cmp (sum_of ns) now (get_or (get_or ns i []) 0 (0, [])).0 (lead_of ns i) same (lead_is_leading p cmp laws DEGREE_LIMIT ns i c.settled.ensures.ordered top)) in
-    let left : c.drop_first_of.new.tails.items ≡ set ns i (drop 1 (get_or ns i [])) = c.drop_first_of.ensures in (
-      subst (AreOrdered p cmp DEGREE_LIMIT) (sym left)
-          (AreOrdered-set p cmp DEGREE_LIMIT ns i (drop 1 (get_or ns i [])) c.settled.ensures.ordered
-          (IsOrdered-rest p cmp DEGREE_LIMIT (get_or ns i []) (AreOrdered-at p cmp DEGREE_LIMIT ns i c.settled.ensures.ordered top.0))),
-      λ passes.
-          c.self.invariant.1
-          (PassesTerms-same p TERM_LIMIT (sum_of ns) (sum_of xs) c.settled.ensures.same
-          (rest_passes_less p cmp laws DEGREE_LIMIT ns i c.settled.ensures.ordered top TERM_LIMIT (subst (λ zs. PassesTerms p TERM_LIMIT (sum_of zs)) left passes))),
-    )
+invariant_of-self-2 g c = (
+  c.drop_lead.ensures.ordered,
+  λ passes. c.self.invariant.1
+      (PassesTerms-same g.F.Field.ORDER TERM_LIMIT (sum_of c.settled_lead.new.tails.items) (sum_of c.self.inside.tails.items) c.settled_lead.ensures.same (c.drop_lead.ensures.fewer TERM_LIMIT passes)),
+)
 
 pub returns-clause-rest : goal.returns-clause-rest
 returns-clause-rest g c =
-    let value = g.F.Field.value in
     let p = g.F.Field.ORDER in
-    let cmp = g.O.MonoOrder.cmp in
-    let laws = g.met.O.MonoOrder.laws in
-    let xs = c.self.inside.tails.items in
-    let ns = c.settled.new.tails.items in
-    let now = c.args.self.now in
-    let same : SamePolynomial p (sum_of ns) now = λ m. c.settled.ensures.same m ∙ ap (λ t. written t m % p) c.self.view_is in
-    let i = c.in-Some.i in
-    let top : IsTop cmp ns i = c.in-Some.ensures.found in
-    let first : value c.in_ok-first.first.0 ≡ (get_or (get_or ns i []) 0 (0, [])).0 =
-    c.in_ok-first.ensures.0 ∙ ap (λ (ts : List Terms). (get_or (get_or ts i []) 0 (0, [])).0) c.as_slice.ensures.value in
-    let monomial : c.in_ok-first.first.1 ≡ lead_of ns i = c.in_ok-first.ensures.1 ∙ ap (λ ts. lead_of ts i) c.as_slice.ensures.value in
-    let leading : IsLeading p cmp now (value c.in_ok-first.first.0) c.in_ok-first.first.1 =
-    subst₂ (λ k m. IsLeading p cmp now k m) (sym first) (sym monomial)
-    (leading_same p cmp (sum_of ns) now (get_or (get_or ns i []) 0 (0, [])).0 (lead_of ns i) same (lead_is_leading p cmp laws DEGREE_LIMIT ns i c.settled.ensures.ordered top)) in
-    let left : c.drop_first_of.new.tails.items ≡ set ns i (drop 1 (get_or ns i [])) = c.drop_first_of.ensures in
-    λ m. sym (same m) ∙ whole_is p cmp laws DEGREE_LIMIT ns i c.settled.ensures.ordered top m
-    ∙ ap₂ (λ (t : ℕ × Monomial) (zs : List Terms). written (t ∷ sum_of zs) m % p) (ap₂ (λ (k : ℕ) (n : Monomial). (k, n)) (sym first) (sym monomial)) (sym left)
+    let xs = c.settled_lead.new.tails.items in
+    let first : (g.F.Field.value c.in-Some.first.0, c.in-Some.first.1) ≡ get_or (get_or xs c.in-Some.i []) 0 (0, []) = rw c.in-Some.is at c.in_ok-i.ensures.first in
+    λ m. ap (λ ts. written ts m % p) (sym c.self.view_is) ∙ sym (c.settled_lead.ensures.same m) ∙ c.drop_lead.ensures.rest m
+    ∙ ap (λ (t : ℕ × Monomial). written (t ∷ sum_of c.drop_lead.new.tails.items) m % p) (sym first)

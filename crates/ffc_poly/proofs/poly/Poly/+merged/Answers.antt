@@ -1,4 +1,4 @@
-use Rattle.std.proofs.Common.{◌≡◌, ◌++◌, sym, ap, ap₂, ◌∙◌, take-append-drop, arith, mod-eq_of_lt}
+use Rattle.std.proofs.Common.{◌≡◌, ◌++◌, sym, ap, ap₂, ◌∙◌, take-append-drop, arith}
 use Rattle.std.proofs.lemmas.Result.{IfOk-weaker}
 use Rattle.ffc_ring.specs.Polynomial.{SamePolynomial, scaled}
 use Rattle.ffc_poly.specs.Ordered.{sum_of}
@@ -19,7 +19,6 @@ returns-in_ok-back-in_default-clause-same g t c =
     let whole : front ++ back ≡ all =
     sym (sum_of-append c.split_at.result.0.now c.split_at.result.1.now)
     ∙ ap sum_of (ap₂ (λ f b. f ++ b) c.split_at.ensures.front c.split_at.ensures.back ∙ take-append-drop _ c.args.parts.now) in
-    let one : k ≡ 1 = c.of.ensures ∙ mod-eq_of_lt (omega (arith, g.met.F.Field.prime.least)) in
     IfOk-weaker c.add_scaled.result (λ v. SamePolynomial p v (x ++ scaled k y)) (λ v. SamePolynomial p v all)
-    (λ v h. SamePolynomial-halves p v x y front back all (λ m. h m ∙ sum_by_one p k x y one m) c.in_ok-front-in_default.ensures.same c.in_ok-back-in_default.ensures.same whole)
+    (λ v h. SamePolynomial-halves p v x y front back all (λ m. h m ∙ sum_by_one p k x y (omega (arith, g.met.F.Field.prime.least)) c.of.ensures m) c.in_ok-front-in_default.ensures.same c.in_ok-back-in_default.ensures.same whole)
     c.add_scaled.ensures.same
