@@ -5,4 +5,3 @@ pub mod SeenLemmas
 pub mod ViewLemmas
 pub mod LawLemmas
 pub mod RowLemmas
-pub mod TestLemmas

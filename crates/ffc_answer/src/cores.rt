@@ -33,7 +33,7 @@ fn name_at(names: &[Option<Text>], number: u64) -> Option<&Text>
 }
 
 /// The names at these numbers, as symbols are written.
-pub(crate) fn symbols_at(
+fn symbols_at(
     alloc: Global,
     names: &[Option<Text>],
     numbers: &[u64],
@@ -64,7 +64,7 @@ fn assumption_at(assertions: usize, asked: &[Asked], number: u64) -> Option<&Tex
 }
 
 /// The assumptions at these numbers, as written.
-pub(crate) fn assumptions_at(
+fn assumptions_at(
     alloc: Global,
     assertions: usize,
     asked: &[Asked],

@@ -10,8 +10,6 @@ pub mod laws;
 mod models;
 mod reasons;
 pub mod rows;
-#[cfg(test)]
-mod tests;
 mod texts;
 mod verdicts;
 mod view;

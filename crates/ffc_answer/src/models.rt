@@ -115,7 +115,7 @@ fn append_definitions(
 }
 
 /// Appends the model that lists these values.
-pub(crate) fn append_listed_model(
+fn append_listed_model(
     alloc: Global,
     table: &NodeTable,
     declared: &[Declared],
@@ -189,7 +189,7 @@ fn pair_texts(
 }
 
 /// Appends the values of these terms in the model that lists these values.
-pub(crate) fn append_listed_values(
+fn append_listed_values(
     alloc: Global,
     table: &NodeTable,
     asked: &[Asked],

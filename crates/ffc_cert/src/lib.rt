@@ -26,6 +26,3 @@ pub use writing::{text_len, write_entry};
 
 /// How many bytes the text of an entry may have.
 pub const MAX_BYTES: u64 = 67_108_864;
-
-#[cfg(test)]
-mod tests;

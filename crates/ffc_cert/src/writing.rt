@@ -159,7 +159,7 @@ fn write_lines(lines: &[CertLine], out: &mut Vec<u8>) -> Result<(), AllocError>
 }
 
 #[tactic(auto, using(crate::proofs::Appending::appending), unfolding(crate::specs::Spelling::entry_text))]
-pub(crate) fn append_entry(entry: &Entry, out: &mut Vec<u8>) -> Result<(), AllocError>
+fn append_entry(entry: &Entry, out: &mut Vec<u8>) -> Result<(), AllocError>
     ensures ok { OnOk result (out.new.items ≡ out.old.items ++ entry_text entry.now) }
     ensures err { OnErr result (Extends out.old.items out.new.items) }
 {

@@ -1,1 +1,4 @@
+mod CertLemmas
 mod CheckLemmas
+mod SampleLemmas
+mod ViewLemmas

@@ -1,4 +1,3 @@
 pub mod MoveLemmas
 pub mod RunLemmas
 pub mod StepLemmas
-pub mod SampleLemmas

@@ -2,7 +2,5 @@
 #![tactic(auto)]
 
 mod making;
-#[cfg(test)]
-mod tests;
 
 pub use making::make;

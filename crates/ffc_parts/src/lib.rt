@@ -6,8 +6,6 @@ mod heads;
 mod numbers;
 mod operators;
 mod options;
-#[cfg(test)]
-mod tests;
 mod words;
 
 pub use applying::{

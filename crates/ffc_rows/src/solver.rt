@@ -202,7 +202,7 @@ const SCOPES: [Answered; 9] = [
     ),
 ];
 
-const COMMAND_ROWS: [Answered; 5] = [
+const COMMAND_ROWS: [Answered; 8] = [
     (
         SolveStatus::Done,
         COMMANDS,
@@ -257,6 +257,63 @@ const COMMAND_ROWS: [Answered; 5] = [
         "unsat\n(b (not c))\nsat\n(error \"no core\")\n",
         None,
         "accepted 1 1 0\n",
+    ),
+    // The values of both sorts, and the greatest residue of the widest field.
+    (
+        SolveStatus::Done,
+        "(set-logic QF_FF)
+(define-sort F () (_ FiniteField 17))
+(define-sort G () (_ FiniteField 18446744069414584321))
+(declare-const b Bool)
+(declare-const c Bool)
+(declare-const x F)
+(declare-const y G)
+(assert (and b (not c)))
+(assert (= x (as ff-1 F)))
+(assert (= y (as ff-1 G)))
+(check-sat)
+(get-value (b c x y))
+",
+        "sat\n((b true) (c false) (x (as ff16 (_ FiniteField 17))) (y (as ff18446744069414584320 (_ FiniteField 18446744069414584321))))\n",
+        Some("ffcert 2\nsat 4\n= 0 1\n= 1 0\n= 2 16\n= 3 18446744069414584320\n"),
+        "accepted 1 0 0\n",
+    ),
+    // A name that is a reserved word is quoted.
+    (
+        SolveStatus::Done,
+        "(set-logic QF_FF)
+(define-sort F () (_ FiniteField 5))
+(declare-const |let| F)
+(assert (= |let| (as ff4 F)))
+(check-sat)
+(get-model)
+(get-value (|let|))
+",
+        "sat\n(\n(define-fun |let| () (_ FiniteField 5) (as ff4 (_ FiniteField 5)))\n)\n((|let| (as ff4 (_ FiniteField 5))))\n",
+        Some("ffcert 2\nsat 1\n= 0 4\n"),
+        "accepted 1 0 0\n",
+    ),
+    // All that is asserted is needed, and one assertion has no name.
+    (
+        SolveStatus::Done,
+        "(set-logic QF_FF)
+(declare-const a Bool)
+(declare-const b Bool)
+(declare-const c Bool)
+(assert (! a :named |a 1|))
+(assert (=> a b))
+(assert (! (=> b c) :named a2))
+(check-sat-assuming ((not c)))
+(get-unsat-core)
+(get-unsat-assumptions)
+(reset-assertions)
+(assert false)
+(check-sat)
+(get-unsat-core)
+",
+        "unsat\n(|a 1| a2)\n((not c))\nunsat\n()\n",
+        None,
+        "accepted 0 2 0\n",
     ),
 ];
 

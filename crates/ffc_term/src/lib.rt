@@ -14,8 +14,6 @@ mod modular;
 mod node;
 mod store;
 mod table;
-#[cfg(test)]
-mod tests;
 mod value;
 mod walk;
 

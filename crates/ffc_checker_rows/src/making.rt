@@ -1,5 +1,5 @@
-//! What no clause says: that nodes are made, given enough memory.
-use crate::making::make;
+//! What no clause says: that the nodes of terms are interned, given enough memory.
+use ffc_making::make;
 use ffc_parts::Operator;
 use ffc_term::NodeTable;
 use ffc_terms::{Names, Op, Symbols};

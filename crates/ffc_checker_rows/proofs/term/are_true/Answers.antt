@@ -1,6 +1,6 @@
 use Rattle.std.proofs.Common.{All, Contains, IsTrue, sym, subst, rules}
 use Rattle.ffc_term.proofs.RootLemmas.{roots_among}
-use Rattle.ffc_term.proofs.tests.are_true.Goals as goal
+use Rattle.ffc_checker_rows.proofs.term.are_true.Goals as goal
 
 pub nodes_of-requires : goal.nodes_of-requires
 nodes_of-requires g c =

@@ -1,4 +1,4 @@
--- The term `(let ((x true)) (not x))` and its code, for a test.
+-- The term `(let ((x true)) (not x))` and its code.
 use Rattle.std.proofs.Common.{◌≡◌, ◌≤◌, true, List, [], ◌∷◌, refl, sym, subst, arith}
 use Rattle.ffc_term.specs.declared.node.Node.{Node}
 use Rattle.ffc_term.specs.declared.node.Sort.TheVariants as sort

@@ -1,21 +1,15 @@
-//! Tables made at run time: each node is tried before it is made.
-ghost use Rattle.std.specs.Prelude.{ℕ, ◌<◌, length, IsTrue};
-ghost use Rattle.ffc_term.specs.declared.node.Node.{Node};
+//! Tables made at run time: each node is tried before it is interned.
+ghost use Rattle.std.specs.Prelude.{ℕ, ◌<◌, All, IsTrue, length};
 ghost use Rattle.ffc_term.specs.Tables.{CanCut};
 
-use crate::fitting::{are_boolean, count_constants, fits, is_order, is_plain};
-use crate::{
-    Assignment, Measures, Node, NodeId, NodeList, NodeTable, Sort, TermStop, Value, distinct,
+use crate::tables::{constant, put};
+use ffc_term::fitting::{are_boolean, count_constants, fits};
+use ffc_term::{
+    Assignment, Measures, Node, NodeId, NodeList, NodeTable, TermStop, Value, distinct,
 };
 use std::alloc::{AllocError, Global};
 use std::process::Abort;
 use std::test::Fail;
-
-fn make(rt: &impl Abort, table: &mut NodeTable, node: Node) -> Result<NodeId, TermStop> {
-    assert!(rt; fits(table, &node));
-    assert!(rt; is_plain(&node));
-    table.intern(node)
-}
 
 fn make_ite(
     rt: &impl Abort,
@@ -28,22 +22,11 @@ fn make_ite(
     table.ite_field(c, a, b)
 }
 
-fn declare(rt: &impl Abort, table: &mut NodeTable, sort: Sort) -> Result<NodeId, TermStop> {
-    let number = count_constants(table);
-    match sort {
-        Sort::Bool => table.intern(Node::BoolConst(number)),
-        Sort::Field(order) => {
-            assert!(rt; is_order(order));
-            table.intern(Node::FieldConst(number, order))
-        }
-    }
-}
-
 fn list(alloc: Global, ids: &[NodeId]) -> Result<NodeList, AllocError> {
     Ok(NodeList::new(ids.to_vec(alloc)?))
 }
 
-// The value of a node under an assignment.
+/// The value of a node under an assignment.
 fn evaluate(
     rt: &(impl Abort + AllocGlobal),
     table: &NodeTable,
@@ -57,7 +40,7 @@ fn evaluate(
     Ok(out[root as usize])
 }
 
-// Whether these nodes are all true under an assignment.
+/// Whether these nodes are all true under an assignment.
 fn are_true(
     rt: &(impl Abort + AllocGlobal),
     table: &NodeTable,
@@ -71,7 +54,7 @@ fn are_true(
     Ok(table.are_true(&nodes, &roots, values, &mut out))
 }
 
-// Lists of the constant 0, its negation 1 and the negation 2 of that, and whether all are true where the constant is.
+/// Lists of the constant 0, its negation 1 and the negation 2 of that, and whether all are true where the constant is.
 const ROOTS: [(&[NodeId], bool); 6] = [
     (&[], true),
     (&[0], true),
@@ -94,39 +77,46 @@ fn roots_in_any_order(rt: HostRuntime) -> Result<(), Fail> {
 }
 
 fn numbers(rt: &impl Abort, table: &mut NodeTable) -> Result<[NodeId; 4], TermStop> {
-    let three = make(rt, table, Node::Num(3, 5))?;
-    let again = make(rt, table, Node::Num(3, 5))?;
-    let four = make(rt, table, Node::Num(4, 5))?;
-    let condition = make(rt, table, Node::True)?;
+    let three = put(rt, table, Node::Num(3, 5))?;
+    let again = put(rt, table, Node::Num(3, 5))?;
+    let four = put(rt, table, Node::Num(4, 5))?;
+    let condition = put(rt, table, Node::True)?;
     Ok([three, again, four, condition])
 }
 
-// How many nodes and constants the check over a node has, and its measures.
+/// How many nodes and constants the check over these nodes has, and its measures.
+fn cone(table: &NodeTable, ids: &[NodeId]) -> Result<(usize, usize, Measures), AllocError>
+    requires { All (λ id. id < length table.now) ids.now }
+{
+    let nodes = table.nodes_of(ids)?.len();
+    let constants = table.constants_of(ids)?.len();
+    let measures = table.measures(ids)?;
+    Ok((nodes, constants, measures))
+}
+
+/// The same of one node.
 fn measured(
     rt: &impl Abort,
     table: &NodeTable,
     id: NodeId,
 ) -> Result<(usize, usize, Measures), AllocError> {
     assert!(rt; id < table.len());
-    let nodes = table.nodes_of(&[id])?;
-    let constants = table.constants_of(&[id])?;
-    let measures = table.measures(&[id])?;
-    Ok((nodes.len(), constants.len(), measures))
+    cone(table, &[id])
 }
 
 #[test]
 fn an_ite_adds_its_equalities(rt: HostRuntime) -> Result<(), Fail> {
     let mut table = NodeTable::new(rt.alloc())?;
     let made = numbers(&rt, &mut table)?;
-    assert_eq!(rt; made, [0, 0, 1, 2]);
+    assert!(rt; made == [0, 0, 1, 2]);
     let ite = make_ite(&rt, &mut table, 2, 0, 1)?;
-    assert_eq!(rt; (ite, table.len()), (3, 6));
+    assert!(rt; (ite, table.len()) == (3, 6));
     let row = measured(&rt, &table, 5)?;
-    assert_eq!(rt; row, (6, 0, Measures { span: 1, work: 6 }));
+    assert!(rt; row == (6, 0, Measures { span: 1, work: 6 }));
     Ok(())
 }
 
-// Of each order p: the sum of p - 1 and p - 2, their product, p - 2 negated, and the bit sum of p - 1, p - 2 and p - 2.
+/// Of each order p: the sum of p - 1 and p - 2, their product, p - 2 negated, and the bit sum of p - 1, p - 2 and p - 2.
 const EXPECTED: [(u64, [u64; 4]); 8] = [
     (2, [1, 0, 0, 1]),
     (3, [0, 2, 2, 2]),
@@ -148,9 +138,9 @@ fn sum_and_product(
     n: NodeId,
 ) -> Result<[NodeId; 2], TermStop> {
     let pair = list(rt.alloc(), &[x, n])?;
-    let sum = make(rt, table, Node::Add(pair))?;
+    let sum = put(rt, table, Node::Add(pair))?;
     let pair = list(rt.alloc(), &[x, n])?;
-    let product = make(rt, table, Node::Mul(pair))?;
+    let product = put(rt, table, Node::Mul(pair))?;
     Ok([sum, product])
 }
 
@@ -160,9 +150,9 @@ fn negation_and_bits(
     x: NodeId,
     n: NodeId,
 ) -> Result<[NodeId; 2], TermStop> {
-    let negated = make(rt, table, Node::Neg(n))?;
+    let negated = put(rt, table, Node::Neg(n))?;
     let three = list(rt.alloc(), &[x, n, n])?;
-    let bits = make(rt, table, Node::Bitsum(three))?;
+    let bits = put(rt, table, Node::Bitsum(three))?;
     Ok([negated, bits])
 }
 
@@ -172,8 +162,8 @@ fn operations(
     order: u64,
 ) -> Result<[NodeId; 4], TermStop> {
     assert!(rt; order > 1);
-    let x = declare(rt, table, Sort::Field(order))?;
-    let n = make(rt, table, Node::Num(order - 2, order))?;
+    let x = constant(rt, table, order)?;
+    let n = put(rt, table, Node::Num(order - 2, order))?;
     let [sum, product] = sum_and_product(rt, table, x, n)?;
     let [negated, bits] = negation_and_bits(rt, table, x, n)?;
     Ok([sum, product, negated, bits])
@@ -198,7 +188,7 @@ fn eight_orders(rt: HostRuntime) -> Result<(), Fail> {
     Ok(())
 }
 
-// Where this holds, nodes may be dropped from any number on.
+/// Where this holds, nodes may be dropped from any number on.
 fn has_no_ite(table: &NodeTable) -> bool
     ensures { IsTrue result → (len : ℕ) → CanCut table.now len }
 {
@@ -210,7 +200,7 @@ fn has_no_ite(table: &NodeTable) -> bool
     true
 }
 
-// The equality of x*y*y + x and y.
+/// The equality of x*y*y + x and y.
 fn equation(
     rt: &(impl Abort + AllocGlobal),
     table: &mut NodeTable,
@@ -218,50 +208,67 @@ fn equation(
     y: NodeId,
 ) -> Result<[NodeId; 3], TermStop> {
     let factors = list(rt.alloc(), &[x, y, y])?;
-    let product = make(rt, table, Node::Mul(factors))?;
+    let product = put(rt, table, Node::Mul(factors))?;
     let summands = list(rt.alloc(), &[product, x])?;
-    let sum = make(rt, table, Node::Add(summands))?;
-    let equal = make(rt, table, Node::Eq(sum, y))?;
+    let sum = put(rt, table, Node::Add(summands))?;
+    let equal = put(rt, table, Node::Eq(sum, y))?;
     Ok([product, sum, equal])
 }
 
 #[test]
 fn dropped_nodes_are_made_again(rt: HostRuntime) -> Result<(), Fail> {
     let mut table = NodeTable::new(rt.alloc())?;
-    let x = declare(&rt, &mut table, Sort::Field(17))?;
-    let y = declare(&rt, &mut table, Sort::Field(17))?;
+    let x = constant(&rt, &mut table, 17)?;
+    let y = constant(&rt, &mut table, 17)?;
     let once = equation(&rt, &mut table, x, y)?;
     assert!(rt; has_no_ite(&table));
     table.truncate(2);
     assert_eq!(rt; table.len(), 2);
     let again = equation(&rt, &mut table, x, y)?;
-    assert_eq!(rt; once, again);
+    assert!(rt; once == again);
     assert!(rt; table.len() > 4);
-    assert_eq!(rt; (table.degree(4), table.length(4)), (3, 2));
+    assert!(rt; (table.degree(4), table.length(4)) == (3, 2));
     Ok(())
 }
 
-// The last of so many negations, each of the one before it, and the first of a constant.
+/// The last of so many negations, each of the one before it, and the first of a constant.
 fn negations(rt: &impl Abort, table: &mut NodeTable, count: u32) -> Result<NodeId, TermStop> {
-    let mut last = declare(rt, table, Sort::Bool)?;
+    let number = count_constants(table);
+    let mut last = table.intern(Node::BoolConst(number))?;
     for _ in 0..count {
-        last = make(rt, table, Node::Not(last))?;
+        last = put(rt, table, Node::Not(last))?;
     }
     Ok(last)
+}
+
+/// What comes of putting the negations of two nodes.
+fn negations_of(
+    rt: &impl Abort,
+    table: &mut NodeTable,
+    [a, b]: [NodeId; 2],
+) -> [Result<NodeId, TermStop>; 2] {
+    [put(rt, table, Node::Not(a)), put(rt, table, Node::Not(b))]
 }
 
 #[test]
 fn a_full_table_finds_old_nodes(rt: HostRuntime) -> Result<(), Fail> {
     let mut table = NodeTable::new(rt.alloc())?;
     let last = negations(&rt, &mut table, 1_048_575)?;
-    assert_eq!(rt; (last, table.len()), (1_048_575, 1_048_576));
-    assert_eq!(rt;
-        make(&rt, &mut table, Node::Not(last)),
-        Err(TermStop::Nodes)
-    );
-    assert_eq!(rt; make(&rt, &mut table, Node::Not(0)), Ok(1));
+    assert!(rt; (last, table.len()) == (1_048_575, 1_048_576));
+    let found = negations_of(&rt, &mut table, [last, 0]);
+    assert!(rt; found == [Err(TermStop::Nodes), Ok(1)]);
     assert_eq!(rt; table.len(), 1_048_576);
     Ok(())
+}
+
+/// The value of a node where the one constant is true.
+fn value_where_true(
+    rt: &(impl Abort + AllocGlobal),
+    table: &NodeTable,
+    id: NodeId,
+) -> Result<Value, AllocError> {
+    let values = Assignment::new(vec![in rt.alloc(); Value::Bool(true)]?);
+    evaluate(rt, table, id, &values)
 }
 
 #[test]
@@ -273,8 +280,8 @@ fn a_million_negations(rt: HostRuntime) -> Result<(), Fail> {
         span: 2,
         work: 2_000_002,
     };
-    assert_eq!(rt; row, (1_000_001, 1, measures));
-    let values = Assignment::new(vec![in rt.alloc(); Value::Bool(true)]?);
-    assert_eq!(rt; evaluate(&rt, &table, last, &values)?, Value::Bool(true));
+    assert!(rt; row == (1_000_001, 1, measures));
+    let value = value_where_true(&rt, &table, last)?;
+    assert_eq!(rt; value, Value::Bool(true));
     Ok(())
 }

@@ -1,8 +1,7 @@
-//! What no clause says: that these calls succeed, given enough memory.
-use crate::applying::{apply, put};
-use crate::numbers::{constant_of, literal_number, literal_order, residue_of};
-use crate::operators::Operator;
-use ffc_term::{Node, NodeTable};
+//! What no clause says: that numbers are read, and that functions are applied, given enough memory.
+use ffc_parts::{Operator, apply, constant_of, literal_number, literal_order, put, residue_of};
+use ffc_term::{Node, NodeId, NodeTable, TermStop};
+use std::alloc::Global;
 use std::test::Fail;
 
 #[test]
@@ -19,11 +18,16 @@ fn numbers_are_read(rt: HostRuntime) -> Result<(), Fail> {
     Ok(())
 }
 
+/// Puts `true` and its negation.
+fn negation(alloc: Global, table: &mut NodeTable) -> Result<NodeId, TermStop> {
+    let truth = put(table, Node::True)?;
+    apply(table, alloc, Operator::Not, &[truth])
+}
+
 #[test]
 fn a_negation_is_made(rt: HostRuntime) -> Result<(), Fail> {
     let mut table = NodeTable::new(rt.alloc())?;
-    let truth = put(&mut table, Node::True)?;
-    let made = apply(&mut table, rt.alloc(), Operator::Not, &[truth])?;
+    let made = negation(rt.alloc(), &mut table)?;
     assert_eq!(rt; made, 1);
     assert_eq!(rt; table.len(), 2);
     Ok(())
