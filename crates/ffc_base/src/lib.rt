@@ -8,8 +8,6 @@ mod outside;
 mod pieces;
 mod standard;
 mod sure;
-#[cfg(test)]
-mod tests;
 
 pub use files::{FileSink, FileSource};
 pub use memory::{MemSink, MemSource};

@@ -4,8 +4,8 @@ ghost use Rattle.ffc_cdcl.specs.State.{AreListed};
 
 use ffc_base::Meter;
 use ffc_cdcl::{CdclStop, Lit, Literals, Outcome, Solver, Theory, TheoryAnswer};
-use std::alloc::{AllocError, Global};
-use std::test::Fail;
+use std::alloc::Global;
+use std::process::Abort;
 
 /// A theory with no lemmas, which agrees with every trail.
 #[derive(Drop)]
@@ -75,15 +75,13 @@ fn minus(node: u32) -> Lit
     }
 }
 
-/// Adds a clause, where it may be added.
-fn add(solver: &mut Solver, lits: &[Lit]) -> Result<(), AllocError>
+/// Adds a clause.
+fn add(rt: &impl Abort, solver: &mut Solver, lits: &[Lit])
     ensures lemmas { solver.new.lemmas ≡ solver.old.lemmas }
     ensures scopes { solver.new.scopes ≡ solver.old.scopes }
 {
-    if solver.can_add(lits) {
-        solver.add_clause(lits)?;
-    }
-    Ok(())
+    assert!(rt; solver.can_add(lits));
+    solver.add_clause(lits).expect(rt, "memory");
 }
 
 /// Which node 1 is in a model, where there is one.
@@ -95,130 +93,159 @@ fn value_of_one(outcome: &Outcome) -> Option<bool> {
 }
 
 /// Solves by itself.
-fn solve_alone(solver: &mut Solver) -> Result<Option<bool>, CdclStop>
+fn solve_alone(rt: &impl Abort, solver: &mut Solver) -> Option<bool>
     requires { AreListed [] solver.old.lemmas }
     ensures lemmas { AreListed [] solver.new.lemmas }
     ensures scopes { solver.new.scopes ≡ solver.old.scopes }
 {
-    let outcome = solver.solve(&mut Agreeing, &mut Meter::new(100_000))?;
-    Ok(value_of_one(&outcome))
+    let outcome = solver
+        .solve(&mut Agreeing, &mut Meter::new(100_000))
+        .expect(rt, "enough units");
+    value_of_one(&outcome)
+}
+
+/// Solves with two more clauses.
+fn solve_with(rt: &impl Abort, solver: &mut Solver, one: &[Lit], other: &[Lit]) -> Option<bool>
+    requires { AreListed [] solver.old.lemmas }
+    ensures lemmas { AreListed [] solver.new.lemmas }
+    ensures scopes { solver.new.scopes ≡ solver.old.scopes }
+{
+    add(rt, solver, one);
+    add(rt, solver, other);
+    solve_alone(rt, solver)
 }
 
 /// Refutes in a scope, and finds a model after it.
-fn use_scope(solver: &mut Solver) -> Result<(Option<bool>, Option<bool>), CdclStop>
+fn use_scope(rt: &impl Abort, solver: &mut Solver)
     requires { solver.old.lemmas ≡ [] }
 {
-    solver.push_scope()?;
-    add(solver, &[plus(0)])?;
-    add(solver, &[minus(0)])?;
-    let inner = solve_alone(solver)?;
+    solver.push_scope().expect(rt, "memory");
+    assert_eq!(rt; solve_with(rt, solver, &[plus(0)], &[minus(0)]), None);
     solver.pop_scope();
-    add(solver, &[plus(0), plus(1)])?;
-    add(solver, &[minus(0)])?;
-    Ok((inner, solve_alone(solver)?))
+    assert_eq!(rt;
+        solve_with(rt, solver, &[plus(0), plus(1)], &[minus(0)]),
+        Some(true)
+    );
+}
+
+/// A solver of clauses of so many nodes.
+fn solver(rt: &impl Abort, alloc: Global, nodes: u32) -> Solver
+    ensures lemmas { result.lemmas ≡ [] }
+    ensures nodes { result.nodes ≡ nodes }
+{
+    Solver::new(alloc, nodes).expect(rt, "memory")
+}
+
+/// Two nodes, and a node and one more.
+#[test]
+fn scopes(rt: HostRuntime) {
+    use_scope(&rt, &mut solver(&rt, rt.alloc(), 2));
+    let mut grown = solver(&rt, rt.alloc(), 1);
+    grown.grow(2).expect(&rt, "memory");
+    use_scope(&rt, &mut grown);
 }
 
 #[test]
-fn scopes(rt: HostRuntime) -> Result<(), Fail> {
-    let mut solver = Solver::new(rt.alloc(), 2)?;
-    assert!(rt;
-        use_scope(&mut solver) == Ok((None, Some(true))),
-        "two nodes"
-    );
-    let mut grown = Solver::new(rt.alloc(), 1)?;
-    grown.grow(2)?;
-    assert!(rt;
-        use_scope(&mut grown) == Ok((None, Some(true))),
-        "a node and one more"
-    );
-    Ok(())
-}
-
-#[test]
-fn clauses_with_both_literals_of_a_node(rt: HostRuntime) -> Result<(), Fail> {
+fn clauses_with_both_literals_of_a_node(rt: HostRuntime) {
+    let both = [plus(0), minus(0)];
+    let mut alone = solver(&rt, rt.alloc(), 2);
+    add(&rt, &mut alone, &both);
+    assert!(rt; solve_alone(&rt, &mut alone).is_some());
     let others = [
-        None,
-        Some([plus(0), plus(1)]),
-        Some([minus(0), minus(1)]),
-        Some([plus(1), minus(1)]),
+        [plus(0), plus(1)],
+        [minus(0), minus(1)],
+        [plus(1), minus(1)],
     ];
     for (place, other) in others.iter().enumerate() {
-        let mut solver = Solver::new(rt.alloc(), 2)?;
-        add(&mut solver, &[plus(0), minus(0)])?;
-        if let Some(clause) = other {
-            add(&mut solver, clause)?;
-        }
-        assert!(rt; solve_alone(&mut solver)?.is_some(), "place {place}");
+        let mut solver = solver(&rt, rt.alloc(), 2);
+        let value = solve_with(&rt, &mut solver, &both, other);
+        assert!(rt; value.is_some(), "place {place}");
     }
-    Ok(())
 }
 
-/// Clauses that say that so many pigeons sit in one hole fewer, each alone.
-fn add_pigeons(solver: &mut Solver, alloc: Global, holes: u32) -> Result<(), AllocError>
+/// Adds the clause that a pigeon sits in one of the holes.
+fn add_pigeon(rt: &impl Abort, solver: &mut Solver, alloc: Global, holes: u32, pigeon: u32)
+    ensures { solver.new.lemmas ≡ solver.old.lemmas }
+{
+    let mut clause = Vec::new(alloc);
+    for hole in 0..holes {
+        clause
+            .push(plus(pigeon.wrapping_mul(holes).wrapping_add(hole)))
+            .expect(rt, "memory");
+    }
+    add(rt, solver, clause.as_slice());
+}
+
+/// Adds the clauses that no two pigeons sit in a hole.
+fn add_hole(rt: &impl Abort, solver: &mut Solver, holes: u32, hole: u32)
     ensures { solver.new.lemmas ≡ solver.old.lemmas }
 {
     for pigeon in 0..=holes {
-        let mut clause = Vec::new(alloc);
-        for hole in 0..holes {
-            clause.push(plus(pigeon.wrapping_mul(holes).wrapping_add(hole)))?;
+        for other in 0..pigeon {
+            let one = minus(pigeon.wrapping_mul(holes).wrapping_add(hole));
+            let two = minus(other.wrapping_mul(holes).wrapping_add(hole));
+            add(rt, solver, &[one, two]);
         }
-        add(solver, clause.as_slice())?;
+    }
+}
+
+/// A solver of the clauses that say that so many pigeons sit in one hole fewer, each alone.
+fn pigeonholes(rt: &impl Abort, alloc: Global, holes: u32) -> Solver
+    ensures { result.lemmas ≡ [] }
+{
+    let mut solver = solver(rt, alloc, holes.wrapping_mul(holes.wrapping_add(1)));
+    for pigeon in 0..=holes {
+        add_pigeon(rt, &mut solver, alloc, holes, pigeon);
     }
     for hole in 0..holes {
-        for pigeon in 0..=holes {
-            for other in 0..pigeon {
-                let one = minus(pigeon.wrapping_mul(holes).wrapping_add(hole));
-                let two = minus(other.wrapping_mul(holes).wrapping_add(hole));
-                add(solver, &[one, two])?;
-            }
-        }
+        add_hole(rt, &mut solver, holes, hole);
     }
-    Ok(())
+    solver
 }
 
 #[test]
-fn pigeons(rt: HostRuntime) -> Result<(), Fail> {
+fn pigeons(rt: HostRuntime) {
     for holes in 1..5u32 {
-        let mut solver = Solver::new(rt.alloc(), holes.wrapping_mul(holes + 1))?;
-        add_pigeons(&mut solver, rt.alloc(), holes)?;
-        assert!(rt; solve_alone(&mut solver) == Ok(None), "{holes} holes");
+        let mut solver = pigeonholes(&rt, rt.alloc(), holes);
+        assert_eq!(rt; solve_alone(&rt, &mut solver), None, "{holes} holes");
     }
-    Ok(())
 }
 
-/// How many steps refute the clauses, where they are refuted.
-fn refuting_steps(solver: &mut Solver) -> Result<Option<usize>, CdclStop>
+/// How many steps refute the clauses.
+fn refuting_steps(rt: &impl Abort, solver: &mut Solver) -> usize
     requires { AreListed [] solver.old.lemmas }
 {
-    let outcome = solver.solve(&mut Agreeing, &mut Meter::new(10_000_000))?;
+    let outcome = solver
+        .solve(&mut Agreeing, &mut Meter::new(10_000_000))
+        .expect(rt, "enough units");
     match outcome {
-        Outcome::Model(_) => Ok(None),
-        Outcome::Refuted(steps) => Ok(Some(steps.len())),
+        Outcome::Model(_) => panic!(rt; "the clauses have a model"),
+        Outcome::Refuted(steps) => steps.len(),
     }
 }
 
 /// Seven holes take more conflicts than the 100 of the first run of a search and the 1,000 after which learned clauses
 /// are dropped, so the search begins anew with fewer clauses, and still ends.
 #[test]
-fn searches_that_begin_anew(rt: HostRuntime) -> Result<(), Fail> {
-    let mut solver = Solver::new(rt.alloc(), 56)?;
-    add_pigeons(&mut solver, rt.alloc(), 7)?;
-    let steps = refuting_steps(&mut solver)?;
-    assert!(rt; steps.is_some_and(|count| count > 1_000));
-    Ok(())
+fn searches_that_begin_anew(rt: HostRuntime) {
+    let mut solver = pigeonholes(&rt, rt.alloc(), 7);
+    assert!(rt; refuting_steps(&rt, &mut solver) > 1_000);
 }
 
 #[test]
-fn lemmas(rt: HostRuntime) -> Result<(), Fail> {
-    let mut solver = Solver::new(rt.alloc(), 2)?;
+fn lemmas(rt: HostRuntime) {
+    let mut solver = solver(&rt, rt.alloc(), 2);
     let mut theory = NotBoth { alloc: rt.alloc() };
     let mut meter = Meter::new(100);
-    add(&mut solver, &[plus(0), plus(1)])?;
-    add(&mut solver, &[plus(1)])?;
-    let outcome = solver.solve(&mut theory, &mut meter)?;
-    assert!(rt; value_of_one(&outcome) == Some(true), "one of both");
-    add(&mut solver, &[plus(0)])?;
-    let outcome = solver.solve(&mut theory, &mut meter)?;
-    assert!(rt; value_of_one(&outcome) == None, "both");
-    Ok(())
+    add(&rt, &mut solver, &[plus(0), plus(1)]);
+    add(&rt, &mut solver, &[plus(1)]);
+    let one = solver
+        .solve(&mut theory, &mut meter)
+        .expect(&rt, "enough units");
+    assert_eq!(rt; value_of_one(&one), Some(true));
+    add(&rt, &mut solver, &[plus(0)]);
+    let both = solver
+        .solve(&mut theory, &mut meter)
+        .expect(&rt, "enough units");
+    assert_eq!(rt; value_of_one(&both), None);
 }

@@ -1,24 +1,19 @@
 //! Ideals completed to bases, with the leading monomials that they have.
-use crate::terms::{Term, monomial, sums};
+use crate::basis::{basis_of, less_parts};
+use crate::terms::{Term, monomial};
 use ffc_base::Meter;
-use ffc_basis::{Basis, BasisStop, Completion, Progress};
+use ffc_basis::{Basis, BasisStop, Completion, Line, Progress};
 use ffc_field::BabyBear;
-use ffc_mono::{GradedReverseLex, Lex, Mono, MonoOrder};
+use ffc_mono::{GradedReverseLex, Lex, Mono, MonoOrder, MonoRef};
 use std::alloc::Global;
-use std::test::Fail;
+use std::process::Abort;
 
 /// The most units that a test takes.
 const UNITS: u64 = 1_000_000;
 
-/// The basis of these sums.
-fn basis_of<O: MonoOrder>(alloc: Global, rows: &[&[Term<'_>]]) -> Result<Basis<BabyBear, O>, Fail> {
-    let polys = sums::<BabyBear, O>(alloc, rows)?;
-    Ok(Basis::start(alloc, polys.as_slice())?)
-}
-
 /// Whether a line has this leading monomial.
-fn has_lead<O: MonoOrder>(basis: &Basis<BabyBear, O>, lead: &Mono) -> bool {
-    for line in basis.lines() {
+fn has_lead<O: MonoOrder>(lines: &[Line<BabyBear, O>], lead: &Mono) -> bool {
+    for line in lines {
         if let Some((_, m)) = line.poly.lead() {
             if m == lead.as_ref() {
                 return true;
@@ -28,11 +23,21 @@ fn has_lead<O: MonoOrder>(basis: &Basis<BabyBear, O>, lead: &Mono) -> bool {
     false
 }
 
+/// Whether one of these monomials divides this one.
+fn is_multiple(m: MonoRef<'_>, leads: &[Mono]) -> bool {
+    for lead in leads {
+        if lead.as_ref().divides(m) {
+            return true;
+        }
+    }
+    false
+}
+
 /// Whether one of these monomials divides the leading monomial of each line.
-fn divide_leads<O: MonoOrder>(basis: &Basis<BabyBear, O>, leads: &[Mono]) -> bool {
-    for line in basis.lines() {
+fn divide_leads<O: MonoOrder>(lines: &[Line<BabyBear, O>], leads: &[Mono]) -> bool {
+    for line in lines {
         if let Some((_, m)) = line.poly.lead() {
-            if !leads.iter().any(|lead| lead.as_ref().divides(m)) {
+            if !is_multiple(m, leads) {
                 return false;
             }
         }
@@ -41,59 +46,59 @@ fn divide_leads<O: MonoOrder>(basis: &Basis<BabyBear, O>, leads: &[Mono]) -> boo
 }
 
 /// Whether each line with parts is their sum.
-fn are_sums<O: MonoOrder>(alloc: Global, basis: &Basis<BabyBear, O>) -> Result<bool, Fail> {
-    for line in basis.lines() {
+fn are_sums<O: MonoOrder>(rt: &impl Abort, lines: &[Line<BabyBear, O>]) -> bool {
+    for line in lines {
         if line.parts.len() > 0 {
-            let mut left = line.poly.clone()?;
-            for part in &line.parts {
-                let source = basis.lines().get(part.0 as usize).ok_or("no line")?;
-                left = left.sub(&part.1.mul(&source.poly)?)?;
-            }
+            let left = less_parts(rt, lines, &line.poly, line.parts.as_slice());
             if !left.is_zero() {
-                return Ok(false);
+                return false;
             }
         }
     }
-    Ok(true)
+    true
 }
 
-/// Whether a basis is closed, with these leading monomials.
+/// Asserts that the leading monomials of the lines are multiples of these, which are among them, and that each line
+/// with parts is their sum.
 fn has_leads<O: MonoOrder>(
+    rt: &impl Abort,
     alloc: Global,
-    basis: &Basis<BabyBear, O>,
+    lines: &[Line<BabyBear, O>],
     leads: &[&[u32]],
-) -> Result<bool, Fail> {
+) {
     let mut monomials = Vec::new(alloc);
     for exponents in leads {
-        let lead = monomial(alloc, exponents)?;
-        if !has_lead(basis, &lead) {
-            return Ok(false);
-        }
-        monomials.push(lead)?;
+        let lead = monomial(rt, alloc, exponents);
+        assert!(rt; has_lead(lines, &lead), "{exponents:?}");
+        monomials.push(lead).expect(rt, "memory");
     }
-    Ok(divide_leads(basis, monomials.as_slice()) && are_sums(alloc, basis)?)
+    assert!(rt; divide_leads(lines, monomials.as_slice()));
+    assert!(rt; are_sums(rt, lines));
 }
 
-/// Whether these sums are completed to a basis with these leading monomials, and again after the last lines are
-/// dropped.
-fn completes<O: MonoOrder>(
-    alloc: Global,
-    gens: &[&[Term<'_>]],
-    leads: &[&[u32]],
-) -> Result<bool, Fail> {
-    let mut basis = basis_of::<O>(alloc, gens)?;
-    for _ in 0..2 {
-        let answer = basis
-            .complete(&mut Meter::new(UNITS))
-            .map_err(|_| "stopped")?;
-        if !matches!(answer, Completion::Closed) || !has_leads(alloc, &basis, leads)? {
-            return Ok(false);
-        }
-        if gens.len() < basis.lines().len() {
-            basis.cut(gens.len());
-        }
+/// Completes a basis, which has no constant and passes no limit.
+fn close<O: MonoOrder>(rt: &impl Abort, basis: &mut Basis<BabyBear, O>) {
+    let answer = basis
+        .complete(&mut Meter::new(UNITS))
+        .expect(rt, "enough units");
+    assert!(rt; matches!(answer, Completion::Closed));
+}
+
+/// Drops the lines from a number on.
+fn cut_to<O: MonoOrder>(basis: &mut Basis<BabyBear, O>, len: usize) {
+    if len < basis.lines().len() {
+        basis.cut(len);
     }
-    Ok(true)
+}
+
+/// Completes these sums to a basis with these leading monomials, and again after the last lines are dropped.
+fn completes<O: MonoOrder>(rt: &impl Abort, alloc: Global, gens: &[&[Term<'_>]], leads: &[&[u32]]) {
+    let mut basis = basis_of::<BabyBear, O>(rt, alloc, gens);
+    for _ in 0..2u8 {
+        close(rt, &mut basis);
+        has_leads(rt, alloc, basis.lines(), leads);
+        cut_to(&mut basis, gens.len());
+    }
 }
 
 /// The three cyclic sums of three variables.
@@ -218,99 +223,120 @@ const KATSURA: [&[Term<'static>]; 4] = [
     ],
 ];
 
+/// Leading monomials by hand, in both orders and in each.
+const CYCLIC_LEADS: [&[u32]; 3] = [&[1], &[0, 2], &[0, 0, 3]];
+
+const KATSURA_LEADS: [&[u32]; 7] = [
+    &[1],
+    &[0, 2],
+    &[0, 1, 1],
+    &[0, 0, 2],
+    &[0, 1, 0, 2],
+    &[0, 0, 1, 2],
+    &[0, 0, 0, 4],
+];
+
+const TRIANGLE: [&[u32]; 4] = [&[1], &[0, 1], &[0, 0, 1], &[0, 0, 0, 8]];
+
 #[test]
-fn closed(rt: HostRuntime) -> Result<(), Fail> {
+fn closed(rt: HostRuntime) {
     let alloc = rt.alloc();
-    let cyclic: [&[u32]; 3] = [&[1], &[0, 2], &[0, 0, 3]];
-    assert!(rt; completes::<GradedReverseLex>(alloc, &CYCLIC, &cyclic)?);
-    assert!(rt; completes::<Lex>(alloc, &CYCLIC, &cyclic)?);
-    let katsura: [&[u32]; 7] = [
-        &[1],
-        &[0, 2],
-        &[0, 1, 1],
-        &[0, 0, 2],
-        &[0, 1, 0, 2],
-        &[0, 0, 1, 2],
-        &[0, 0, 0, 4],
-    ];
-    assert!(rt; completes::<GradedReverseLex>(alloc, &KATSURA, &katsura)?);
-    let triangle: [&[u32]; 4] = [&[1], &[0, 1], &[0, 0, 1], &[0, 0, 0, 8]];
-    assert!(rt; completes::<Lex>(alloc, &KATSURA, &triangle)?);
-    Ok(())
+    completes::<GradedReverseLex>(&rt, alloc, &CYCLIC, &CYCLIC_LEADS);
+    completes::<Lex>(&rt, alloc, &CYCLIC, &CYCLIC_LEADS);
+    completes::<GradedReverseLex>(&rt, alloc, &KATSURA, &KATSURA_LEADS);
+    completes::<Lex>(&rt, alloc, &KATSURA, &TRIANGLE);
 }
 
 #[test]
-fn closed_by_singular(rt: HostRuntime) -> Result<(), Fail> {
-    let alloc = rt.alloc();
-    assert!(rt; completes::<GradedReverseLex>(alloc, &CYCLIC_4, &CYCLIC_4_LEADS)?);
-    assert!(rt; completes::<GradedReverseLex>(alloc, &KATSURA_4, &KATSURA_4_LEADS)?);
-    Ok(())
+fn closed_by_singular(rt: HostRuntime) {
+    completes::<GradedReverseLex>(&rt, rt.alloc(), &CYCLIC_4, &CYCLIC_4_LEADS);
+    completes::<GradedReverseLex>(&rt, rt.alloc(), &KATSURA_4, &KATSURA_4_LEADS);
 }
 
-#[test]
-fn in_parts(rt: HostRuntime) -> Result<(), Fail> {
-    let alloc = rt.alloc();
-    let mut basis = basis_of::<GradedReverseLex>(alloc, &KATSURA)?;
+/// Does a part of the completion, with these units.
+fn part_within<O: MonoOrder>(
+    rt: &impl Abort,
+    basis: &mut Basis<BabyBear, O>,
+    units: u64,
+    meter: &mut Meter,
+) -> Progress {
+    basis
+        .complete_within(units, meter)
+        .expect(rt, "enough units")
+}
+
+/// How many parts of one unit leave pairs before the completion is done.
+fn parts_left<O: MonoOrder>(rt: &impl Abort, basis: &mut Basis<BabyBear, O>) -> u64 {
     let mut meter = Meter::new(UNITS);
-    let mut is_left = false;
-    for _ in 0..UNITS {
-        match basis.complete_within(1, &mut meter).map_err(|_| "stopped")? {
-            Progress::Left => is_left = true,
-            Progress::Done(_) => break,
+    for parts in 0..UNITS {
+        if let Progress::Done(_) = part_within(rt, basis, 1, &mut meter) {
+            return parts;
         }
     }
-    assert!(rt; is_left);
-    let answer = basis.complete(&mut meter).map_err(|_| "stopped")?;
-    assert!(rt; matches!(answer, Completion::Closed));
-    assert!(rt; has_lead(&basis, &monomial(alloc, &[0, 0, 0, 4])?));
-    Ok(())
+    0
 }
 
 #[test]
-fn without_units(rt: HostRuntime) -> Result<(), Fail> {
+fn in_parts(rt: HostRuntime) {
     let alloc = rt.alloc();
-    let linear: [&[Term<'_>]; 2] = [&[(1, &[1]), (-1, &[0, 1])], &[(1, &[1]), (-1, &[])]];
-    let mut basis = basis_of::<Lex>(alloc, &linear)?;
-    for _ in 0..2 {
-        let progress = basis
-            .complete_within(0, &mut Meter::new(UNITS))
-            .map_err(|_| "stopped")?;
+    let mut basis = basis_of::<BabyBear, GradedReverseLex>(&rt, alloc, &KATSURA);
+    assert!(rt; parts_left(&rt, &mut basis) > 0);
+    close(&rt, &mut basis);
+    assert!(rt; has_lead(basis.lines(), &monomial(&rt, alloc, &[0, 0, 0, 4])));
+}
+
+const LINEAR: [&[Term<'static>]; 2] = [&[(1, &[1]), (-1, &[0, 1])], &[(1, &[1]), (-1, &[])]];
+
+/// What a call with no units answers for a new meter.
+fn without<O: MonoOrder>(rt: &impl Abort, basis: &mut Basis<BabyBear, O>) -> Progress {
+    part_within(rt, basis, 0, &mut Meter::new(UNITS))
+}
+
+/// The linear lines are reduced without units, and again after they are dropped.
+fn reduces_linear(rt: &impl Abort, alloc: Global) {
+    let mut basis = basis_of::<BabyBear, Lex>(rt, alloc, &LINEAR);
+    for _ in 0..2u8 {
+        let progress = without(rt, &mut basis);
         assert!(rt; matches!(progress, Progress::Done(Completion::Closed)));
         assert_eq!(rt; basis.lines().len(), 3);
         basis.cut(2);
     }
-    let mut basis = basis_of::<GradedReverseLex>(alloc, &KATSURA)?;
-    let progress = basis
-        .complete_within(0, &mut Meter::new(UNITS))
-        .map_err(|_| "stopped")?;
-    assert!(rt; matches!(progress, Progress::Left));
-    Ok(())
 }
 
 #[test]
-fn constants_and_limits(rt: HostRuntime) -> Result<(), Fail> {
-    let alloc = rt.alloc();
-    let unit: [&[Term<'_>]; 2] = [&[(1, &[1, 1]), (-1, &[])], &[(1, &[1])]];
-    let mut basis = basis_of::<Lex>(alloc, &unit)?;
-    let stop = basis.complete(&mut Meter::new(0)).err();
-    assert_eq!(rt; stop, Some(BasisStop::Spent));
-    let answer = basis
+fn without_units(rt: HostRuntime) {
+    reduces_linear(&rt, rt.alloc());
+    let mut basis = basis_of::<BabyBear, GradedReverseLex>(&rt, rt.alloc(), &KATSURA);
+    assert!(rt; matches!(without(&rt, &mut basis), Progress::Left));
+}
+
+const UNIT: [&[Term<'static>]; 2] = [&[(1, &[1, 1]), (-1, &[])], &[(1, &[1])]];
+
+const HIGH: [&[Term<'static>]; 2] = [
+    &[(1, &[1000, 1]), (1, &[])],
+    &[(1, &[0, 1, 1000]), (2, &[])],
+];
+
+/// What a completion of these sums answers, which is first stopped where that is wanted.
+fn answer(rt: &impl Abort, alloc: Global, gens: &[&[Term<'_>]], is_stopped: bool) -> Completion {
+    let mut basis = basis_of::<BabyBear, Lex>(rt, alloc, gens);
+    if is_stopped {
+        let stop = basis.complete(&mut Meter::new(0)).err();
+        assert_eq!(rt; stop, Some(BasisStop::Spent));
+    }
+    basis
         .complete(&mut Meter::new(UNITS))
-        .map_err(|_| "stopped")?;
-    assert!(rt; matches!(answer, Completion::Constant(2)));
-    let high: [&[Term<'_>]; 2] = [
-        &[(1, &[1000, 1]), (1, &[])],
-        &[(1, &[0, 1, 1000]), (2, &[])],
-    ];
-    let mut basis = basis_of::<Lex>(alloc, &high)?;
-    let answer = basis
-        .complete(&mut Meter::new(UNITS))
-        .map_err(|_| "stopped")?;
-    match answer {
+        .expect(rt, "enough units")
+}
+
+#[test]
+fn constants_and_limits(rt: HostRuntime) {
+    let constant = answer(&rt, rt.alloc(), &UNIT, true);
+    assert!(rt; matches!(constant, Completion::Constant(2)));
+    match answer(&rt, rt.alloc(), &HIGH, false) {
         Completion::SetAside(pairs) => {
             assert_eq!(rt; pairs.as_slice(), [(0, 1)].as_slice());
         }
-        _ => assert!(rt; false),
+        _ => panic!(rt; "no pair is set aside"),
     }
-    Ok(())
 }

@@ -1,5 +1,6 @@
-//! Library calls that the solver is made of, on inputs whose answers were found by hand: monomials, polynomials, their
-//! roots and bases, the clauses and polynomials of nodes, the search for values, and the solver of clauses.
+//! Library calls that the solver is made of, on inputs whose answers were found by hand: sources and sinks of bytes,
+//! monomials, polynomials, their roots and bases, the clauses and polynomials of nodes, the search for values, and the
+//! solver of clauses.
 //!
 //! The crate has tests alone. Expected values are computed by hand or come from the algebra, never from a program's
 //! output.
@@ -15,6 +16,8 @@ mod completion;
 mod encode;
 #[cfg(test)]
 mod mono;
+#[cfg(test)]
+mod outside;
 #[cfg(test)]
 mod poly;
 #[cfg(test)]

@@ -2,6 +2,7 @@
 mod known;
 
 use crate::terms::elements;
+use crate::uni::{of_roots, uni};
 use ffc_base::Meter;
 use ffc_field::{BabyBear, F2, F3, F5, F17, F65537, Field, Goldilocks, KoalaBear};
 use ffc_mono::Lex;
@@ -10,186 +11,161 @@ use ffc_roots::{RootStop, from_univariate, roots, to_univariate};
 use ffc_uni::Uni;
 use std::alloc::Global;
 use std::process::Abort;
-use std::test::Fail;
 
-/// Whether a polynomial has just these roots, found with so many units.
-fn has_roots<F: Field>(
-    rt: &impl Abort,
-    alloc: Global,
-    f: &Uni<F>,
-    budget: u64,
-    wanted: &[u64],
-) -> Result<bool, Fail> {
+/// Asserts that a polynomial has just these roots, which are found with so many units.
+fn has_roots<F: Field>(rt: &impl Abort, alloc: Global, f: &Uni<F>, budget: u64, wanted: &[u64]) {
     assert!(rt; f.coefs().len() >= 2);
-    let mut meter = Meter::new(budget);
-    match roots(alloc, f, &mut meter) {
-        Ok(found) => {
-            let zeros = found.zeros.as_slice();
-            let wanted = elements::<F>(alloc, wanted)?;
-            Ok(zeros == wanted.as_slice())
-        }
-        Err(_) => Ok(false),
+    let found = roots(alloc, f, &mut Meter::new(budget)).expect(rt, "enough units");
+    let wanted = elements::<F>(rt, alloc, wanted);
+    assert!(rt; found.zeros.as_slice() == wanted.as_slice());
+}
+
+/// A polynomial: the order of its field, its coefficients or those of a factor of it, and what is listed of its other
+/// roots, each as often as it is a root of the rest. Last are its roots.
+type Rooted<'a> = (u64, &'a [u64], &'a [u64], &'a [u64]);
+
+/// Asserts that the product of a polynomial and the X - root has just the roots that are wanted.
+fn finds<F: Field>(rt: &impl Abort, alloc: Global, factor: &[u64], listed: &[u64], wanted: &[u64]) {
+    let factor = uni::<F>(rt, alloc, factor);
+    let product = factor
+        .mul(&of_roots::<F>(rt, alloc, listed))
+        .expect(rt, "memory");
+    has_roots::<F>(rt, alloc, &product, 1_000_000, wanted);
+}
+
+/// The same over the field of this order.
+fn finds_at(rt: &impl Abort, alloc: Global, (order, factor, listed, wanted): Rooted<'_>) {
+    match order {
+        2 => finds::<F2>(rt, alloc, factor, listed, wanted),
+        3 => finds::<F3>(rt, alloc, factor, listed, wanted),
+        5 => finds::<F5>(rt, alloc, factor, listed, wanted),
+        17 => finds::<F17>(rt, alloc, factor, listed, wanted),
+        65537 => finds::<F65537>(rt, alloc, factor, listed, wanted),
+        2013265921 => finds::<BabyBear>(rt, alloc, factor, listed, wanted),
+        2130706433 => finds::<KoalaBear>(rt, alloc, factor, listed, wanted),
+        18446744069414584321 => finds::<Goldilocks>(rt, alloc, factor, listed, wanted),
+        _ => panic!(rt; "{order} is the order of no field"),
     }
 }
 
-/// Whether the product of a polynomial and the X - root has just the different ones of these as its roots.
-fn finds<F: Field>(
-    rt: &impl Abort,
-    alloc: Global,
-    factor: &[u64],
-    listed: &[u64],
-    wanted: &[u64],
-) -> Result<bool, Fail> {
-    let factor = Uni::from_coefs(alloc, elements::<F>(alloc, factor)?.as_slice())?;
-    let product = Uni::from_roots(alloc, elements::<F>(alloc, listed)?.as_slice())?;
-    has_roots::<F>(rt, alloc, &factor.mul(&product)?, 1_000_000, wanted)
-}
-
-/// Whether a factor that has no root in the field, what is listed, and both together have just the roots that are
-/// wanted.
-fn finds_each<F: Field>(
-    rt: &impl Abort,
-    alloc: Global,
-    without: &[u64],
-    listed: &[u64],
-    wanted: &[u64],
-) -> Result<bool, Fail> {
-    Ok(
-        finds::<F>(rt, alloc, without, &[], &[])?
-            && finds::<F>(rt, alloc, &[1], listed, wanted)?
-            && finds::<F>(rt, alloc, without, listed, wanted)?,
-    )
-}
+/// Factors that have no root in the field, what is listed, and the roots of both together.
+const LISTED: [Rooted<'static>; 8] = [
+    (2, &[1, 1, 1], &[0, 1, 1], &[0, 1]),
+    (3, &[1, 0, 1], &[2, 0, 0], &[0, 2]),
+    (5, &[3, 0, 1], &[4, 1, 0, 4], &[0, 1, 4]),
+    (17, &[14, 0, 1], &[16, 3, 5, 0, 3], &[0, 3, 5, 16]),
+    (
+        65537,
+        &[65534, 0, 1],
+        &[65536, 7, 7, 2, 0],
+        &[0, 2, 7, 65536],
+    ),
+    (
+        2013265921,
+        &[2013265910, 0, 1],
+        &[2013265920, 0, 9, 9],
+        &[0, 9, 2013265920],
+    ),
+    (
+        2130706433,
+        &[2130706430, 0, 1],
+        &[5, 2130706432, 0, 5],
+        &[0, 5, 2130706432],
+    ),
+    (
+        18446744069414584321,
+        &[18446744069414584314, 0, 1],
+        &[18446744069414584320, 1, 4294967296, 1, 0],
+        &[0, 1, 4294967296, 18446744069414584320],
+    ),
+];
 
 /// Some of the listed roots are multiple ones, and 0 and the last residue are among them. The factor without roots is
 /// X^2 + X + 1 over two elements, and else X^2 less a number that is no square, by Python's powers.
 #[test]
-fn listed_roots(rt: HostRuntime) -> Result<(), Fail> {
-    let alloc = rt.alloc();
-    assert!(rt; finds_each::<F2>(&rt, alloc, &[1, 1, 1], &[0, 1, 1], &[0, 1])?);
-    assert!(rt; finds_each::<F3>(&rt, alloc, &[1, 0, 1], &[2, 0, 0], &[0, 2])?);
-    assert!(rt; finds_each::<F5>(&rt, alloc, &[3, 0, 1], &[4, 1, 0, 4], &[0, 1, 4])?);
-    assert!(rt; finds_each::<F17>(&rt, alloc, &[14, 0, 1], &[16, 3, 5, 0, 3], &[0, 3, 5, 16])?);
-    assert!(rt;
-        finds_each::<F65537>(
-            &rt,
-            alloc,
-            &[65534, 0, 1],
-            &[65536, 7, 7, 2, 0],
-            &[0, 2, 7, 65536]
-        )?
-    );
-    assert!(rt;
-        finds_each::<BabyBear>(
-            &rt,
-            alloc,
-            &[2013265910, 0, 1],
-            &[2013265920, 0, 9, 9],
-            &[0, 9, 2013265920]
-        )?
-    );
-    assert!(rt;
-        finds_each::<KoalaBear>(
-            &rt,
-            alloc,
-            &[2130706430, 0, 1],
-            &[5, 2130706432, 0, 5],
-            &[0, 5, 2130706432]
-        )?
-    );
-    assert!(rt;
-        finds_each::<Goldilocks>(
-            &rt,
-            alloc,
-            &[18446744069414584314, 0, 1],
-            &[18446744069414584320, 1, 4294967296, 1, 0],
-            &[0, 1, 4294967296, 18446744069414584320]
-        )?
-    );
-    Ok(())
+fn listed_roots(rt: HostRuntime) {
+    for (order, without, listed, wanted) in LISTED {
+        finds_at(&rt, rt.alloc(), (order, without, &[], &[]));
+        finds_at(&rt, rt.alloc(), (order, &[1], listed, wanted));
+        finds_at(&rt, rt.alloc(), (order, without, listed, wanted));
+    }
 }
 
 /// Polynomials of degree 1 and 2, by hand.
+const LOW: [Rooted<'static>; 5] = [
+    (5, &[4, 0, 1], &[], &[1, 4]),
+    (5, &[1, 2], &[], &[2]),
+    (2, &[1, 1], &[], &[1]),
+    (17, &[0, 3], &[], &[0]),
+    (18446744069414584321, &[18446744069414584320, 1], &[], &[1]),
+];
+
 #[test]
-fn low_degrees(rt: HostRuntime) -> Result<(), Fail> {
-    let alloc = rt.alloc();
-    assert!(rt; finds::<F5>(&rt, alloc, &[4, 0, 1], &[], &[1, 4])?);
-    assert!(rt; finds::<F5>(&rt, alloc, &[1, 2], &[], &[2])?);
-    assert!(rt; finds::<F2>(&rt, alloc, &[1, 1], &[], &[1])?);
-    assert!(rt; finds::<F17>(&rt, alloc, &[0, 3], &[], &[0])?);
-    assert!(rt; finds::<Goldilocks>(&rt, alloc, &[18446744069414584320, 1], &[], &[1])?);
-    Ok(())
+fn low_degrees(rt: HostRuntime) {
+    for polynomial in LOW {
+        finds_at(&rt, rt.alloc(), polynomial);
+    }
 }
 
 /// X^2 - 7 has no root over Goldilocks, and 256 units are enough to say so.
 #[test]
-fn seven_is_no_square(rt: HostRuntime) -> Result<(), Fail> {
-    let f = elements::<Goldilocks>(rt.alloc(), &[18446744069414584314, 0, 1])?;
-    let f = Uni::from_coefs(rt.alloc(), f.as_slice())?;
-    assert!(rt; has_roots::<Goldilocks>(&rt, rt.alloc(), &f, 256, &[])?);
-    Ok(())
+fn seven_is_no_square(rt: HostRuntime) {
+    let f = uni::<Goldilocks>(&rt, rt.alloc(), &[18446744069414584314, 0, 1]);
+    has_roots(&rt, rt.alloc(), &f, 256, &[]);
 }
 
 /// X^2 - X + 1 has the two primitive sixth roots of unity, which are found with 1,536 units: the second is 1 less the
 /// first.
 #[test]
-fn sixth_roots_of_unity(rt: HostRuntime) -> Result<(), Fail> {
-    let f = elements::<Goldilocks>(rt.alloc(), &[1, 18446744069414584320, 1])?;
-    let f = Uni::from_coefs(rt.alloc(), f.as_slice())?;
-    let wanted = [4294967296, 18446744065119617026];
-    assert!(rt; has_roots::<Goldilocks>(&rt, rt.alloc(), &f, 1536, &wanted)?);
-    Ok(())
+fn sixth_roots_of_unity(rt: HostRuntime) {
+    let f = uni::<Goldilocks>(&rt, rt.alloc(), &[1, 18446744069414584320, 1]);
+    has_roots(
+        &rt,
+        rt.alloc(),
+        &f,
+        1536,
+        &[4294967296, 18446744065119617026],
+    );
 }
 
 /// The numbers from 0 on, so many.
-fn numbers(alloc: Global, count: u64) -> Result<Vec<u64>, Fail> {
+fn numbers(rt: &impl Abort, alloc: Global, count: u64) -> Vec<u64> {
     let mut out = Vec::new(alloc);
     for n in 0..count {
-        out.push(n)?;
+        out.push(n).expect(rt, "memory");
     }
-    Ok(out)
+    out
 }
 
 /// All residues of a small field, and 64 roots in a large one.
 #[test]
-fn many_roots(rt: HostRuntime) -> Result<(), Fail> {
-    let alloc = rt.alloc();
-    let few = numbers(alloc, 17)?;
-    let many = numbers(alloc, 64)?;
-    let without = [18446744069414584314, 0, 1];
-    assert!(rt; finds::<F17>(&rt, alloc, &[1], &few, &few)?);
-    assert!(rt; finds::<BabyBear>(&rt, alloc, &[1], &many, &many)?);
-    assert!(rt; finds::<Goldilocks>(&rt, alloc, &without, &many, &many)?);
-    Ok(())
+fn many_roots(rt: HostRuntime) {
+    let few = numbers(&rt, rt.alloc(), 17);
+    let many = numbers(&rt, rt.alloc(), 64);
+    finds::<F17>(&rt, rt.alloc(), &[1], &few, &few);
+    finds::<BabyBear>(&rt, rt.alloc(), &[1], &many, &many);
+    finds::<Goldilocks>(&rt, rt.alloc(), &[18446744069414584314, 0, 1], &many, &many);
 }
 
 /// A chain over Goldilocks has 95 pairs, and more are needed to part two roots.
 #[test]
-fn few_units(rt: HostRuntime) -> Result<(), Fail> {
-    let f = Uni::from_roots(
-        rt.alloc(),
-        elements::<Goldilocks>(rt.alloc(), &[1, 7])?.as_slice(),
-    )?;
+fn few_units(rt: HostRuntime) {
+    let f = of_roots::<Goldilocks>(&rt, rt.alloc(), &[1, 7]);
     assert!(rt; f.coefs().len() >= 2);
     for budget in [0, 94, 95] {
-        let mut meter = Meter::new(budget);
-        let stopped = roots(rt.alloc(), &f, &mut meter);
-        assert!(rt;
-            matches!(&stopped, Err(RootStop::Spent)),
-            "with {budget} units"
-        );
+        let stop = roots(rt.alloc(), &f, &mut Meter::new(budget)).err();
+        assert_eq!(rt; stop, Some(RootStop::Spent), "with {budget} units");
     }
-    Ok(())
 }
 
 /// X^2 + 3 as a polynomial of many variables, and back.
 #[test]
-fn one_of_many_variables(rt: HostRuntime) -> Result<(), Fail> {
-    let alloc = rt.alloc();
-    let u = Uni::from_coefs(alloc, elements::<F5>(alloc, &[3, 0, 1])?.as_slice())?;
-    let f: Poly<F5, Lex> = from_univariate(alloc, &u, 7)?;
+fn one_of_many_variables(rt: HostRuntime) {
+    let u = uni::<F5>(&rt, rt.alloc(), &[3, 0, 1]);
+    let f: Poly<F5, Lex> = from_univariate(rt.alloc(), &u, 7).expect(&rt, "memory");
     assert_eq!(rt; f.len(), 2);
-    assert!(rt; to_univariate(alloc, &f, 7)?.is_some_and(|v| v == u));
-    assert!(rt; to_univariate(alloc, &f, 6)?.is_none());
-    Ok(())
+    let back = to_univariate(rt.alloc(), &f, 7).expect(&rt, "memory");
+    assert_eq!(rt; back.expect(&rt, "one variable"), u);
+    let other = to_univariate(rt.alloc(), &f, 6).expect(&rt, "memory");
+    assert!(rt; other.is_none());
 }

@@ -7,7 +7,6 @@ use ffc_search::{Found, SearchStop, search};
 use ffc_stack::BasisStack;
 use std::alloc::Global;
 use std::process::Abort;
-use std::test::Fail;
 
 /// What is wanted of a search.
 #[derive(Clone, Copy, Debug, PartialEq, Eq)]
@@ -17,126 +16,148 @@ enum Kind {
     Stopped,
 }
 
+/// The residues of these elements.
+fn residues<F: Field>(rt: &impl Abort, alloc: Global, found: &[F]) -> Vec<u64> {
+    let mut values = Vec::new(alloc);
+    for value in found {
+        values.push(value.residue()).expect(rt, "memory");
+    }
+    values
+}
+
 /// The kind of an answer, and the values that it has.
 fn kind_of<F: Field>(
+    rt: &impl Abort,
     alloc: Global,
     answer: &Result<Found<F>, SearchStop>,
-) -> Result<(Kind, Vec<u64>), Fail> {
-    let mut values = Vec::new(alloc);
+) -> (Kind, Vec<u64>) {
     match answer {
-        Ok(Found::Values(found)) => {
-            for value in found.as_slice() {
-                values.push(value.residue())?;
-            }
-            Ok((Kind::Values, values))
-        }
-        Ok(Found::Closed(_)) => Ok((Kind::Closed, values)),
-        Err(_) => Ok((Kind::Stopped, values)),
+        Ok(Found::Values(found)) => (Kind::Values, residues(rt, alloc, found.as_slice())),
+        Ok(Found::Closed(_)) => (Kind::Closed, Vec::new(alloc)),
+        Err(_) => (Kind::Stopped, Vec::new(alloc)),
     }
+}
+
+/// What a search answers, which leaves the stack as it was.
+fn searched<F: Field, O: MonoOrder>(
+    rt: &impl Abort,
+    alloc: Global,
+    stack: &mut BasisStack<F, O>,
+    vars: &[u32],
+    meter: &mut Meter,
+) -> Result<Found<F>, SearchStop> {
+    let lines = stack.lines().len();
+    let found = search(alloc, stack, vars, meter);
+    assert_eq!(rt; stack.depth(), 1);
+    assert_eq!(rt; stack.lines().len(), lines);
+    found
 }
 
 /// What the search answers for these generators.
 fn answer<F: Field, O: MonoOrder>(
+    rt: &impl Abort,
     alloc: Global,
     gens: &[&[Term<'_>]],
     vars: &[u32],
     budget: u64,
-) -> Result<(Kind, Vec<u64>), Fail> {
-    let polys = sums::<F, O>(alloc, gens)?;
+) -> (Kind, Vec<u64>) {
+    let polys = sums::<F, O>(rt, alloc, gens);
     let mut stack: BasisStack<F, O> = BasisStack::new(alloc);
     let mut meter = Meter::new(budget);
     let _ = stack
         .push_within(polys.as_slice(), 4, &mut meter)
-        .map_err(|_| "no level")?;
-    let lines = stack.lines().len();
-    let found = search(alloc, &mut stack, vars, &mut meter);
-    if stack.depth() != 1 || stack.lines().len() != lines {
-        return Err(Fail::from("the stack has changed"));
-    }
-    kind_of(alloc, &found)
+        .expect(rt, "a level");
+    let found = searched(rt, alloc, &mut stack, vars, &mut meter);
+    kind_of(rt, alloc, &found)
 }
 
-/// Whether the search closes these generators over both orders.
-fn closes<F: Field>(alloc: Global, gens: &[&[Term<'_>]], vars: &[u32]) -> Result<bool, Fail> {
-    let lex = answer::<F, Lex>(alloc, gens, vars, 1_000_000)?;
-    let graded = answer::<F, GradedReverseLex>(alloc, gens, vars, 1_000_000)?;
-    Ok(lex.0 == Kind::Closed && graded.0 == Kind::Closed)
+/// Asserts what the search answers over this order.
+fn answers<F: Field, O: MonoOrder>(
+    rt: &impl Abort,
+    alloc: Global,
+    gens: &[&[Term<'_>]],
+    vars: &[u32],
+    wanted: (Kind, &[u64]),
+) {
+    let (kind, values) = answer::<F, O>(rt, alloc, gens, vars, 1_000_000);
+    assert_eq!(rt; kind, wanted.0);
+    assert_eq!(rt; values.as_slice(), wanted.1);
 }
 
-/// Whether the search finds these values over both orders.
+/// Asserts that the search closes these generators over both orders.
+fn closes<F: Field>(rt: &impl Abort, alloc: Global, gens: &[&[Term<'_>]], vars: &[u32]) {
+    answers::<F, Lex>(rt, alloc, gens, vars, (Kind::Closed, &[]));
+    answers::<F, GradedReverseLex>(rt, alloc, gens, vars, (Kind::Closed, &[]));
+}
+
+/// Asserts that the search finds these values over both orders.
 fn finds<F: Field>(
+    rt: &impl Abort,
     alloc: Global,
     gens: &[&[Term<'_>]],
     vars: &[u32],
     wanted: &[u64],
-) -> Result<bool, Fail> {
-    let lex = answer::<F, Lex>(alloc, gens, vars, 1_000_000)?;
-    let graded = answer::<F, GradedReverseLex>(alloc, gens, vars, 1_000_000)?;
-    Ok(
-        lex.0 == Kind::Values
-            && graded.0 == Kind::Values
-            && lex.1.as_slice() == wanted
-            && graded.1.as_slice() == wanted,
-    )
+) {
+    answers::<F, Lex>(rt, alloc, gens, vars, (Kind::Values, wanted));
+    answers::<F, GradedReverseLex>(rt, alloc, gens, vars, (Kind::Values, wanted));
 }
 
-#[test]
-fn one_variable(rt: HostRuntime) -> Result<(), Fail> {
-    let alloc = rt.alloc();
-    let square_less_one: [&[Term<'_>]; 2] = [&[(1, &[2]), (-1, &[])], &[(1, &[1]), (-2, &[])]];
-    assert!(rt; closes::<BabyBear>(alloc, &square_less_one, &[0])?);
-    assert!(rt; closes::<F5>(alloc, &square_less_one, &[0])?);
-    let square_and_one: [&[Term<'_>]; 1] = [&[(1, &[2]), (1, &[])]];
-    assert!(rt; finds::<F5>(alloc, &square_and_one, &[0], &[2])?);
-    let square_less_seven: [&[Term<'_>]; 1] = [&[(1, &[2]), (-7, &[])]];
-    assert!(rt; closes::<Goldilocks>(alloc, &square_less_seven, &[0])?);
-    Ok(())
-}
+const SQUARE_LESS_ONE: [&[Term<'static>]; 2] = [&[(1, &[2]), (-1, &[])], &[(1, &[1]), (-2, &[])]];
+
+const SQUARE_AND_ONE: [&[Term<'static>]; 1] = [&[(1, &[2]), (1, &[])]];
+
+const SQUARE_LESS_SEVEN: [&[Term<'static>]; 1] = [&[(1, &[2]), (-7, &[])]];
 
 #[test]
-fn two_variables(rt: HostRuntime) -> Result<(), Fail> {
-    let alloc = rt.alloc();
-    let roots: [&[Term<'_>]; 3] = [
-        &[(1, &[2]), (-4, &[])],
-        &[(1, &[0, 2]), (-9, &[])],
-        &[(1, &[1, 1]), (-5, &[])],
-    ];
-    assert!(rt; closes::<BabyBear>(alloc, &roots, &[0, 1])?);
-    let both: [&[Term<'_>]; 2] = [
-        &[(1, &[1, 1]), (-6, &[])],
-        &[(1, &[1]), (1, &[0, 1]), (-5, &[])],
-    ];
-    assert!(rt; finds::<BabyBear>(alloc, &both, &[0, 1], &[3, 2])?);
-    Ok(())
+fn one_variable(rt: HostRuntime) {
+    closes::<BabyBear>(&rt, rt.alloc(), &SQUARE_LESS_ONE, &[0]);
+    closes::<F5>(&rt, rt.alloc(), &SQUARE_LESS_ONE, &[0]);
+    finds::<F5>(&rt, rt.alloc(), &SQUARE_AND_ONE, &[0], &[2]);
+    closes::<Goldilocks>(&rt, rt.alloc(), &SQUARE_LESS_SEVEN, &[0]);
 }
 
-#[test]
-fn bits(rt: HostRuntime) -> Result<(), Fail> {
-    let alloc = rt.alloc();
-    let bits: [&[Term<'_>]; 5] = [
-        &[(1, &[2]), (-1, &[1])],
-        &[(1, &[0, 2]), (-1, &[0, 1])],
-        &[(1, &[0, 0, 2]), (-1, &[0, 0, 1])],
-        &[(1, &[0, 0, 0, 2]), (-1, &[0, 0, 0, 1])],
-        &[
-            (1, &[1]),
-            (2, &[0, 1]),
-            (4, &[0, 0, 1]),
-            (8, &[0, 0, 0, 1]),
-            (-16, &[]),
-        ],
-    ];
-    assert!(rt; closes::<BabyBear>(alloc, &bits, &[0, 1, 2, 3])?);
-    Ok(())
-}
+const ROOTS: [&[Term<'static>]; 3] = [
+    &[(1, &[2]), (-4, &[])],
+    &[(1, &[0, 2]), (-9, &[])],
+    &[(1, &[1, 1]), (-5, &[])],
+];
+
+const SUM_AND_PRODUCT: [&[Term<'static>]; 2] = [
+    &[(1, &[1, 1]), (-6, &[])],
+    &[(1, &[1]), (1, &[0, 1]), (-5, &[])],
+];
 
 #[test]
-fn guesses(rt: HostRuntime) -> Result<(), Fail> {
-    let alloc = rt.alloc();
-    let product: [&[Term<'_>]; 1] = [&[(1, &[1, 1]), (-6, &[])]];
-    assert!(rt; finds::<BabyBear>(alloc, &product, &[0, 1], &[6, 1])?);
-    assert!(rt; finds::<F5>(alloc, &product, &[0, 1], &[1, 1])?);
-    let stop = answer::<BabyBear, Lex>(alloc, &product, &[0, 1], 2)?;
+fn two_variables(rt: HostRuntime) {
+    closes::<BabyBear>(&rt, rt.alloc(), &ROOTS, &[0, 1]);
+    finds::<BabyBear>(&rt, rt.alloc(), &SUM_AND_PRODUCT, &[0, 1], &[3, 2]);
+}
+
+const BITS: [&[Term<'static>]; 5] = [
+    &[(1, &[2]), (-1, &[1])],
+    &[(1, &[0, 2]), (-1, &[0, 1])],
+    &[(1, &[0, 0, 2]), (-1, &[0, 0, 1])],
+    &[(1, &[0, 0, 0, 2]), (-1, &[0, 0, 0, 1])],
+    &[
+        (1, &[1]),
+        (2, &[0, 1]),
+        (4, &[0, 0, 1]),
+        (8, &[0, 0, 0, 1]),
+        (-16, &[]),
+    ],
+];
+
+#[test]
+fn bits(rt: HostRuntime) {
+    closes::<BabyBear>(&rt, rt.alloc(), &BITS, &[0, 1, 2, 3]);
+}
+
+const PRODUCT: [&[Term<'static>]; 1] = [&[(1, &[1, 1]), (-6, &[])]];
+
+#[test]
+fn guesses(rt: HostRuntime) {
+    finds::<BabyBear>(&rt, rt.alloc(), &PRODUCT, &[0, 1], &[6, 1]);
+    finds::<F5>(&rt, rt.alloc(), &PRODUCT, &[0, 1], &[1, 1]);
+    let stop = answer::<BabyBear, Lex>(&rt, rt.alloc(), &PRODUCT, &[0, 1], 2);
     assert_eq!(rt; stop.0, Kind::Stopped);
-    Ok(())
 }

@@ -1,14 +1,5 @@
 //! Polynomials of degrees 1 to 64, each over one of the eight orders.
-use super::has_roots;
-use crate::terms::elements;
-use ffc_field::{BabyBear, F2, F3, F5, F17, F65537, Field, Goldilocks, KoalaBear};
-use ffc_uni::Uni;
-use std::alloc::Global;
-use std::process::Abort;
-use std::test::Fail;
-
-/// The units that one polynomial may take.
-const BUDGET: u64 = 1_000_000;
+use super::finds_at;
 
 /// An order, the coefficients of a polynomial from the lowest, and its roots.
 type Known = (u64, &'static [u64], &'static [u64]);
@@ -732,46 +723,9 @@ const POLYNOMIALS: [Known; 64] = [
     ),
 ];
 
-/// Whether the polynomial with these coefficients has just these roots.
-fn finds_over<F: Field>(
-    rt: &impl Abort,
-    alloc: Global,
-    coefs: &[u64],
-    wanted: &[u64],
-) -> Result<bool, Fail> {
-    let f = Uni::from_coefs(alloc, elements::<F>(alloc, coefs)?.as_slice())?;
-    has_roots::<F>(rt, alloc, &f, BUDGET, wanted)
-}
-
-/// Whether the polynomial over the field of this order has just these roots.
-fn finds_at(
-    rt: &impl Abort,
-    alloc: Global,
-    order: u64,
-    coefs: &[u64],
-    wanted: &[u64],
-) -> Result<bool, Fail> {
-    match order {
-        2 => finds_over::<F2>(rt, alloc, coefs, wanted),
-        3 => finds_over::<F3>(rt, alloc, coefs, wanted),
-        5 => finds_over::<F5>(rt, alloc, coefs, wanted),
-        17 => finds_over::<F17>(rt, alloc, coefs, wanted),
-        65537 => finds_over::<F65537>(rt, alloc, coefs, wanted),
-        2013265921 => finds_over::<BabyBear>(rt, alloc, coefs, wanted),
-        2130706433 => finds_over::<KoalaBear>(rt, alloc, coefs, wanted),
-        18446744069414584321 => finds_over::<Goldilocks>(rt, alloc, coefs, wanted),
-        _ => Ok(false),
-    }
-}
-
 #[test]
-fn known_roots(rt: HostRuntime) -> Result<(), Fail> {
-    for (order, coefs, wanted) in &POLYNOMIALS {
-        assert!(rt;
-            finds_at(&rt, rt.alloc(), *order, coefs, wanted)?,
-            "a polynomial of {} coefficients over {order} elements",
-            coefs.len()
-        );
+fn known_roots(rt: HostRuntime) {
+    for (order, coefs, wanted) in POLYNOMIALS {
+        finds_at(&rt, rt.alloc(), (order, coefs, &[], wanted));
     }
-    Ok(())
 }
