@@ -211,17 +211,22 @@ fn pigeons(rt: HostRuntime) {
     }
 }
 
-/// How many steps refute the clauses.
-fn refuting_steps(rt: &impl Abort, solver: &mut Solver) -> usize
+/// How many steps refute the clauses, where they are refuted.
+fn steps_of(outcome: &Outcome) -> Option<usize> {
+    match outcome {
+        Outcome::Model(_) => None,
+        Outcome::Refuted(steps) => Some(steps.len()),
+    }
+}
+
+/// How many steps refute the clauses, by itself.
+fn refuting_steps(rt: &impl Abort, solver: &mut Solver) -> Option<usize>
     requires { AreListed [] solver.old.lemmas }
 {
     let outcome = solver
         .solve(&mut Agreeing, &mut Meter::new(10_000_000))
         .expect(rt, "enough units");
-    match outcome {
-        Outcome::Model(_) => panic!(rt; "the clauses have a model"),
-        Outcome::Refuted(steps) => steps.len(),
-    }
+    steps_of(&outcome)
 }
 
 /// Seven holes take more conflicts than the 100 of the first run of a search and the 1,000 after which learned clauses
@@ -229,7 +234,8 @@ fn refuting_steps(rt: &impl Abort, solver: &mut Solver) -> usize
 #[test]
 fn searches_that_begin_anew(rt: HostRuntime) {
     let mut solver = pigeonholes(&rt, rt.alloc(), 7);
-    assert!(rt; refuting_steps(&rt, &mut solver) > 1_000);
+    let steps = refuting_steps(&rt, &mut solver).expect(&rt, "a refutation");
+    assert!(rt; steps > 1_000);
 }
 
 #[test]

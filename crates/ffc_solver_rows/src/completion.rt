@@ -58,21 +58,24 @@ fn are_sums<O: MonoOrder>(rt: &impl Abort, lines: &[Line<BabyBear, O>]) -> bool 
     true
 }
 
+/// The products of the first variables to these powers.
+fn monomials(rt: &impl Abort, alloc: Global, rows: &[&[u32]]) -> Vec<Mono> {
+    let mut products = Vec::new(alloc);
+    for exponents in rows {
+        products
+            .push(monomial(rt, alloc, exponents))
+            .expect(rt, "memory");
+    }
+    products
+}
+
 /// Asserts that the leading monomials of the lines are multiples of these, which are among them, and that each line
 /// with parts is their sum.
-fn has_leads<O: MonoOrder>(
-    rt: &impl Abort,
-    alloc: Global,
-    lines: &[Line<BabyBear, O>],
-    leads: &[&[u32]],
-) {
-    let mut monomials = Vec::new(alloc);
-    for exponents in leads {
-        let lead = monomial(rt, alloc, exponents);
-        assert!(rt; has_lead(lines, &lead), "{exponents:?}");
-        monomials.push(lead).expect(rt, "memory");
+fn has_leads<O: MonoOrder>(rt: &impl Abort, lines: &[Line<BabyBear, O>], leads: &[Mono]) {
+    for lead in leads {
+        assert!(rt; has_lead(lines, lead));
     }
-    assert!(rt; divide_leads(lines, monomials.as_slice()));
+    assert!(rt; divide_leads(lines, leads));
     assert!(rt; are_sums(rt, lines));
 }
 
@@ -93,10 +96,11 @@ fn cut_to<O: MonoOrder>(basis: &mut Basis<BabyBear, O>, len: usize) {
 
 /// Completes these sums to a basis with these leading monomials, and again after the last lines are dropped.
 fn completes<O: MonoOrder>(rt: &impl Abort, alloc: Global, gens: &[&[Term<'_>]], leads: &[&[u32]]) {
+    let leads = monomials(rt, alloc, leads);
     let mut basis = basis_of::<BabyBear, O>(rt, alloc, gens);
     for _ in 0..2u8 {
         close(rt, &mut basis);
-        has_leads(rt, alloc, basis.lines(), leads);
+        has_leads(rt, basis.lines(), leads.as_slice());
         cut_to(&mut basis, gens.len());
     }
 }

@@ -212,21 +212,20 @@ fn kept_text(
     text_of(rt, alloc, polys.known(id).expect(rt, "a known polynomial"))
 }
 
+/// Asserts the text of each of these nodes' polynomials, also after that of node 14.
+fn have_texts(rt: &impl Abort, alloc: Global, table: &NodeTable, polys: &[(NodeId, &str)]) {
+    for (id, wanted) in polys {
+        let text = poly_text(rt, alloc, table, *id);
+        assert!(rt; text.as_str() == *wanted, "{id}: {text}");
+        let text = kept_text(rt, alloc, table, 14, *id);
+        assert!(rt; text.as_str() == *wanted, "{id}: {text}");
+    }
+}
+
 #[test]
 fn polynomials_of_field_nodes(rt: HostRuntime) {
     let table = field_table(&rt, rt.alloc());
-    for (id, wanted) in POLYS {
-        assert_eq!(rt;
-            poly_text(&rt, rt.alloc(), &table, id).as_str(),
-            wanted,
-            "{id}"
-        );
-        assert_eq!(rt;
-            kept_text(&rt, rt.alloc(), &table, 14, id).as_str(),
-            wanted,
-            "{id}"
-        );
-    }
+    have_texts(&rt, rt.alloc(), &table, &POLYS);
 }
 
 /// x, and so many squares in a row.

@@ -7,15 +7,20 @@ use ffc_base::Meter;
 use ffc_field::{BabyBear, F2, F3, F5, F17, F65537, Field, Goldilocks, KoalaBear};
 use ffc_mono::Lex;
 use ffc_poly::Poly;
-use ffc_roots::{RootStop, from_univariate, roots, to_univariate};
+use ffc_roots::{RootStop, Roots, from_univariate, roots, to_univariate};
 use ffc_uni::Uni;
 use std::alloc::Global;
 use std::process::Abort;
 
+/// The roots of a polynomial, which are found with so many units.
+fn roots_of<F: Field>(rt: &impl Abort, alloc: Global, f: &Uni<F>, budget: u64) -> Roots<F> {
+    assert!(rt; f.coefs().len() >= 2);
+    roots(alloc, f, &mut Meter::new(budget)).expect(rt, "enough units")
+}
+
 /// Asserts that a polynomial has just these roots, which are found with so many units.
 fn has_roots<F: Field>(rt: &impl Abort, alloc: Global, f: &Uni<F>, budget: u64, wanted: &[u64]) {
-    assert!(rt; f.coefs().len() >= 2);
-    let found = roots(alloc, f, &mut Meter::new(budget)).expect(rt, "enough units");
+    let found = roots_of(rt, alloc, f, budget);
     let wanted = elements::<F>(rt, alloc, wanted);
     assert!(rt; found.zeros.as_slice() == wanted.as_slice());
 }

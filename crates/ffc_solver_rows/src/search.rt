@@ -38,6 +38,16 @@ fn kind_of<F: Field>(
     }
 }
 
+/// What a search answers. With no contract of its own it keeps the proofs of its callers short.
+fn ask<F: Field, O: MonoOrder>(
+    alloc: Global,
+    stack: &mut BasisStack<F, O>,
+    vars: &[u32],
+    meter: &mut Meter,
+) -> Result<Found<F>, SearchStop> {
+    search(alloc, stack, vars, meter)
+}
+
 /// What a search answers, which leaves the stack as it was.
 fn searched<F: Field, O: MonoOrder>(
     rt: &impl Abort,
@@ -47,7 +57,7 @@ fn searched<F: Field, O: MonoOrder>(
     meter: &mut Meter,
 ) -> Result<Found<F>, SearchStop> {
     let lines = stack.lines().len();
-    let found = search(alloc, stack, vars, meter);
+    let found = ask(alloc, stack, vars, meter);
     assert_eq!(rt; stack.depth(), 1);
     assert_eq!(rt; stack.lines().len(), lines);
     found

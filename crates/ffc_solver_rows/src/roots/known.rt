@@ -1,5 +1,7 @@
 //! Polynomials of degrees 1 to 64, each over one of the eight orders.
 use super::finds_at;
+use std::alloc::Global;
+use std::process::Abort;
 
 /// An order, the coefficients of a polynomial from the lowest, and its roots.
 type Known = (u64, &'static [u64], &'static [u64]);
@@ -723,9 +725,14 @@ const POLYNOMIALS: [Known; 64] = [
     ),
 ];
 
+/// Asserts the roots of each polynomial of a table.
+fn are_known(rt: &impl Abort, alloc: Global, table: &[Known]) {
+    for (order, coefs, wanted) in table {
+        finds_at(rt, alloc, (*order, coefs, &[], wanted));
+    }
+}
+
 #[test]
 fn known_roots(rt: HostRuntime) {
-    for (order, coefs, wanted) in POLYNOMIALS {
-        finds_at(&rt, rt.alloc(), (order, coefs, &[], wanted));
-    }
+    are_known(&rt, rt.alloc(), &POLYNOMIALS);
 }
