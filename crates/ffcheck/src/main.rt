@@ -6,7 +6,7 @@ ghost use Rattle.std.specs.Process.{exit_status};
 ghost use Rattle.ffc_verify.specs.Arguments.{AreTaken};
 ghost use Rattle.ffc_verify.specs.Status.{code_of};
 
-use ffc_base::{FileSource, StdSink, StdSource};
+use ffc_base::{FileSource, StdSink, StdSource, end_with};
 use ffc_verify::{CheckStatus, check_main};
 use std::env;
 use std::io::{self, ErrorKind};
@@ -36,11 +36,11 @@ fn judge_with_words<R: Files + Env + Input + Print + AllocGlobal>(
 fn end<R: Eprint>(rt: &R, status: CheckStatus) -> ExitCode
     ensures { exit_status result ≡ code_of status }
 {
-    if status == CheckStatus::Usage {
-        // There is nobody to tell where standard error takes no text.
-        let _ = eprintln!(rt; "usage: ffcheck CERT [--cores]");
-    }
-    ExitCode::from(status.code())
+    let line = match status {
+        CheckStatus::Usage => Some("usage: ffcheck CERT [--cores]"),
+        _ => None,
+    };
+    end_with(rt, line, status.code())
 }
 
 fn main(rt: HostRuntime) -> ExitCode {

@@ -6,7 +6,7 @@ ghost use Rattle.std.specs.Process.{exit_status};
 ghost use Rattle.ffc_solve.specs.Arguments.{AreRefused};
 ghost use Rattle.ffc_solve.specs.Status.{code_of};
 
-use ffc_base::{FileSink, StdSink, StdSource};
+use ffc_base::{FileSink, StdSink, StdSource, end_with};
 use ffc_solve::{SolveStatus, solve_main};
 use std::env;
 use std::io::{self, ErrorKind};
@@ -38,11 +38,11 @@ fn answer_with_words<R: Files + Env + Input + Print + AllocGlobal>(
 fn end<R: Eprint>(rt: &R, status: SolveStatus) -> ExitCode
     ensures { exit_status result ≡ code_of status }
 {
-    if status == SolveStatus::Usage {
-        // There is nobody to tell where standard error takes no text.
-        let _ = eprintln!(rt; "usage: ffsolve --cert FILE [--steps N] [--make N]");
-    }
-    ExitCode::from(status.code())
+    let line = match status {
+        SolveStatus::Usage => Some("usage: ffsolve --cert FILE [--steps N] [--make N]"),
+        _ => None,
+    };
+    end_with(rt, line, status.code())
 }
 
 fn main(rt: HostRuntime) -> ExitCode {
