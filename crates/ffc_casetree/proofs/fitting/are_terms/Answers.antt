@@ -1,7 +1,7 @@
 use Rattle.std.proofs.Common.{subst}
 use Rattle.ffc_cert.specs.Ranges.{IsTerm}
-use Rattle.ffc_search.proofs.TreeLemmas.{each_more}
-use Rattle.ffc_search.proofs.fitting.are_terms.Goals as goal
+use Rattle.ffc_casetree.proofs.RangeLemmas.{each_more}
+use Rattle.ffc_casetree.proofs.fitting.are_terms.Goals as goal
 
 pub loop-term-preserved : goal.loop-term-preserved
 loop-term-preserved c =

@@ -1,7 +1,7 @@
 use Rattle.std.proofs.Common.{ℕ, ◌+◌, get_or, take, sym, subst, arith}
 use Rattle.std.proofs.lemmas.List.{get_or_default}
-use Rattle.ffc_search.proofs.TreeLemmas.{ArePowers, more_powers, powers_whole}
-use Rattle.ffc_search.proofs.fitting.is_monomial.Goals as goal
+use Rattle.ffc_casetree.proofs.RangeLemmas.{ArePowers, more_powers, powers_whole}
+use Rattle.ffc_casetree.proofs.fitting.is_monomial.Goals as goal
 
 pub returns : goal.returns
 returns c = λ yes.

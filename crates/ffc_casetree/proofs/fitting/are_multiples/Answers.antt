@@ -1,7 +1,7 @@
 use Rattle.std.proofs.Common.{subst}
 use Rattle.ffc_cert.specs.Ranges.{IsMultiple}
-use Rattle.ffc_search.proofs.TreeLemmas.{each_more}
-use Rattle.ffc_search.proofs.fitting.are_multiples.Goals as goal
+use Rattle.ffc_casetree.proofs.RangeLemmas.{each_more}
+use Rattle.ffc_casetree.proofs.fitting.are_multiples.Goals as goal
 
 pub loop-multiple-preserved : goal.loop-multiple-preserved
 loop-multiple-preserved c =

@@ -1,8 +1,8 @@
 use Rattle.std.proofs.Common.{◌≡◌, ◌++◌, sym, ap, ◌∙◌, subst, arith}
 use Rattle.ffc_ring.specs.Polynomial.{AreTerms}
 use Rattle.ffc_ckpoly.specs.Flat.{as_written}
-use Rattle.ffc_search.proofs.TreeLemmas.{written_whole, term_written, ordered_terms, same_line, low_line}
-use Rattle.ffc_search.proofs.accepting.first_line.Goals as goal
+use Rattle.ffc_casetree.proofs.LineLemmas.{written_whole, term_written, ordered_terms, same_line, low_line}
+use Rattle.ffc_casetree.proofs.checked.first_line.Goals as goal
 
 pub loop-i-preserved : goal.loop-i-preserved
 loop-i-preserved g c =

@@ -1,6 +1,6 @@
 use Rattle.ffc_cert.specs.Ranges.{IsLine}
-use Rattle.ffc_search.proofs.TreeLemmas.{each_more}
-use Rattle.ffc_search.proofs.fitting.are_lines.Goals as goal
+use Rattle.ffc_casetree.proofs.RangeLemmas.{each_more}
+use Rattle.ffc_casetree.proofs.fitting.are_lines.Goals as goal
 
 pub loop-line-preserved : goal.loop-line-preserved
 loop-line-preserved c =

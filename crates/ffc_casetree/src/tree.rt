@@ -7,7 +7,7 @@ use std::alloc::{AllocError, Global};
 
 /// The lines of a tree so far, and which lines stand on the present branch. On a branch the generators have the first
 /// numbers, and each further line the next one.
-#[derive(Debug, Drop)]
+#[derive(Drop)]
 pub struct Tree {
     written: Vec<CertLine>,
     /// For each line of the present branch, the line of the stack that it is; none for a power modulo a line.
