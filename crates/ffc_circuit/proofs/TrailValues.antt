@@ -3,7 +3,7 @@ use Rattle.std.proofs.Common.{◌++◌, ◌∷◌, [], ◌∙◌, ℕ, ◌+◌, 
 use Rattle.std.proofs.lemmas.List.{append_assoc, take_more}
 use Rattle.std.proofs.lemmas.List.Elements.{All-weaker}
 use Rattle.ffc_clause.specs.Clauses.{Literal, Clause, negated}
-use Rattle.ffc_engine.specs.Values.{AreOn, IsFalseIn}
+use Rattle.ffc_circuit.specs.Values.{AreOn, IsFalseIn}
 
 -- a clause of literals that are false in the values of a trail has negations of the trail's literals alone
 pub falsified : (trail : List Literal) (values : List (Option Bool)) (clause : Clause) → AreOn trail values → All (IsFalseIn values) clause → All (λ (l : Literal). Contains trail (negated l)) clause

@@ -1,8 +1,8 @@
 //! Lemmas: clauses over equalities of one field, with the case trees that show them.
-use crate::ranking::Ranking;
 use crate::renumber::Uses;
 use ffc_cdcl::{Lit, Literals};
 use ffc_cert::{CertLine, Sequence};
+use ffc_circuit::Ranking;
 use std::alloc::{AllocError, Global};
 
 /// Equalities of one field that do not hold together, and the tree that shows it.

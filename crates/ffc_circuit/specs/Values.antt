@@ -1,6 +1,11 @@
 -- Truth values of nodes that come from a trail.
 use Rattle.std.specs.Prelude.{◌≡◌, ℕ, Bool, not, List, Option, Some, Contains, slice_get}
 use Rattle.ffc_clause.specs.Clauses.{Literal}
+use Rattle.ffc_circuit.specs.declared.truths.Truths.{Truths}
+
+-- the value of each node, none where there is none
+abbrev pub values_of : Truths → List (Option Bool)
+values_of t = t.items.items
 
 -- each value is that of a literal on the trail
 abbrev pub AreOn : List Literal → List (Option Bool) → Type 0

@@ -5,7 +5,7 @@ use std::alloc::{AllocError, Global};
 use std::collections::BTreeMap;
 
 /// The variables of polynomials, and for each variable the polynomials in which it occurs, by place.
-#[derive(Debug, Drop)]
+#[derive(Drop)]
 pub struct Occurrences {
     variables: Vec<Vec<u32>>,
     places: BTreeMap<u32, Vec<usize>>,

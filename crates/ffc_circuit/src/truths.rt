@@ -1,22 +1,23 @@
 //! The truth values of a trail, by node.
 ghost use Rattle.std.specs.Prelude.{◌≡◌, ◌++◌, ◌∷◌, [], true, Some, List, Bool, All, IfOk, slice_get};
 ghost use Rattle.ffc_clause.specs.Clauses.{Literal};
-ghost use Rattle.ffc_engine.specs.Values.{AreOn, IsFalseIn};
 
 use ffc_cdcl::Lit;
 use ffc_term::NodeId;
 use std::alloc::{AllocError, Global};
 
 /// The truth value of each node of a table, where a trail has one.
-#[derive(Debug, Drop)]
+#[derive(Drop)]
 pub struct Truths {
     items: Vec<Option<bool>>,
 }
 
 impl Truths {
+    ghost use Rattle.ffc_circuit.specs.Values.{AreOn, IsFalseIn, values_of};
+
     /// No values, of the nodes below a number.
-    pub fn new(alloc: Global, nodes: u32) -> Result<Self, AllocError>
-        ensures { IfOk result (λ t. AreOn [] t.items.items) }
+    pub(crate) fn new(alloc: Global, nodes: u32) -> Result<Self, AllocError>
+        ensures { IfOk result (λ t. AreOn [] (values_of t)) }
     {
         Ok(Truths {
             items: vec![in alloc; None; nodes as usize]?,
@@ -25,7 +26,7 @@ impl Truths {
 
     /// The values of a trail over the nodes below a number.
     pub fn of(alloc: Global, nodes: u32, trail: &[Lit]) -> Result<Self, AllocError>
-        ensures { IfOk result (λ t. AreOn trail.now t.items.items) }
+        ensures { IfOk result (λ t. AreOn trail.now (values_of t)) }
     {
         let mut truths = Truths::new(alloc, nodes)?;
         truths.set_all(trail);
@@ -33,7 +34,7 @@ impl Truths {
     }
 
     /// Forgets all values.
-    pub fn clear(&mut self) {
+    pub(crate) fn clear(&mut self) {
         for item in self.items.as_mut_slice() {
             *item = None;
         }
@@ -41,8 +42,8 @@ impl Truths {
 
     /// Makes a literal true.
     fn set(&mut self, literal: Lit)
-        ensures { (trail : List Literal) → AreOn trail self.old.items.items
-            → AreOn (trail ++ literal ∷ []) self.new.items.items }
+        ensures { (trail : List Literal) → AreOn trail (values_of self.old)
+            → AreOn (trail ++ literal ∷ []) (values_of self.new) }
     {
         if let Some(item) = self.items.get_mut(literal.node as usize) {
             *item = Some(literal.positive);
@@ -50,9 +51,9 @@ impl Truths {
     }
 
     /// Makes literals true.
-    pub fn set_all(&mut self, literals: &[Lit])
-        ensures { (trail : List Literal) → AreOn trail self.old.items.items
-            → AreOn (trail ++ literals.now) self.new.items.items }
+    pub(crate) fn set_all(&mut self, literals: &[Lit])
+        ensures { (trail : List Literal) → AreOn trail (values_of self.old)
+            → AreOn (trail ++ literals.now) (values_of self.new) }
     {
         for literal in literals {
             self.set(*literal);
@@ -61,7 +62,7 @@ impl Truths {
 
     /// The value of a node.
     pub fn get(&self, node: NodeId) -> Option<bool>
-        ensures { (value : Bool) → result ≡ Some value → slice_get self.now.items.items node ≡ Some (Some value) }
+        ensures { (value : Bool) → result ≡ Some value → slice_get (values_of self.now) node ≡ Some (Some value) }
     {
         match self.items.get(node as usize) {
             Some(item) => *item,
@@ -70,14 +71,14 @@ impl Truths {
     }
 
     fn is_false(&self, literal: Lit) -> bool
-        ensures { result ≡ true → IsFalseIn self.now.items.items literal }
+        ensures { result ≡ true → IsFalseIn (values_of self.now) literal }
     {
         self.get(literal.node) == Some(!literal.positive)
     }
 
     /// Whether each literal of a clause is false.
     pub fn falsify(&self, clause: &[Lit]) -> bool
-        ensures { result ≡ true → All (IsFalseIn self.now.items.items) clause.now }
+        ensures { result ≡ true → All (IsFalseIn (values_of self.now)) clause.now }
     {
         for literal in clause {
             if !self.is_false(*literal) {

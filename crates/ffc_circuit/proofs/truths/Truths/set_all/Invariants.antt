@@ -1,7 +1,7 @@
 use Rattle.std.specs.Prelude.{List, ◌++◌, take}
 use Rattle.ffc_clause.specs.Clauses.{Literal}
-use Rattle.ffc_engine.specs.Values.{AreOn}
-use Rattle.ffc_engine.proofs.truths.Truths.set_all.Given as goal
+use Rattle.ffc_circuit.specs.Values.{AreOn}
+use Rattle.ffc_circuit.proofs.truths.Truths.set_all.Given as goal
 
 abbrev pub invariant-loop-literal : goal.invariant-loop-literal
 invariant-loop-literal l =

@@ -80,7 +80,7 @@ fn power(alloc: Global, variable: u32, exponent: u32) -> Result<Mono, GeneratorS
 
 impl Ranking {
     /// The ranking that has these variables, each once, in this order.
-    pub fn from_variables(alloc: Global, variables: Vec<u32>) -> Result<Self, AllocError> {
+    fn from_variables(alloc: Global, variables: Vec<u32>) -> Result<Self, AllocError> {
         let mut ranks = BTreeMap::new(alloc);
         let mut rank = 0u32;
         for variable in variables.as_slice() {

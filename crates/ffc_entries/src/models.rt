@@ -1,6 +1,6 @@
 //! Values of constants as an entry of a certificate.
-use crate::truths::Truths;
 use ffc_cert::{Entry, Sequence};
+use ffc_circuit::Truths;
 use ffc_term::{Check, Node, NodeId, NodeTable};
 use std::alloc::{AllocError, Global};
 

@@ -3,28 +3,26 @@ ghost use Rattle.std.specs.Prelude.{◌≡◌};
 
 use crate::equalities::{is_of_order, sides};
 use ffc_base::Spent;
-use ffc_basis::BasisStop;
 use ffc_cdcl::Lit;
 use ffc_encode::{EncodeStop, Polynomials};
 use ffc_field::Field;
 use ffc_mono::{GradedReverseLex, Mono, MonoStop};
 use ffc_poly::{Poly, PolyStop};
-use ffc_search::SearchStop;
 use ffc_term::{NodeId, NodeTable, distinct};
 use std::alloc::{AllocError, AllocFailed, Global};
 use thiserror::Error;
 
-/// The polynomials of the engine.
+/// A polynomial that is zero where an equality holds.
 pub type Generator<F> = Poly<F, GradedReverseLex>;
 
-/// Why polynomials are not made, or not completed.
+/// Why polynomials are not made, or not evaluated.
 #[derive(Clone, Copy, Debug, PartialEq, Eq, Error)]
 pub enum GeneratorStop {
     /// A limit of polynomials was passed.
     #[error("a limit of polynomials is passed")]
     Over,
-    /// The units of the share are taken.
-    #[error("the share of the budget is spent")]
+    /// The meter is full.
+    #[error("the budget is spent")]
     Spent,
     /// Out of memory.
     #[error("out of memory")]
@@ -73,25 +71,6 @@ impl From<MonoStop> for GeneratorStop {
 impl From<Spent> for GeneratorStop {
     fn from(_: Spent) -> GeneratorStop {
         GeneratorStop::Spent
-    }
-}
-
-impl From<BasisStop> for GeneratorStop {
-    fn from(stop: BasisStop) -> GeneratorStop {
-        match stop {
-            BasisStop::Spent => GeneratorStop::Spent,
-            BasisStop::Memory => GeneratorStop::Memory,
-        }
-    }
-}
-
-impl From<SearchStop> for GeneratorStop {
-    // Out of memory is also where a line passes a limit. Where no memory is left, the caller's next allocation says so.
-    fn from(stop: SearchStop) -> GeneratorStop {
-        match stop {
-            SearchStop::Spent => GeneratorStop::Spent,
-            SearchStop::Memory => GeneratorStop::Over,
-        }
     }
 }
 

@@ -6,7 +6,6 @@ use ffc_field::Field;
 use std::alloc::{AllocError, Global};
 
 /// Equalities, and the differences of their sides.
-#[derive(Debug)]
 pub struct Group<F: Field> {
     pub equalities: Vec<Lit>,
     pub polys: Vec<Generator<F>>,

@@ -6,7 +6,7 @@ use ffc_term::{Node, NodeId, NodeTable, Sort};
 use std::alloc::{AllocError, Global};
 
 /// How well a child serves as the one that makes its node true or false. The least is the best.
-#[derive(Clone, Copy, Debug, PartialEq, Eq, PartialOrd, Ord)]
+#[derive(Clone, Copy, PartialEq, Eq, PartialOrd, Ord)]
 enum Kind {
     /// It is needed in any case.
     Needed,
@@ -19,7 +19,7 @@ enum Kind {
 }
 
 /// What a child costs: its kind, then the size of its sides.
-#[derive(Clone, Copy, Debug, PartialEq, Eq, PartialOrd, Ord)]
+#[derive(Clone, Copy, PartialEq, Eq, PartialOrd, Ord)]
 struct Cost {
     kind: Kind,
     degree: u64,

@@ -11,7 +11,7 @@ use std::alloc::{AllocError, Global};
 use std::collections::{BTreeMap, BTreeSet};
 
 /// How inputs are guessed, one way after the other.
-#[derive(Clone, Copy, Debug)]
+#[derive(Clone, Copy)]
 enum Guess {
     /// Each input has this value.
     Same(u8),
@@ -47,7 +47,7 @@ impl Guess {
 pub type Values<F> = BTreeMap<u32, F>;
 
 /// What is known of a polynomial whose variables have values but for one at most.
-#[derive(Clone, Copy, Debug)]
+#[derive(Clone, Copy)]
 enum Known<F: Field> {
     /// Its value.
     Value(F),
@@ -94,7 +94,6 @@ fn look_at<F: Field>(values: &Values<F>, poly: &Generator<F>) -> Known<F> {
 }
 
 /// An evaluation that is under way.
-#[derive(Debug)]
 struct Evaluation<'a, F: Field> {
     polys: &'a [&'a Generator<F>],
     occurrences: &'a Occurrences,
@@ -250,7 +249,7 @@ impl<'a, F: Field> Evaluation<'a, F> {
 }
 
 /// In which order variables are guessed.
-#[derive(Clone, Copy, Debug)]
+#[derive(Clone, Copy)]
 pub enum Inputs {
     First,
     Last,

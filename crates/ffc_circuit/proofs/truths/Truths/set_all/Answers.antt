@@ -1,8 +1,8 @@
 use Rattle.std.proofs.Common.{◌++◌, ◌∷◌, [], take, subst}
 use Rattle.std.proofs.lemmas.List.{take_all}
-use Rattle.ffc_engine.specs.Values.{AreOn}
-use Rattle.ffc_engine.proofs.TrailValues.{on_more}
-use Rattle.ffc_engine.proofs.truths.Truths.set_all.Goals as goal
+use Rattle.ffc_circuit.specs.Values.{AreOn}
+use Rattle.ffc_circuit.proofs.TrailValues.{on_more}
+use Rattle.ffc_circuit.proofs.truths.Truths.set_all.Goals as goal
 
 pub loop-literal-preserved : goal.loop-literal-preserved
 loop-literal-preserved c = λ trail on.

@@ -1,8 +1,8 @@
 use Rattle.std.proofs.Common.{All, subst, refl}
 use Rattle.std.proofs.lemmas.List.{take_all}
 use Rattle.std.proofs.lemmas.List.Elements.{All-more}
-use Rattle.ffc_engine.specs.Values.{IsFalseIn}
-use Rattle.ffc_engine.proofs.truths.Truths.falsify.Goals as goal
+use Rattle.ffc_circuit.specs.Values.{IsFalseIn}
+use Rattle.ffc_circuit.proofs.truths.Truths.falsify.Goals as goal
 
 pub loop-literal-preserved : goal.loop-literal-preserved
 loop-literal-preserved c =

@@ -1,6 +1,6 @@
 //! Trees over fewer generators, with variables in place of ranks.
-use crate::ranking::Ranking;
 use ffc_cert::{CertLine, Multiple, Power, Sequence, Term};
+use ffc_circuit::Ranking;
 use std::alloc::{AllocError, Global};
 
 /// Which generators a tree uses: those of which a line is a multiple or a case, and those whose inverse occurs.
