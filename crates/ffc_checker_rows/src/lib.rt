@@ -31,6 +31,8 @@ mod making;
 #[cfg(test)]
 mod parts;
 #[cfg(test)]
+mod readable;
+#[cfg(test)]
 mod tables;
 #[cfg(test)]
 mod term;

@@ -7,20 +7,18 @@ ghost use Rattle.ffc_cdcl.specs.State.{AreListed};
 ghost use Rattle.ffc_cdcl.specs.declared.theory.CdclStop.TheVariants as stops;
 ghost use Rattle.ffc_engine.specs.declared.stop.EngineStop.TheVariants as engine;
 
-use crate::entry::is_proved;
-use crate::lemma::Lemma;
-use crate::origin::{Origin, Origins};
 use crate::stop::EngineStop;
 use crate::theory::FieldTheory;
 use ffc_base::Meter;
 use ffc_cdcl::{CdclStop, HintedClause, Lit, Literals, Outcome, Solver};
 use ffc_cert::Entry;
 use ffc_encode::{NodeClause, clauses_of};
+use ffc_entries::{Lemma, Origin, Origins, is_proved};
 use ffc_term::{Check, NodeId};
 use std::alloc::{AllocError, Global};
 
 /// What is known once the clauses are refuted.
-#[derive(Clone, Copy, Debug, PartialEq, Eq)]
+#[derive(Clone, Copy)]
 pub enum Standing {
     /// The check has no model.
     Proved,

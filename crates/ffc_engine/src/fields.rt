@@ -4,15 +4,15 @@ ghost use Rattle.ffc_base.specs.Metering.{total};
 ghost use Rattle.ffc_basis.specs.Units.{Takes};
 ghost use Rattle.ffc_engine.specs.declared.stop.EngineStop.TheVariants as stops;
 
-use crate::forward::{Inputs, values_forward};
-use crate::generators::{Generator, GeneratorStop, differences, with_inverse};
-use crate::groups::{Group, groups_of};
-use crate::ranking::Ranking;
-use crate::stop::EngineStop;
+use crate::stop::{EngineStop, FieldStop};
 use ffc_base::{Meter, Spent, Unit};
 use ffc_basis::{Completion, Progress};
 use ffc_cdcl::Lit;
 use ffc_cert::CertLine;
+use ffc_circuit::{
+    Generator, GeneratorStop, Group, Inputs, Ranking, differences, groups_of, values_forward,
+    with_inverse,
+};
 use ffc_field::{Field, FieldId, ForField};
 use ffc_mono::GradedReverseLex;
 use ffc_search::{Found, reduced_within, search};
@@ -97,7 +97,7 @@ fn compare<F: Field>(
     stack: &mut BasisStack<F, GradedReverseLex>,
     unequal: &[Generator<F>],
     meter: &mut Meter,
-) -> Result<Finding, GeneratorStop> {
+) -> Result<Finding, FieldStop> {
     let mut open = Vec::new(alloc);
     for (k, poly) in unequal.iter().enumerate() {
         match reduced_within(stack, poly, meter)? {
@@ -122,7 +122,7 @@ fn settle<F: Field>(
     equal: &[Generator<F>],
     unequal: &[Generator<F>],
     meter: &mut Meter,
-) -> Result<Finding, GeneratorStop> {
+) -> Result<Finding, FieldStop> {
     stack.push_within(equal, 0, meter)?;
     let mut found = Finding::Open(Vec::new(alloc));
     if unequal.is_empty() {
@@ -191,7 +191,7 @@ fn values_by_lines<F: Field>(
     equalities: usize,
     ranking: &Ranking,
     meter: &mut Meter,
-) -> Result<Option<Vec<(u32, u64)>>, GeneratorStop> {
+) -> Result<Option<Vec<(u32, u64)>>, FieldStop> {
     let mut polys = Vec::new(alloc);
     for line in stack.lines() {
         polys.push(&line.poly)?;
@@ -229,7 +229,7 @@ impl Problem<'_> {
         places: &[usize],
         ranking: &Ranking,
         chosen: &mut Vec<Lit>,
-    ) -> Result<Vec<Generator<F>>, GeneratorStop> {
+    ) -> Result<Vec<Generator<F>>, FieldStop> {
         let before = self.equalities.len().saturating_sub(unequal.len());
         let mut gens = Vec::new(self.alloc);
         for place in places {
@@ -241,7 +241,7 @@ impl Problem<'_> {
                     gens.push(with_inverse(self.alloc, poly, rank)?)?;
                     chosen.push(*equality)?;
                 }
-                _ => return Err(GeneratorStop::Over),
+                _ => return Err(FieldStop::Over),
             }
         }
         Ok(gens)
@@ -257,7 +257,7 @@ impl Problem<'_> {
         ranking: &Ranking,
         chosen: &mut Vec<Lit>,
         meter: &mut Meter,
-    ) -> Result<BasisStack<F, GradedReverseLex>, GeneratorStop> {
+    ) -> Result<BasisStack<F, GradedReverseLex>, FieldStop> {
         let (equal, unequal) = sides;
         match found {
             Finding::Refuted => {}
@@ -281,11 +281,11 @@ impl Problem<'_> {
         polys: &[Generator<F>],
         ranking: Ranking,
         meter: &mut Meter,
-    ) -> Result<Answer, GeneratorStop> {
+    ) -> Result<Answer, FieldStop> {
         let mut chosen = holding(self.alloc, self.equalities)?;
         let count = chosen.len();
         if count > polys.len() {
-            return Err(GeneratorStop::Memory);
+            return Err(FieldStop::Memory);
         }
         let (equal, unequal) = polys.split_at(count);
         let mut stack = BasisStack::new(self.alloc);
@@ -312,13 +312,13 @@ impl Problem<'_> {
         self,
         polys: &[Generator<F>],
         meter: &mut Meter,
-    ) -> Result<Answer, GeneratorStop> {
+    ) -> Result<Answer, FieldStop> {
         let holding = holding(self.alloc, self.equalities)?.len();
         if let Some(values) = values_by_equalities(self.alloc, polys, holding, meter)? {
             return Ok(Answer::Values(values));
         }
         let Some(first) = inverse_of(self.table.len(), holding) else {
-            return Err(GeneratorStop::Over);
+            return Err(FieldStop::Over);
         };
         let inverses = polys.len().saturating_sub(holding);
         let ranking = Ranking::of(self.alloc, polys, first, inverses)?;
@@ -332,7 +332,7 @@ impl Problem<'_> {
         group: &Group<F>,
         units: u64,
         meter: &mut Meter,
-    ) -> Result<Answer, GeneratorStop> {
+    ) -> Result<Answer, FieldStop> {
         let mut own = Meter::new(units.min(units_left(meter)));
         let problem = Problem {
             equalities: group.equalities.as_slice(),
@@ -341,15 +341,15 @@ impl Problem<'_> {
         let answer = problem.answer_group(group.polys.as_slice(), &mut own);
         charge(meter, &own)?;
         match answer {
-            Err(GeneratorStop::Spent) => Ok(Answer::Unfinished),
-            Err(GeneratorStop::Over) => Ok(Answer::Over),
+            Err(FieldStop::Spent) => Ok(Answer::Unfinished),
+            Err(FieldStop::Over) => Ok(Answer::Over),
             answer => answer,
         }
     }
 
     /// The answer over the field `F`, on its own units: group by group. Each group but the last one takes at most half of the
     /// units that are left.
-    fn searched<F: Field>(self, meter: &mut Meter) -> Result<Answer, GeneratorStop> {
+    fn searched<F: Field>(self, meter: &mut Meter) -> Result<Answer, FieldStop> {
         let polys = differences::<F>(self.alloc, self.table, self.equalities)?;
         let groups = groups_of(self.alloc, self.equalities, polys)?;
         let mut values = Vec::new(self.alloc);
@@ -375,9 +375,9 @@ impl Problem<'_> {
     fn over<F: Field>(self, meter: &mut Meter) -> Result<Answer, EngineStop> {
         match self.searched::<F>(meter) {
             Ok(answer) => Ok(answer),
-            Err(GeneratorStop::Over) => Ok(Answer::Over),
-            Err(GeneratorStop::Spent) => Err(EngineStop::Spent),
-            Err(GeneratorStop::Memory) => Err(EngineStop::Memory),
+            Err(FieldStop::Over) => Ok(Answer::Over),
+            Err(FieldStop::Spent) => Err(EngineStop::Spent),
+            Err(FieldStop::Memory) => Err(EngineStop::Memory),
         }
     }
 

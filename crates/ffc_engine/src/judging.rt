@@ -4,13 +4,12 @@ ghost use Rattle.ffc_base.specs.Metering.{total};
 ghost use Rattle.ffc_basis.specs.Units.{Takes};
 ghost use Rattle.ffc_engine.specs.declared.stop.EngineStop.TheVariants as stops;
 
-use crate::equalities::{is_of_order, sides};
 use crate::fields::{Answer, Problem};
-use crate::lemma::Lemma;
-use crate::models::Residues;
 use crate::stop::EngineStop;
 use ffc_base::Meter;
 use ffc_cdcl::Lit;
+use ffc_circuit::{is_of_order, sides};
+use ffc_entries::{Lemma, Residues};
 use ffc_field::FieldId;
 use ffc_term::{Check, NodeTable};
 use std::alloc::{AllocError, Global};

@@ -7,25 +7,11 @@
 #![tactic(auto)]
 
 mod clauses;
-mod digits;
-mod entry;
-mod equalities;
 mod fields;
-mod forward;
-mod generators;
-mod groups;
 mod judging;
-mod justify;
-mod lemma;
-mod models;
-mod occurrences;
-mod origin;
 mod proposing;
-mod ranking;
-mod renumber;
 mod stop;
 mod theory;
-mod truths;
 
 pub use proposing::propose;
 pub use stop::EngineStop;

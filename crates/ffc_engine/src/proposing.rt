@@ -6,11 +6,11 @@ ghost use Rattle.ffc_term.specs.Checks.{IsCheck};
 ghost use Rattle.ffc_engine.specs.declared.stop.EngineStop.TheVariants as stops;
 
 use crate::clauses::{Clauses, Standing};
-use crate::entry::refutation;
 use crate::stop::EngineStop;
 use ffc_base::Meter;
 use ffc_cdcl::{HintedClause, Outcome};
 use ffc_cert::Entry;
+use ffc_entries::refutation;
 use ffc_term::Check;
 use std::alloc::{AllocError, Global};
 

@@ -2,6 +2,8 @@
 use ffc_base::Spent;
 use ffc_basis::BasisStop;
 use ffc_cdcl::CdclStop;
+use ffc_circuit::GeneratorStop;
+use ffc_search::SearchStop;
 use std::alloc::{AllocError, AllocFailed};
 use thiserror::Error;
 
@@ -87,6 +89,64 @@ impl From<BasisStop> for EngineStop {
         match stop {
             BasisStop::Spent => EngineStop::Spent,
             BasisStop::Memory => EngineStop::Memory,
+        }
+    }
+}
+
+/// Why the search over one field stops before it has an answer.
+#[derive(Drop)]
+pub enum FieldStop {
+    /// A limit of polynomials was passed.
+    Over,
+    /// The units of the share are taken.
+    Spent,
+    /// Out of memory.
+    Memory,
+}
+
+impl From<AllocError> for FieldStop {
+    fn from(_: AllocError) -> FieldStop {
+        FieldStop::Memory
+    }
+}
+
+impl<T: Drop> From<AllocFailed<T>> for FieldStop {
+    fn from(_: AllocFailed<T>) -> FieldStop {
+        FieldStop::Memory
+    }
+}
+
+impl From<Spent> for FieldStop {
+    fn from(_: Spent) -> FieldStop {
+        FieldStop::Spent
+    }
+}
+
+impl From<GeneratorStop> for FieldStop {
+    fn from(stop: GeneratorStop) -> FieldStop {
+        match stop {
+            GeneratorStop::Over => FieldStop::Over,
+            GeneratorStop::Spent => FieldStop::Spent,
+            GeneratorStop::Memory => FieldStop::Memory,
+        }
+    }
+}
+
+impl From<BasisStop> for FieldStop {
+    fn from(stop: BasisStop) -> FieldStop {
+        match stop {
+            BasisStop::Spent => FieldStop::Spent,
+            BasisStop::Memory => FieldStop::Memory,
+        }
+    }
+}
+
+impl From<SearchStop> for FieldStop {
+    // Out of memory is also where a line passes a limit. Where no memory is left, the caller's next allocation says so.
+    fn from(stop: SearchStop) -> FieldStop {
+        match stop {
+            SearchStop::Spent => FieldStop::Spent,
+            SearchStop::Memory => FieldStop::Over,
         }
     }
 }

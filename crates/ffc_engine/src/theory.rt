@@ -6,14 +6,12 @@ ghost use Rattle.ffc_cdcl.specs.Theories.{KeepsLemmas, NamesLemma, IsFalseOn};
 ghost use Rattle.ffc_engine.specs.declared.stop.EngineStop.TheVariants as stops;
 
 use crate::judging::{Judgement, judge};
-use crate::justify::Walk;
-use crate::models::{Residues, model};
-use crate::origin::Origin;
 use crate::stop::EngineStop;
-use crate::truths::Truths;
 use ffc_base::{Meter, Unit};
 use ffc_cdcl::{CdclStop, Lit, Literals, Theory, TheoryAnswer};
 use ffc_cert::Entry;
+use ffc_circuit::{Truths, Walk};
+use ffc_entries::{Origin, Residues, model};
 use ffc_term::Check;
 use std::alloc::{AllocError, Global};
 
@@ -144,7 +142,7 @@ impl<'a> FieldTheory<'a> {
     }
 
     /// Makes a clause that is false on a trail a lemma, and answers with it.
-    #[tactic(auto, using(crate::proofs::TrailValues::falsified))]
+    #[tactic(auto, using(ffc_circuit::proofs::TrailValues::falsified))]
     fn object(
         &mut self,
         trail: &[Lit],

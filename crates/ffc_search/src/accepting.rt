@@ -1,41 +1,20 @@
 //! Whether a tree is read to its end from the generators.
-ghost use Rattle.std.specs.Prelude.{◌≡◌, ◌≤◌, [], Ok, IfOk, IsTrue};
-ghost use Rattle.ffc_trees.specs.Normal.{degree_of};
-ghost use Rattle.ffc_trees.specs.Same.{IsSameLine, AreSameLines};
+ghost use Rattle.std.specs.Prelude.{◌≡◌, [], Ok, IfOk, IsTrue};
+ghost use Rattle.ffc_trees.specs.Same.{AreSameLines};
 ghost use Rattle.ffc_trees.specs.TreeLines.{limits};
 ghost use Rattle.ffc_trees.specs.Trees.{tree_read};
 ghost use Rattle.ffc_cktree.specs.Lines.{AreLines};
 ghost use Rattle.ffc_stack.specs.Stacks.{generators};
 
-use crate::fitting::are_lines;
 use ffc_basis::Line;
+use ffc_casetree::{are_lines, first_line};
 use ffc_cert::CertLine;
 use ffc_ckpoly::CkPoly;
 use ffc_cktree::{TreeStop, read_tree};
 use ffc_field::Field;
 use ffc_mono::MonoOrder;
-use ffc_poly::Poly;
 use ffc_trees::trees_read_alike;
 use std::alloc::{AllocError, Global};
-
-/// A polynomial as the checker has it.
-fn first_line<F: Field, O: MonoOrder>(
-    alloc: Global,
-    poly: &Poly<F, O>,
-) -> Result<CkPoly<F>, AllocError>
-    ensures same { IfOk result (λ r. IsSameLine F.ORDER r poly.now) }
-    ensures low { IfOk result (λ r. degree_of r ≤ 1024) }
-{
-    let mut terms = Vec::new(alloc);
-    for i in 0..poly.len() {
-        let (c, m) = poly.term(i);
-        let mut powers = Vec::new(alloc);
-        powers.extend_from_slice(m.pairs())?;
-        terms.push((c, powers))?;
-    }
-    let line = CkPoly::from_terms(alloc, &terms)?;
-    Ok(line)
-}
 
 /// The generators among the lines, as the checker has them.
 fn first_lines<F: Field, O: MonoOrder>(

@@ -7,17 +7,17 @@ ghost use Rattle.ffc_search.specs.declared.stop.SearchStop.TheVariants as stops;
 
 use crate::points::less_root;
 use crate::stop::SearchStop;
-use crate::tree::Tree;
 use crate::weights::Weights;
 use ffc_base::Meter;
 use ffc_basis::{LineId, Progress};
+use ffc_casetree::Tree;
 use ffc_field::Field;
 use ffc_mono::MonoOrder;
 use ffc_stack::BasisStack;
 use std::alloc::{AllocError, Global};
 
 /// Cases by the values of a variable, of which the first ones were opened.
-#[derive(Debug, Drop)]
+#[derive(Drop)]
 pub struct Branching<F: Field> {
     variable: u32,
     values: Vec<F>,
@@ -33,7 +33,7 @@ pub struct Branching<F: Field> {
 }
 
 /// Where the search is: the cases that are open, the outermost first, and the tree that is written.
-#[derive(Debug, Drop)]
+#[derive(Drop)]
 pub struct Walk<F: Field> {
     pub tree: Tree,
     waiting: Vec<Branching<F>>,

@@ -24,7 +24,6 @@ use std::mem;
 const SHORT: usize = 2;
 
 /// A polynomial in one variable: a line less multiples of other lines.
-#[derive(Debug)]
 pub struct Candidate<F: Field, O: MonoOrder> {
     pub line: LineId,
     /// What the other lines are multiplied by.

@@ -17,7 +17,7 @@ const BRANCH_PARTS: u64 = 128;
 
 /// How much a round does before it gives up, and how. Each round may take twice the units of the one before. Shallow and deep
 /// rounds take turns: a sum over bits wants cases and no S-polynomials, and a chain of products the contrary.
-#[derive(Clone, Copy, Debug)]
+#[derive(Clone, Copy)]
 pub struct Effort {
     /// How many units the round may take.
     allowance: u64,

@@ -1,10 +1,7 @@
 //! Writing cases by the roots of a polynomial in one variable.
 use crate::choosing::{Candidate, lines_of};
-use crate::emitting::{multiples_of, write_lines};
-use crate::sums::write_sum;
-use crate::tree::Tree;
-use crate::written::{residues, scaled_line, terms_in};
 use ffc_basis::{Line, LineId};
+use ffc_casetree::{Tree, multiples_of, residues, scaled_line, terms_in, write_lines, write_sum};
 use ffc_cert::CertLine;
 use ffc_field::Field;
 use ffc_mono::MonoOrder;

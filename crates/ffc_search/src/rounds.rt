@@ -8,16 +8,15 @@ ghost use Rattle.ffc_search.specs.Above.{StaysAbove};
 use crate::branches::{Walk, branch_by, leave_unneeded, next_case, pop_times};
 use crate::choosing::{Candidate, best_candidate, lines_of};
 use crate::effort::Effort;
-use crate::emitting::write_close;
 use crate::points::zero_at_hand;
 use crate::reducing::units_taken;
 use crate::roots::write_split;
 use crate::stop::SearchStop;
 use crate::survey::{Linear, earliest, linear_lines, most_used};
-use crate::tree::Tree;
 use crate::weights::Weights;
 use ffc_base::{Meter, Unit};
 use ffc_basis::{Completion, Progress};
+use ffc_casetree::{Tree, write_close};
 use ffc_cert::CertLine;
 use ffc_field::Field;
 use ffc_mono::MonoOrder;
@@ -29,7 +28,7 @@ use std::alloc::{AllocError, Global};
 const MOST_VALUES: u64 = 17;
 
 /// What a round comes to.
-#[derive(Debug, Drop)]
+#[derive(Drop)]
 pub enum Outcome<F: Field> {
     /// A common zero.
     Values(Vec<F>),
@@ -42,7 +41,7 @@ pub enum Outcome<F: Field> {
 }
 
 /// What a turn comes to.
-#[derive(Debug, Drop)]
+#[derive(Drop)]
 enum Turn<F: Field> {
     On(Progress),
     Values(Vec<F>),
@@ -50,14 +49,14 @@ enum Turn<F: Field> {
 }
 
 /// What a round has to keep to: its effort, and the levels below it.
-#[derive(Clone, Copy, Debug)]
+#[derive(Clone, Copy)]
 struct Task {
     effort: Effort,
     floor: u64,
 }
 
 /// Where a round ends, and whether it was cut short.
-#[derive(Clone, Copy, Debug)]
+#[derive(Clone, Copy)]
 struct Limits {
     /// How many units are taken where the round ends.
     end: u64,

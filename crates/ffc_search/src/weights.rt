@@ -4,7 +4,7 @@ use std::collections::BTreeMap;
 
 /// For each variable by whose values cases were made, how many closed branches rest on its case. Cases are made by variables
 /// of great weight first, as in constraint solvers (Boussemart, Hemery, Lecoutre and Sais 2004: weights of constraints).
-#[derive(Debug, Drop)]
+#[derive(Drop)]
 pub struct Weights {
     items: BTreeMap<u32, u64>,
 }

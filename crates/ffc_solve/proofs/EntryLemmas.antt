@@ -13,9 +13,9 @@ use Rattle.ffc_rules.specs.Causes.{is_cause_within}
 use Rattle.ffc_rules.specs.Entries.{NodeCheck, limits, entry_fault_within, EntryOk}
 use Rattle.ffc_rules.specs.Judging.{node_check}
 use Rattle.ffc_check.specs.Judged as judged
-use Rattle.ffc_theory.specs.declared.stop.DecideStop.{DecideStop}
-use Rattle.ffc_theory.specs.declared.stop.DecideStop.TheVariants as stops
-use Rattle.ffc_theory.specs.Stops.{cause_of, IsCaused}
+use Rattle.ffc_trials.specs.declared.stop.DecideStop.{DecideStop}
+use Rattle.ffc_trials.specs.declared.stop.DecideStop.TheVariants as stops
+use Rattle.ffc_trials.specs.Stops.{cause_of, IsCaused}
 use Rattle.ffc_solve.specs.Solving.{IsRight}
 use Rattle.ffc_solve.proofs.RememberLemmas.{cause_for}
 

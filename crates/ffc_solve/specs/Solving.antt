@@ -15,7 +15,7 @@ use Rattle.ffc_smt.specs.TableChecks.{TableCheck, table_checks}
 use Rattle.ffc_rules.specs.Causes.{Caused}
 use Rattle.ffc_rules.specs.Entries.{EntryOk}
 use Rattle.ffc_rules.specs.Judging.{node_check}
-use Rattle.ffc_theory.specs.Stops.{MayBeDecided}
+use Rattle.ffc_trials.specs.Stops.{MayBeDecided}
 use Rattle.ffc_answer.specs.Answers.{answers, run_answers}
 use Rattle.ffc_solve.specs.Changes.{Change, IsSilent}
 

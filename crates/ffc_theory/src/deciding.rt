@@ -6,18 +6,17 @@ ghost use Rattle.ffc_rules.specs.Causes.{is_small};
 ghost use Rattle.ffc_rules.specs.Entries.{limits, EntryOk};
 ghost use Rattle.ffc_rules.specs.Laws.{IsValid};
 ghost use Rattle.ffc_check.specs.Judged.{node_check};
-ghost use Rattle.ffc_theory.specs.Parts.{IsConeOf};
-ghost use Rattle.ffc_theory.specs.Stops.{IsCaused, IsGiven, IsWithinLimits, IsSmallSpan, IsVerdict, MayBeDecided};
-ghost use Rattle.ffc_theory.specs.Stops.{SpendsAll};
+ghost use Rattle.ffc_trials.specs.Parts.{IsConeOf};
+ghost use Rattle.ffc_trials.specs.Stops.{IsCaused, IsGiven, IsWithinLimits, IsVerdict, MayBeDecided};
+ghost use Rattle.ffc_trials.specs.Stops.{SpendsAll};
 
-use crate::cone::Cone;
-use crate::enumerate::Enumeration;
-use crate::limits::{check_limits, first_count, small_span};
 use crate::proposing::proposed;
-use crate::stop::DecideStop;
 use ffc_base::{Meter, Unit};
 use ffc_cert::Entry;
 use ffc_term::Check;
+use ffc_trials::{
+    Cone, DecideStop, Enumeration, check_limits, decide_small, first_count, small_span,
+};
 use std::alloc::Global;
 
 /// The most assignments that are tried before the engine is asked.
@@ -47,28 +46,6 @@ fn spent_by(trials: &Meter, engine: &Meter, steps: u64) -> DecideStop
         both(Unit::Assignment),
         both(Unit::Chain),
     )
-}
-
-/// Decides a check that is small within the budget, by going through all its assignments.
-fn decide_small(
-    alloc: Global,
-    check: &Check,
-    cone: &Cone,
-    span: u64,
-    steps: u64,
-) -> Result<Entry, DecideStop>
-    requires valid { IsValid (node_check check.now) }
-    requires cone { IsConeOf (node_check check.now) cone.now }
-    requires small { IsSmallSpan (node_check check.now) steps span }
-    ensures given { IfOk result (IsGiven (node_check check.now)) }
-    ensures only { IfErr result (λ stop. stop ≡ DecideStop.Memory) }
-{
-    let mut trials = Meter::new(steps);
-    let mut enumeration = Enumeration::new(alloc, check, cone)?;
-    if enumeration.go_on(check, cone, span, &mut trials) {
-        return Ok(Entry::Sat(enumeration.into_values(check)));
-    }
-    Ok(Entry::UnsatCases)
 }
 
 /// Decides another check, as far as the budget reaches: a few assignments are tried, then the engine is asked, and what it leaves

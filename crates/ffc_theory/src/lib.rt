@@ -4,18 +4,9 @@
 //! accepts.
 #![tactic(auto)]
 
-mod cone;
-mod counting;
 mod deciding;
-mod enumerate;
-mod limits;
 mod proposing;
-mod readable;
-#[cfg(test)]
-mod readable_tests;
-mod stop;
 #[cfg(test)]
 mod tests;
 
 pub use deciding::decide;
-pub use stop::DecideStop;

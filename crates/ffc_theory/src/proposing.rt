@@ -1,64 +1,15 @@
 //! Entries that the engine proposes, tested before they are given.
-ghost use Rattle.std.specs.Prelude.{◌≡◌, IsTrue, IfOk, IfErr, IfSome};
-ghost use Rattle.ffc_cert.specs.WellFormed.{IsReadable};
-ghost use Rattle.ffc_rules.specs.Entries.{EntryOk};
+ghost use Rattle.std.specs.Prelude.{◌≡◌, IfOk, IfErr, IfSome};
 ghost use Rattle.ffc_rules.specs.Laws.{IsValid};
 ghost use Rattle.ffc_check.specs.Judged.{node_check};
-ghost use Rattle.ffc_theory.specs.Stops.{IsGiven, IsVerdict};
+ghost use Rattle.ffc_trials.specs.Stops.{IsGiven};
 
-use crate::readable::is_readable;
-use crate::stop::DecideStop;
 use ffc_base::Meter;
 use ffc_cert::Entry;
-use ffc_check::{CheckStop, check_entry};
 use ffc_engine::{EngineStop, propose};
 use ffc_term::Check;
+use ffc_trials::{DecideStop, tested};
 use std::alloc::Global;
-
-/// Where a proposed entry is taken to begin when it is judged: after the first line of a certificate.
-const FIRST_LINE: u64 = 2;
-
-/// Whether an entry says if its check has a model.
-fn is_verdict(entry: &Entry) -> bool
-    ensures { IsTrue result → IsVerdict entry.now }
-{
-    match entry {
-        Entry::Sat(_) | Entry::UnsatCases | Entry::UnsatSteps(_) => true,
-        Entry::Unknown(_) => false,
-    }
-}
-
-/// Whether the checker accepts an entry.
-fn is_accepted(alloc: Global, check: &Check, entry: &Entry) -> Result<bool, DecideStop>
-    requires valid { IsValid (node_check check.now) }
-    requires readable { IsReadable 2 entry.now }
-    ensures accepted { IfOk result (λ accepted. IsTrue accepted → EntryOk (node_check check.now) entry.now) }
-    ensures only { IfErr result (λ stop. stop ≡ DecideStop.Memory) }
-{
-    match check_entry(alloc, check, entry, FIRST_LINE) {
-        Ok(()) => Ok(true),
-        Err(CheckStop::Broken(_)) => Ok(false),
-        Err(CheckStop::Memory) => Err(DecideStop::Memory),
-    }
-}
-
-/// The entry, where it may be given: it says whether the check has a model, is readable, and the checker accepts it.
-pub fn tested(alloc: Global, check: &Check, entry: Entry) -> Result<Option<Entry>, DecideStop>
-    requires valid { IsValid (node_check check.now) }
-    ensures given { IfOk result (λ found. IfSome found (IsGiven (node_check check.now))) }
-    ensures only { IfErr result (λ stop. stop ≡ DecideStop.Memory) }
-{
-    if !is_verdict(&entry) {
-        return Ok(None);
-    }
-    if !is_readable(&entry) {
-        return Ok(None);
-    }
-    if !is_accepted(alloc, check, &entry)? {
-        return Ok(None);
-    }
-    Ok(Some(entry))
-}
 
 /// What the engine proposes, where it may be given. None also where the meter is full.
 pub fn proposed(

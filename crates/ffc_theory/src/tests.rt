@@ -8,11 +8,11 @@ ghost use Rattle.ffc_rules.specs.Entries.{is_boolean};
 ghost use Rattle.ffc_rules.specs.Laws.{IsValid};
 ghost use Rattle.ffc_check.specs.Judged.{node_check};
 
-use crate::proposing::tested;
-use crate::{DecideStop, decide};
+use crate::decide;
 use ffc_cert::{Cause, CertLine, Entry, Sequence};
 use ffc_field::FieldId;
 use ffc_term::{Check, Node, NodeId, NodeList, NodeTable, Sort, TermStop};
+use ffc_trials::{DecideStop, tested};
 use std::alloc::{AllocError, Global};
 use std::process::Abort;
 use std::test::Fail;

@@ -1,6 +1,6 @@
 use Rattle.std.proofs.lemmas.Result.{err_from_is_err_and}
 use Rattle.ffc_check.specs.Judged.{node_check}
-use Rattle.ffc_theory.proofs.LimitLemmas.{memory_caused, stopped_by_limit, small_stops, none_large}
+use Rattle.ffc_trials.proofs.LimitLemmas.{memory_caused, stopped_by_limit, small_stops, none_large}
 use Rattle.ffc_theory.proofs.deciding.decide.Goals as goal
 
 pub returns-in_err-cone-clause-caused : goal.returns-in_err-cone-clause-caused

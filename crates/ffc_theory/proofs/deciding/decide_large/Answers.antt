@@ -1,10 +1,8 @@
 use Rattle.std.proofs.Common.{◌≡◌, ◌-◌, ◌≤◌, length, refl, ap, ◌∙◌, subst, sym, arith}
 use Rattle.std.proofs.lemmas.Result.{err_from_is_err_and}
 use Rattle.ffc_base.specs.Metering.{Spending, total}
-use Rattle.ffc_rules.specs.Causes.{first_count}
-use Rattle.ffc_rules.specs.Entries.{limits}
 use Rattle.ffc_check.specs.Judged.{node_check}
-use Rattle.ffc_theory.proofs.LimitLemmas.{memory_caused, stopped_by_memory, all_spent, first-is}
+use Rattle.ffc_trials.proofs.LimitLemmas.{memory_caused, stopped_by_memory, all_spent, first-is}
 use Rattle.ffc_theory.proofs.deciding.decide_large.Goals as goal
 
 pub returns-in_err-enumeration-clause-caused : goal.returns-in_err-enumeration-clause-caused

@@ -1,5 +1,0 @@
-use Rattle.std.proofs.Common.{◌≡◌}
-use Rattle.ffc_engine.proofs.generators.differences.Given as goal
-
-abbrev pub invariant-loop-equality : goal.invariant-loop-equality
-invariant-loop-equality g l = l.polys ≡ l.table

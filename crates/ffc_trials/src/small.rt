@@ -1,0 +1,36 @@
+//! Deciding a check that has few assignments.
+ghost use Rattle.std.specs.Prelude.{◌≡◌, IfOk, IfErr};
+ghost use Rattle.ffc_rules.specs.Laws.{IsValid};
+ghost use Rattle.ffc_check.specs.Judged.{node_check};
+ghost use Rattle.ffc_trials.specs.Parts.{IsConeOf};
+ghost use Rattle.ffc_trials.specs.Stops.{IsGiven, IsSmallSpan};
+
+use crate::cone::Cone;
+use crate::enumerate::Enumeration;
+use crate::stop::DecideStop;
+use ffc_base::Meter;
+use ffc_cert::Entry;
+use ffc_term::Check;
+use std::alloc::Global;
+
+/// Decides a check that is small within the budget, by going through all its assignments, so many.
+pub fn decide_small(
+    alloc: Global,
+    check: &Check,
+    cone: &Cone,
+    span: u64,
+    steps: u64,
+) -> Result<Entry, DecideStop>
+    requires valid { IsValid (node_check check.now) }
+    requires cone { IsConeOf (node_check check.now) cone.now }
+    requires small { IsSmallSpan (node_check check.now) steps span }
+    ensures given { IfOk result (IsGiven (node_check check.now)) }
+    ensures only { IfErr result (λ stop. stop ≡ DecideStop.Memory) }
+{
+    let mut trials = Meter::new(steps);
+    let mut enumeration = Enumeration::new(alloc, check, cone)?;
+    if enumeration.go_on(check, cone, span, &mut trials) {
+        return Ok(Entry::Sat(enumeration.into_values(check)));
+    }
+    Ok(Entry::UnsatCases)
+}
