@@ -11,11 +11,7 @@ mod enumerate;
 mod limits;
 mod proposing;
 mod readable;
-#[cfg(test)]
-mod readable_tests;
 mod stop;
-#[cfg(test)]
-mod tests;
 
 pub use deciding::decide;
 pub use stop::DecideStop;
