@@ -1,12 +1,12 @@
 -- The commands by name.
-use Rattle.std.proofs.Common.{◌≡◌, ℕ, Bool, true, false, List, [], ◌∷◌, ◌++◌, if◌then◌else◌, Option, Some, None, IfSome, IfNone, is_some, refl, sym, ap, ◌∙◌, rules}
+use Rattle.std.proofs.Common.{◌≡◌, ℕ, Bool, true, false, List, [], ◌∷◌, if◌then◌else◌, Option, Some, None, IfSome, IfNone, refl, sym, ap, ◌∙◌, rules}
 use Rattle.std.specs.Str.{bytes_eq}
 use Rattle.ffc_smt.specs.Terms.{Name}
 use Rattle.ffc_smt.specs.Meaning.{Env, found}
 use Rattle.ffc_smt.specs.Scopes.{State}
 use Rattle.ffc_smt.specs.CommandReading.{Limits, readers}
 use Rattle.ffc_parts.specs.declared.heads.Head.{Head}
-use Rattle.ffc_parts.specs.Heads.{head_name, earlier_heads, later_heads}
+use Rattle.ffc_parts.specs.Heads.{head_name, heads}
 
 -- each under its own name
 abbrev pub AreNamed : Env Head → Type 0
@@ -52,28 +52,46 @@ found_none {A} {B} (x ∷ xs) (y ∷ ys) name e h = by_test (bytes_eq x.0 name) 
     by_test true same later is = cc
     by_test false other later is = rw (sym (ap (λ n. bytes_eq n name) first) ∙ other) (later is)
 
-pub found_in_two : {A : Type 0} (xs ys : Env A) (name : Name) → found xs name ≡ None → found ys name ≡ None → found (xs ++ ys) name ≡ None
-found_in_two [] ys name h g = g
-found_in_two {A} (x ∷ xs) ys name h g = by_test (bytes_eq x.0 name) (λ is. found_in_two xs ys name is g) h
-  where
-    by_test : (b : Bool) → (found xs name ≡ None → found (xs ++ ys) name ≡ None) → (if b then Some x.1 else found xs name) ≡ None → (if b then Some x.1 else found (xs ++ ys) name) ≡ None
-    by_test true later is = cc
-    by_test false later is = later is
-
-pub earlier_are_named : AreNamed earlier_heads
-earlier_are_named = (refl, (refl, (refl, (refl, (refl, (refl, (refl, (refl, (refl, (refl, (refl, tt)))))))))))
-
-pub later_are_named : AreNamed later_heads
-later_are_named = (refl, (refl, (refl, (refl, (refl, (refl, (refl, (refl, (refl, (refl, (refl, tt)))))))))))
-
-pub no_reader : (l : Limits) (s : State) (name : Name) → found earlier_heads name ≡ None → found later_heads name ≡ None → found (readers l s) name ≡ None
-no_reader l s name h g = found_none (earlier_heads ++ later_heads) (readers l s) name refl (found_in_two earlier_heads later_heads name h g)
+pub are_named : AreNamed heads
+are_named = (
+  refl,
+  (
+    refl,
+    (
+      refl,
+      (
+        refl,
+        (
+          refl,
+          (
+            refl,
+            (
+              refl,
+              (
+                refl,
+                (
+                  refl,
+                  (
+                    refl,
+                    (
+                      refl,
+                      (refl, (refl, (refl, (refl, (refl, (refl, (refl, (refl, (refl, (refl, (refl, tt))))))))))),
+                    ),
+                  ),
+                ),
+              ),
+            ),
+          ),
+        ),
+      ),
+    ),
+  ),
+)
 
 pub some_named : (r : Option Head) (xs : Env Head) (name : Name) → AreNamed xs → r ≡ found xs name → IfSome r (λ h. name ≡ head_name h)
 some_named None xs name named e = tt
 some_named (Some h) xs name named e = found_name xs name h named (sym e)
 
-pub none_known : (r later : Option Head) (name : Name) (l : Limits) (s : State) → is_some r ≡ false → r ≡ found earlier_heads name → later ≡ found later_heads name → IfNone later (found (readers l s) name ≡ None)
-none_known r (Some h) name l s absent e g = tt
-none_known (Some h) None name l s absent e g = cc
-none_known None None name l s absent e g = no_reader l s name (sym e) (sym g)
+pub none_known : (r : Option Head) (name : Name) (l : Limits) (s : State) → r ≡ found heads name → IfNone r (found (readers l s) name ≡ None)
+none_known (Some h) name l s e = tt
+none_known None name l s e = found_none heads (readers l s) name refl (sym e)

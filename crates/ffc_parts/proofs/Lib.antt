@@ -2,3 +2,4 @@ pub mod GrowingLemmas
 pub mod ChoosingLemmas
 pub mod ApplyingLemmas
 pub mod HeadLemmas
+mod TableLemmas

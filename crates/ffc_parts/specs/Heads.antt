@@ -36,8 +36,8 @@ head_name head.Reset = codes "reset"
 head_name head.Exit = codes "exit"
 
 -- all commands by name
-abbrev pub earlier_heads : Env Head
-earlier_heads =
+abbrev pub heads : Env Head
+heads =
     (codes "set-logic", head.SetLogic)
     ∷ (codes "set-option", head.SetOption)
     ∷ (codes "get-option", head.GetOption)
@@ -48,11 +48,8 @@ earlier_heads =
     ∷ (codes "declare-fun", head.DeclareFun)
     ∷ (codes "define-sort", head.DefineSort)
     ∷ (codes "define-fun", head.DefineFun)
-    ∷ (codes "assert", head.Assert) ∷ []
-
-abbrev pub later_heads : Env Head
-later_heads =
-    (codes "check-sat", head.CheckSat)
+    ∷ (codes "assert", head.Assert)
+    ∷ (codes "check-sat", head.CheckSat)
     ∷ (codes "check-sat-assuming", head.CheckSatAssuming)
     ∷ (codes "get-unsat-core", head.GetUnsatCore)
     ∷ (codes "get-unsat-assumptions", head.GetUnsatAssumptions)

@@ -6,6 +6,7 @@ mod heads;
 mod numbers;
 mod operators;
 mod options;
+mod tables;
 mod words;
 
 pub use applying::{

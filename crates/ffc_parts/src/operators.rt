@@ -4,6 +4,7 @@ ghost use Rattle.ffc_smt.specs.Meaning.{found};
 ghost use Rattle.ffc_smt.specs.TermReading as reading;
 ghost use Rattle.ffc_parts.specs.Operators.{operator_of, wanted_of};
 
+use crate::tables::found_in;
 use ffc_term::Sort;
 
 #[derive(Clone, Copy, Debug, PartialEq, Eq)]
@@ -22,37 +23,27 @@ pub enum Operator {
     Bitsum,
 }
 
+/// The functions by name.
+const OPERATORS: [(&[u8], Operator); 12] = [
+    (b"not", Operator::Not),
+    (b"and", Operator::And),
+    (b"or", Operator::Or),
+    (b"xor", Operator::Xor),
+    (b"=>", Operator::Implies),
+    (b"=", Operator::Equal),
+    (b"distinct", Operator::Distinct),
+    (b"ite", Operator::Ite),
+    (b"ff.add", Operator::Add),
+    (b"ff.mul", Operator::Mul),
+    (b"ff.neg", Operator::Neg),
+    (b"ff.bitsum", Operator::Bitsum),
+];
+
 /// The function of a name.
 pub fn operator_named(name: &[u8]) -> Option<Operator>
     ensures { option_map operator_of result ≡ found reading.operators name.now }
 {
-    if b"not".as_slice() == name {
-        Some(Operator::Not)
-    } else if b"and".as_slice() == name {
-        Some(Operator::And)
-    } else if b"or".as_slice() == name {
-        Some(Operator::Or)
-    } else if b"xor".as_slice() == name {
-        Some(Operator::Xor)
-    } else if b"=>".as_slice() == name {
-        Some(Operator::Implies)
-    } else if b"=".as_slice() == name {
-        Some(Operator::Equal)
-    } else if b"distinct".as_slice() == name {
-        Some(Operator::Distinct)
-    } else if b"ite".as_slice() == name {
-        Some(Operator::Ite)
-    } else if b"ff.add".as_slice() == name {
-        Some(Operator::Add)
-    } else if b"ff.mul".as_slice() == name {
-        Some(Operator::Mul)
-    } else if b"ff.neg".as_slice() == name {
-        Some(Operator::Neg)
-    } else if b"ff.bitsum".as_slice() == name {
-        Some(Operator::Bitsum)
-    } else {
-        None
-    }
+    found_in(&OPERATORS, name)
 }
 
 /// Which sort an argument may have.

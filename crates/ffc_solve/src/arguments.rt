@@ -1,7 +1,7 @@
 //! The arguments of the command line.
-ghost use Rattle.std.specs.Prelude.{◌≡◌, ◌≢◌, [], map, unwrap_or, IfOk, IfSome, IsErr, IsErrOf, OnErr};
-ghost use Rattle.clap.specs.Words.{app_of, first_value, found_of, kind_of};
-ghost use Rattle.ffc_solve.specs.Arguments.{AreRefused, HasPlan, IsInRange, IsNumber, IsOutside, solve_app};
+ghost use Rattle.std.specs.Prelude.{◌≡◌, ◌≢◌, [], codes, false, map, unwrap_or, IfOk, IfSome, IsErr, IsErrOf, OnErr};
+ghost use Rattle.clap.specs.Words.{app_of, first_value, found_of, kind_of, new_app, rule_of};
+ghost use Rattle.ffc_solve.specs.Arguments.{AreRefused, HasPlan, IsInRange, IsNumber, IsOutside, cert_rule, make_rule, solve_app, steps_rule, without_help};
 
 use clap::error::ErrorKind;
 use clap::{Arg, ArgAction, ArgMatches, Command, Error};
@@ -74,23 +74,50 @@ impl From<AllocError> for PlanStop {
     }
 }
 
+/// The argument that names the certificate's file.
+fn cert_argument<'a>(alloc: Global) -> Arg<'a>
+    ensures rule { rule_of result ≡ cert_rule }
+    ensures own { result.global ≡ false }
+{
+    Arg::new(alloc, "cert")
+        .long("cert")
+        .required(true)
+        .action(ArgAction::Set)
+}
+
+/// The argument of the units of work.
+fn steps_argument<'a>(alloc: Global) -> Arg<'a>
+    ensures rule { rule_of result ≡ steps_rule }
+    ensures own { result.global ≡ false }
+{
+    Arg::new(alloc, "steps")
+        .long("steps")
+        .action(ArgAction::Set)
+}
+
+/// The argument of a generated script's size.
+fn make_argument<'a>(alloc: Global) -> Arg<'a>
+    ensures rule { rule_of result ≡ make_rule }
+    ensures own { result.global ≡ false }
+{
+    Arg::new(alloc, "make").long("make").action(ArgAction::Set)
+}
+
+/// A command without arguments and without a help flag.
+fn bare_command<'a>(alloc: Global) -> Command<'a>
+    ensures { app_of result ≡ without_help (new_app (codes "ffsolve")) }
+{
+    Command::new(alloc, "ffsolve").disable_help_flag(true)
+}
+
 /// The command.
 fn solve_command<'a>(alloc: Global) -> Result<Command<'a>, AllocError>
     ensures { IfOk result (λ c. app_of c ≡ solve_app) }
 {
-    let cert = Arg::new(alloc, "cert")
-        .long("cert")
-        .required(true)
-        .action(ArgAction::Set);
-    let steps = Arg::new(alloc, "steps")
-        .long("steps")
-        .action(ArgAction::Set);
-    let make = Arg::new(alloc, "make").long("make").action(ArgAction::Set);
-    Command::new(alloc, "ffsolve")
-        .disable_help_flag(true)
-        .arg(cert)?
-        .arg(steps)?
-        .arg(make)
+    bare_command(alloc)
+        .arg(cert_argument(alloc))?
+        .arg(steps_argument(alloc))?
+        .arg(make_argument(alloc))
 }
 
 /// Why the arguments were not taken.

@@ -1,7 +1,7 @@
 //! The arguments of the command line.
 ghost use Rattle.std.specs.Prelude.{◌≡◌, ◌≢◌, [], codes, false, map, option_map, unwrap_or, IfOk, IsErrOf};
-ghost use Rattle.clap.specs.Words.{app_of, first_value, found_of, kind_of};
-ghost use Rattle.ffc_verify.specs.Arguments.{AreTaken, cert_name, check_app, is_set, wants_cores};
+ghost use Rattle.clap.specs.Words.{app_of, first_value, found_of, kind_of, new_app, rule_of};
+ghost use Rattle.ffc_verify.specs.Arguments.{AreTaken, cert_name, cert_rule, check_app, cores_rule, is_set, wants_cores, without_help};
 
 use clap::error::ErrorKind;
 use clap::{Arg, ArgAction, ArgMatches, Command, Error};
@@ -28,20 +28,40 @@ pub enum PlanStop {
     Memory,
 }
 
+/// The argument that names the certificate.
+fn cert_argument<'a>(alloc: Global) -> Arg<'a>
+    ensures rule { rule_of result ≡ cert_rule }
+    ensures own { result.global ≡ false }
+{
+    Arg::new(alloc, "cert")
+        .required(true)
+        .action(ArgAction::Set)
+}
+
+/// The flag that asks for cores.
+fn cores_flag<'a>(alloc: Global) -> Arg<'a>
+    ensures rule { rule_of result ≡ cores_rule }
+    ensures own { result.global ≡ false }
+{
+    Arg::new(alloc, "cores")
+        .long("cores")
+        .action(ArgAction::SetTrue)
+}
+
+/// A command without arguments and without a help flag.
+fn bare_command<'a>(alloc: Global) -> Command<'a>
+    ensures { app_of result ≡ without_help (new_app (codes "ffcheck")) }
+{
+    Command::new(alloc, "ffcheck").disable_help_flag(true)
+}
+
 /// The command.
 fn check_command<'a>(alloc: Global) -> Result<Command<'a>, AllocError>
     ensures { IfOk result (λ c. app_of c ≡ check_app) }
 {
-    let cert = Arg::new(alloc, "cert")
-        .required(true)
-        .action(ArgAction::Set);
-    let cores = Arg::new(alloc, "cores")
-        .long("cores")
-        .action(ArgAction::SetTrue);
-    Command::new(alloc, "ffcheck")
-        .disable_help_flag(true)
-        .arg(cert)?
-        .arg(cores)
+    bare_command(alloc)
+        .arg(cert_argument(alloc))?
+        .arg(cores_flag(alloc))
 }
 
 /// Whether a flag was given.
