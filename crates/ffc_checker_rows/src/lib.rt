@@ -31,7 +31,6 @@ mod making;
 #[cfg(test)]
 mod parts;
 #[cfg(test)]
-mod readable;
 #[cfg(test)]
 mod tables;
 #[cfg(test)]

@@ -6,7 +6,5 @@
 
 mod deciding;
 mod proposing;
-#[cfg(test)]
-mod tests;
 
 pub use deciding::decide;

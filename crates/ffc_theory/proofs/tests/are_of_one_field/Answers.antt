@@ -1,8 +1,0 @@
-use Rattle.std.proofs.Common.{arith}
-use Rattle.ffc_term.specs.Tables.{IsFieldAt}
-use Rattle.ffc_term.proofs.WalkLemmas.{All-two}
-use Rattle.ffc_theory.proofs.tests.are_of_one_field.Goals as goal
-
-pub returns-then-is_field : goal.returns-then-is_field
-returns-then-is_field c second =
-    record { some = omega arith; order = c.args.order; each = All-two (IsFieldAt c.args.table.now c.args.order) c.args.a c.args.b (c.is_field.ensures c.if-is_field.true) (c.is_field-then-is_field.ensures second) }
