@@ -1,17 +1,25 @@
 //! Texts of certificates of one entry: the entry as it is written again, or the text's fault.
-ghost use Rattle.std.specs.Prelude.{◌≡◌, false};
+ghost use Rattle.std.specs.Prelude.{◌≡◌, ◌⊎◌, false};
+ghost use Rattle.ffc_cert.specs.WellFormed.{FitsVersion, IsReadableIn};
 
 use crate::commands::{Finding, say};
 use crate::pieces::Cut;
 use ffc_cert::{CertReader, CertStop, Entry, Numbered, text_len, write_entry};
-use std::alloc::Global;
+use std::alloc::{AllocError, Global};
+use std::str;
 
-/// An entry that a reader gave, and the version of its text.
+/// An entry as it is written again: the length that is stated of its text, and the text.
+#[derive(Drop)]
+struct Written {
+    length: u64,
+    text: Vec<u8>,
+}
+
+/// An entry that a reader gave.
 #[derive(Drop)]
 struct Given {
-    version: Option<u8>,
     numbered: Numbered,
-    ghost readable: { Rattle.ffc_cert.specs.WellFormed.IsReadableIn version numbered.entry },
+    written: Written,
 }
 
 /// A reader of a text that has not ended.
@@ -41,11 +49,12 @@ impl OpenReader {
         fed
     }
 
-    /// Takes the next entry, if it is whole.
-    fn take_entry(&mut self, taken: &mut Taken) -> Result<(), CertStop> {
+    /// Takes the next entry, if it is whole, and writes it again.
+    fn take_entry(&mut self, alloc: Global, taken: &mut Taken) -> Result<(), CertStop> {
         let version = self.reader.version();
         if let Some(numbered) = self.reader.next_entry()? {
-            taken.entry = Some(Given { version, numbered });
+            let written = write_again(alloc, version, &numbered.entry)?;
+            taken.entry = Some(Given { numbered, written });
         }
         Ok(())
     }
@@ -60,46 +69,52 @@ impl OpenReader {
     }
 }
 
+/// The text of an entry in a version.
+fn write_in(alloc: Global, version: u8, entry: &Entry) -> Result<Written, AllocError>
+    requires version { (version ≡ 1) ⊎ (version ≡ 2) }
+    requires fits { FitsVersion version entry.now }
+{
+    let mut text = Vec::new(alloc);
+    let length = text_len(version, entry);
+    write_entry(alloc, version, entry, &mut text)?;
+    Ok(Written { length, text })
+}
+
+/// The text of an entry that a reader gave in this version.
+fn write_again(alloc: Global, version: Option<u8>, entry: &Entry) -> Result<Written, AllocError>
+    requires { IsReadableIn version entry.now }
+{
+    match version {
+        Some(1) => write_in(alloc, 1, entry),
+        Some(2) => write_in(alloc, 2, entry),
+        _ => Ok(Written {
+            length: 0,
+            text: Vec::new(alloc),
+        }),
+    }
+}
+
 /// Feeds a piece, takes an entry that is whole, and judges what comes after it.
-fn take_piece(reader: &mut OpenReader, piece: &[u8], taken: &mut Taken) -> Result<(), CertStop> {
+fn take_piece(
+    alloc: Global,
+    reader: &mut OpenReader,
+    piece: &[u8],
+    taken: &mut Taken,
+) -> Result<(), CertStop> {
     reader.feed(piece, taken)?;
-    reader.take_entry(taken)?;
-    reader.take_entry(taken)
+    reader.take_entry(alloc, taken)?;
+    reader.take_entry(alloc, taken)
 }
 
 /// Reads a text of one entry in pieces.
 fn read(alloc: Global, text: &[u8], cut: Cut, taken: &mut Taken) -> Result<(), CertStop> {
     let (front, back) = text.split_at(cut.first.min(text.len()));
     let mut reader = OpenReader::new(alloc);
-    take_piece(&mut reader, front, taken)?;
+    take_piece(alloc, &mut reader, front, taken)?;
     for piece in back.chunks(cut.later.max(1)) {
-        take_piece(&mut reader, piece, taken)?;
+        take_piece(alloc, &mut reader, piece, taken)?;
     }
     reader.end()
-}
-
-/// An entry as it is written again: the length that is stated of its text, and that the text is this one, or the text.
-fn written_in(alloc: Global, version: u8, entry: &Entry, text: &[u8]) -> Finding
-    requires version { (version ≡ 1) ⊎ (version ≡ 2) }
-    requires fits { Rattle.ffc_cert.specs.WellFormed.FitsVersion version entry.now }
-{
-    let mut out = Vec::new(alloc);
-    let length = text_len(version, entry);
-    write_entry(alloc, version, entry, &mut out)?;
-    if out.as_slice() == text {
-        format!(in alloc; "{length} bytes as they are written")
-    } else {
-        format!(in alloc; "{length} bytes, but they are written as {out:?}")
-    }
-}
-
-/// An entry as it is written again, where these bytes are what was read.
-fn written(alloc: Global, given: &Given, text: &[u8]) -> Finding {
-    match given.version {
-        Some(1) => written_in(alloc, 1, &given.numbered.entry, text),
-        Some(2) => written_in(alloc, 2, &given.numbered.entry, text),
-        _ => say(alloc, "no version"),
-    }
 }
 
 /// What is said of an entry, where these bytes are what was read.
@@ -109,12 +124,23 @@ pub(crate) enum Shown {
     Parts,
 }
 
+/// The length of an entry's text, and the text where it is not this one.
+fn compared(alloc: Global, written: &Written, text: &[u8]) -> Finding {
+    let length = written.length;
+    if written.text.as_slice() == text {
+        format!(in alloc; "{length} bytes as they are written")
+    } else {
+        let other = str::from_utf8(written.text.as_slice()).unwrap_or("?");
+        format!(in alloc; "{length} bytes, but they are written\n{other}")
+    }
+}
+
 fn described(alloc: Global, given: &Given, text: &[u8], shown: Shown) -> Finding {
     let number = given.numbered.number;
     let line = given.numbered.first_line;
     let entry = &given.numbered.entry;
     let said = match shown {
-        Shown::Written => written(alloc, given, text)?,
+        Shown::Written => compared(alloc, &given.written, text)?,
         Shown::Parts => format!(in alloc; "{entry:?}")?,
     };
     format!(in alloc; "entry {number}, line {line}: {said}")

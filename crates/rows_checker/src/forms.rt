@@ -1,24 +1,20 @@
 //! Forms of scripts.
+ghost use Rattle.std.specs.Prelude.{◌≡◌, false, IfSome};
+ghost use Rattle.ffc_words.specs.Given.{IsGiven};
+
 use ffc_lex::{Form, Lexer};
-use std::alloc::Global;
 
-/// A form, and the lexer that gave it last.
-#[derive(Drop)]
-pub(crate) struct GivenForm {
-    pub(crate) lexer: Lexer,
-    pub(crate) form: Form,
-    ghost given: { Rattle.ffc_words.specs.Given.IsGiven form lexer },
-}
-
-/// The first form of a text, where it is whole.
+/// The next form of a lexer that is fed a text, where one is whole.
 #[tactic(auto, using(ffc_terms::proofs::GivenLemmas::given_now))]
-pub(crate) fn form_of(alloc: Global, text: &[u8]) -> Option<GivenForm> {
-    let mut lexer = Lexer::new(alloc);
+pub(crate) fn next_form(lexer: &mut Lexer, text: &[u8]) -> Option<Form>
+    requires { lexer.old.finished ≡ false }
+    ensures { IfSome result (λ form. IsGiven form lexer.new) }
+{
     if lexer.feed(text).is_err() {
         return None;
     }
-    match lexer.next_form() {
-        Ok(Some(form)) => Some(GivenForm { lexer, form }),
-        _ => None,
-    }
+    let Ok(Some(form)) = lexer.next_form() else {
+        return None;
+    };
+    Some(form)
 }

@@ -110,8 +110,10 @@ pub(crate) fn fault(alloc: Global, text: &[u8], cut: Cut) -> Finding {
 fn described(alloc: Global, tokens: &[Token]) -> Finding {
     let mut lines = String::new(alloc);
     for token in tokens {
-        let line = format!(in alloc; "{token:?}\n")?;
-        lines.push_str(line.as_str())?;
+        if !lines.is_empty() {
+            lines.push('\n')?;
+        }
+        lines.push_str(format!(in alloc; "{token:?}")?.as_str())?;
     }
     Ok(lines)
 }

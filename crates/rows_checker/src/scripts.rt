@@ -1,12 +1,15 @@
 //! Words of scripts: numbers, sorts and terms, and commands that a context takes.
+ghost use Rattle.ffc_words.specs.Given.{IsGiven};
+
 use crate::commands::{Finding, MALFORMED, OUT_OF_MEMORY, say, split_row};
-use crate::forms::{GivenForm, form_of};
+use crate::forms::next_form;
 use ffc_elab::Context;
+use ffc_lex::{Form, Lexer};
 use ffc_parts::{Signed, constant_of, literal_number, literal_order, residue_of};
 use ffc_term::Sort;
 use ffc_terms::{Names, Symbols, sort_at, term_at};
 use ffc_words::{FormWords, TakeStop};
-use std::alloc::{AllocError, Global};
+use std::alloc::Global;
 
 #[derive(Clone, Copy)]
 pub(crate) enum ScriptCommand {
@@ -56,19 +59,15 @@ fn constant(alloc: Global, written: &[u8]) -> Finding {
     }
 }
 
-/// What is written between the parentheses of a form.
-fn form_around(alloc: Global, written: &str) -> Result<Option<GivenForm>, AllocError> {
-    let text = format!(in alloc; "({written})")?;
-    Ok(form_of(alloc, text.as_bytes()))
-}
-
 /// Reads a form's first term, without names, to a height: its height and its weight, or its fault.
-fn term(alloc: Global, given: &GivenForm, limit: u32) -> Finding {
+fn term(alloc: Global, form: &Form, lexer: &Lexer, limit: u32) -> Finding
+    requires { IsGiven form.now lexer.now }
+{
     let symbols = Symbols {
         terms: Names::new(alloc),
         sorts: Names::new(alloc),
     };
-    let words = FormWords::new(&given.form, &given.lexer);
+    let words = FormWords::new(form, lexer);
     match term_at(alloc, &words, &symbols, Names::new(alloc), 1, limit) {
         Ok(read) => {
             let height = read.height;
@@ -85,17 +84,24 @@ fn term(alloc: Global, given: &GivenForm, limit: u32) -> Finding {
 
 fn term_row(alloc: Global, rest: &str) -> Finding {
     let (limit, written) = split_row(rest);
-    match (limit.parse::<u32>(), form_around(alloc, written)?) {
-        (Ok(limit), Some(given)) => term(alloc, &given, limit),
-        _ => say(alloc, MALFORMED),
+    let Ok(limit) = limit.parse::<u32>() else {
+        return say(alloc, MALFORMED);
+    };
+    let text = format!(in alloc; "({written})")?;
+    let mut lexer = Lexer::new(alloc);
+    match next_form(&mut lexer, text.as_bytes()) {
+        Some(form) => term(alloc, &form, &lexer, limit),
+        None => say(alloc, MALFORMED),
     }
 }
 
 /// Reads a form's first sort, where F is a name of the sort of the field of order 5.
-fn sort(alloc: Global, given: &GivenForm) -> Finding {
+fn sort(alloc: Global, form: &Form, lexer: &Lexer) -> Finding
+    requires { IsGiven form.now lexer.now }
+{
     let mut sorts = Names::new(alloc);
     sorts.push(alloc, b"F".to_vec(alloc)?, Sort::Field(5))?;
-    let words = FormWords::new(&given.form, &given.lexer);
+    let words = FormWords::new(form, lexer);
     match sort_at(&sorts, &words, 1) {
         Ok((sort, _)) => format!(in alloc; "{sort:?}"),
         Err(fault) => {
@@ -106,8 +112,10 @@ fn sort(alloc: Global, given: &GivenForm) -> Finding {
 }
 
 fn sort_row(alloc: Global, rest: &str) -> Finding {
-    match form_around(alloc, rest)? {
-        Some(given) => sort(alloc, &given),
+    let text = format!(in alloc; "({rest})")?;
+    let mut lexer = Lexer::new(alloc);
+    match next_form(&mut lexer, text.as_bytes()) {
+        Some(form) => sort(alloc, &form, &lexer),
         None => say(alloc, MALFORMED),
     }
 }
@@ -120,8 +128,10 @@ fn size(alloc: Global, context: &Context) -> Finding {
 }
 
 /// Takes a form: its fault, if it has one, and how many nodes and active terms there are after it.
-fn take(alloc: Global, context: &mut Context, given: &GivenForm) -> Finding {
-    match context.take(&given.form, &given.lexer) {
+fn take(alloc: Global, context: &mut Context, form: &Form, lexer: &Lexer) -> Finding
+    requires { IsGiven form.now lexer.now }
+{
+    match context.take(form, lexer) {
         Ok(_) => size(alloc, context),
         Err(TakeStop::Fault(fault)) => {
             let code = fault.code;
@@ -133,8 +143,9 @@ fn take(alloc: Global, context: &mut Context, given: &GivenForm) -> Finding {
 }
 
 fn take_row(alloc: Global, context: &mut Context, rest: &str) -> Finding {
-    match form_of(alloc, rest.as_bytes()) {
-        Some(given) => take(alloc, context, &given),
+    let mut lexer = Lexer::new(alloc);
+    match next_form(&mut lexer, rest.as_bytes()) {
+        Some(form) => take(alloc, context, &form, &lexer),
         None => say(alloc, MALFORMED),
     }
 }
