@@ -1,4 +1,0 @@
-mod CertLemmas
-mod CheckLemmas
-mod SampleLemmas
-mod ViewLemmas

@@ -1,0 +1,70 @@
+//! Library calls that the checker is made of, on worked rows: each file that the arguments name has rows of one library,
+//! and begins with what they show, how they are written and where the wanted answers are from.
+//!
+//! Each row is printed again with what was found below it. The file `stdout` of the crate has what is wanted, computed by
+//! hand or from the algebra.
+#![tactic(auto)]
+
+mod certificates;
+mod checks;
+mod commands;
+mod entries;
+mod forms;
+mod lexing;
+mod nodes;
+mod pieces;
+mod polynomials;
+mod queries;
+mod reading;
+mod scripts;
+mod session;
+mod texts;
+
+use crate::session::Session;
+use std::rt::{Env, Files};
+use std::{env, fs, io};
+
+/// Prints a finding, each line of it further in than the row that it is of.
+fn print_finding(rt: &impl Print, finding: &str) -> io::Result<()> {
+    for line in finding.lines() {
+        println!(rt; "    {line}")?;
+    }
+    Ok(())
+}
+
+/// Prints a row and what is found. Returns how many findings there are, which is one or none.
+fn print_row<R: Print + AllocGlobal>(rt: &R, session: &mut Session, row: &str) -> io::Result<u64> {
+    println!(rt; "{row}")?;
+    let finding = session.row(rt.alloc(), row)?;
+    print_finding(rt, finding.as_str())?;
+    Ok(u64::from(!finding.is_empty()))
+}
+
+/// Prints the rows of a text but for its comments.
+fn print_rows<R: Print + AllocGlobal>(rt: &R, text: &str) -> io::Result<u64> {
+    let mut session = Session::new(rt.alloc())?;
+    let mut count = 0u64;
+    for row in text.lines() {
+        if !row.starts_with('#') {
+            count = count.saturating_add(print_row(rt, &mut session, row)?);
+        }
+    }
+    Ok(count)
+}
+
+/// Prints the rows of a file, and how many things were found.
+fn print_file<R: Files + Print + AllocGlobal>(rt: &R, name: &str) -> io::Result<()> {
+    let text = fs::read_to_string(rt, name)?;
+    println!(rt; "{name}:")?;
+    let count = print_rows(rt, text.as_str())?;
+    println!(rt; "{name}: {count} findings")
+}
+
+fn main(rt: HostRuntime) -> io::Result<()> {
+    let mut arguments = env::args(&rt)?;
+    let _program = arguments.next();
+    for name in arguments {
+        print_file(&rt, name.as_str())?;
+    }
+    Ok(())
+}
