@@ -122,8 +122,9 @@ fn write_leads<F: Field, O: MonoOrder>(
     page: &mut Page,
     lines: &[Line<F, O>],
 ) -> Option<()> {
+    let leads = least_leads(alloc, lines)?;
     let mut before = "";
-    for lead in least_leads(alloc, lines)?.iter() {
+    for lead in leads.iter() {
         page.say(before);
         write_monomial(page, lead);
         before = " ";
@@ -228,6 +229,11 @@ fn cut<F: Field, O: MonoOrder>(basis: &mut Basis<F, O>, len: u64, page: &mut Pag
     Some(())
 }
 
+/// Whether generators are added. With no contract of its own it keeps the proof of its caller short.
+fn is_added<F: Field, O: MonoOrder>(basis: &mut Basis<F, O>, gens: &[Poly<F, O>]) -> bool {
+    basis.add(gens).is_ok()
+}
+
 /// Adds the generators that are left to read.
 fn add<F: Field, O: MonoOrder>(
     alloc: Global,
@@ -236,8 +242,11 @@ fn add<F: Field, O: MonoOrder>(
     page: &mut Page,
 ) -> Option<()> {
     let gens = polys::<F, O>(alloc, words.rest())?;
-    basis.add(gens.as_slice()).ok()?;
-    page.say("done");
+    page.say(if is_added(basis, gens.as_slice()) {
+        "done"
+    } else {
+        "out of memory"
+    });
     Some(())
 }
 

@@ -89,12 +89,13 @@ fn push_in_parts<F: Field, O: MonoOrder>(
 }
 
 /// Pops so many levels, where there are as many.
-fn pop<F: Field, O: MonoOrder>(stack: &mut BasisStack<F, O>, count: u64) {
+fn pop<F: Field, O: MonoOrder>(stack: &mut BasisStack<F, O>, count: u64, page: &mut Page) {
     for _ in 0..count {
         if stack.depth() > 0 {
             stack.pop();
         }
     }
+    write_depth(page, stack);
 }
 
 /// Pushes a level of the generators that are left to read, at once or in parts, within so many units.
@@ -143,14 +144,11 @@ fn step<F: Field, O: MonoOrder>(
     page: &mut Page,
 ) -> Option<()> {
     match named(&VERBS, words.next()?)? {
-        Verb::Push => push(alloc, stack, words, page, true)?,
-        Verb::Parts => push(alloc, stack, words, page, false)?,
-        Verb::Reduce => reduce(alloc, stack, words, page)?,
+        Verb::Push => return push(alloc, stack, words, page, true),
+        Verb::Parts => return push(alloc, stack, words, page, false),
+        Verb::Reduce => return reduce(alloc, stack, words, page),
         Verb::Lines => page.number(stack.lines().len() as u64),
-        Verb::Pop => {
-            pop(stack, words.number()?);
-            write_depth(page, stack);
-        }
+        Verb::Pop => pop(stack, words.number()?, page),
     }
     Some(())
 }

@@ -144,7 +144,8 @@ fn write_held(page: &mut Page, bytes: &[u8]) {
 
 /// The bytes of the next word.
 fn bytes(alloc: Global, words: &mut Words<'_>) -> Option<Vec<u8>> {
-    words.next()?.as_bytes().to_vec(alloc).ok()
+    let text = words.next()?;
+    Vec::from_slice(alloc, text.as_bytes()).ok()
 }
 
 /// A source in memory: its bytes, the size of its pieces and the calls that fail.

@@ -4,9 +4,9 @@ use crate::page::Page;
 use crate::reading::{Words, elements, monomial, poly, polys, power};
 use crate::writing::{write_poly, write_poly_or, write_term};
 use ffc_field::Field;
-use ffc_mono::MonoOrder;
-use ffc_poly::{Accumulator, Poly};
-use std::alloc::Global;
+use ffc_mono::{Mono, MonoOrder, MonoRef};
+use ffc_poly::{Accumulator, Poly, PolyStop};
+use std::alloc::{AllocError, Global};
 
 /// A call on polynomials.
 #[derive(Clone, Copy)]
@@ -58,56 +58,85 @@ fn write_lead<F: Field, O: MonoOrder>(page: &mut Page, poly: &Poly<F, O>) {
     }
 }
 
-/// A polynomial less or plus a multiple of another one.
-fn multiple_added<F: Field, O: MonoOrder>(
-    alloc: Global,
-    words: &mut Words<'_>,
+/// Writes a polynomial plus or less a multiple of another one.
+fn write_added<F: Field, O: MonoOrder>(
     page: &mut Page,
-    is_less: bool,
+    verb: Verb,
+    a: &Poly<F, O>,
+    c: F,
+    m: MonoRef<'_>,
+    b: &Poly<F, O>,
+) {
+    match verb {
+        Verb::Plus => write_poly_or(page, a.add_multiple(c, m, b)),
+        _ => write_poly_or(page, a.sub_multiple(c, m, b)),
+    }
+}
+
+/// A term's multiple that is added to nothing but a polynomial, or subtracted from it.
+fn write_multiple_of<F: Field, O: MonoOrder>(
+    alloc: Global,
+    page: &mut Page,
+    verb: Verb,
+    a: &Poly<F, O>,
+    words: &mut Words<'_>,
 ) -> Option<()> {
-    let a = next::<F, O>(alloc, words)?;
     let c = words.element::<F>()?;
     let m = monomial(alloc, words.next()?)?;
     let b = next::<F, O>(alloc, words)?;
-    let found = if is_less {
-        a.sub_multiple(c, m.as_ref(), &b)
-    } else {
-        a.add_multiple(c, m.as_ref(), &b)
-    };
-    write_poly_or(page, found);
+    match verb {
+        Verb::Accumulate => write_accumulated(alloc, page, a, c, m.as_ref(), &b),
+        _ => write_added(page, verb, a, c, m.as_ref(), &b),
+    }
     Some(())
 }
 
-/// A sum less a multiple of a polynomial, whose leading term is taken, the next one looked at and the rest left.
-fn write_accumulated<F: Field, O: MonoOrder>(
-    page: &mut Page,
-    mut sum: Accumulator<F, O>,
-) -> Option<()> {
-    let (coefficient, monomial) = sum.take_lead().ok()??;
+/// Writes a leading term.
+fn write_next<F: Field>(page: &mut Page, found: Result<Option<(F, Mono)>, AllocError>) {
+    match found {
+        Ok(Some((coefficient, monomial))) => write_term(page, coefficient, monomial.as_ref()),
+        Ok(None) => page.say("none"),
+        Err(stop) => page.show(&stop),
+    }
+}
+
+/// Takes the leading term of a sum, looks at the next one, and writes both and the rest.
+fn write_taken<F: Field, O: MonoOrder>(page: &mut Page, mut sum: Accumulator<F, O>) {
     page.say("takes ");
-    write_term(page, coefficient, monomial.as_ref());
-    let (coefficient, monomial) = sum.lead().ok()??;
+    write_next(page, sum.take_lead());
     page.say(", then ");
-    write_term(page, coefficient, monomial.as_ref());
+    write_next(page, sum.lead());
     page.say(", leaves ");
     write_poly_or(page, sum.into_poly());
-    Some(())
 }
 
-/// Adds a polynomial to nothing, and subtracts a multiple of another one.
-fn accumulate<F: Field, O: MonoOrder>(
+/// A polynomial that is added to nothing, less a multiple of another one.
+fn accumulated<F: Field, O: MonoOrder>(
     alloc: Global,
-    words: &mut Words<'_>,
-    page: &mut Page,
-) -> Option<()> {
+    a: &Poly<F, O>,
+    c: F,
+    m: MonoRef<'_>,
+    b: &Poly<F, O>,
+) -> Result<Accumulator<F, O>, PolyStop> {
     let mut sum = Accumulator::new(alloc);
-    let a = next::<F, O>(alloc, words)?;
-    sum.add(&a).ok()?;
-    let c = words.element::<F>()?;
-    let m = monomial(alloc, words.next()?)?;
-    let b = next::<F, O>(alloc, words)?;
-    sum.subtract_multiple(c, m.as_ref(), &b).ok()?;
-    write_accumulated(page, sum)
+    sum.add(a)?;
+    sum.subtract_multiple(c, m, b)?;
+    Ok(sum)
+}
+
+/// Writes the terms of such a sum.
+fn write_accumulated<F: Field, O: MonoOrder>(
+    alloc: Global,
+    page: &mut Page,
+    a: &Poly<F, O>,
+    c: F,
+    m: MonoRef<'_>,
+    b: &Poly<F, O>,
+) {
+    match accumulated(alloc, a, c, m, b) {
+        Ok(sum) => write_taken(page, sum),
+        Err(stop) => page.show(&stop),
+    }
 }
 
 /// The sum of so many variables.
@@ -128,8 +157,7 @@ fn product_of_variables<F: Field, O: MonoOrder>(
 ) -> Option<()> {
     let a = variables::<F, O>(alloc, 0, count)?;
     let b = variables::<F, O>(alloc, count, count)?;
-    write_poly_or(page, a.mul(&b));
-    Some(())
+    with_two(page, Verb::Product, &a, &b)
 }
 
 /// Writes a value of a polynomial.
@@ -201,6 +229,9 @@ fn with_one<F: Field, O: MonoOrder>(
         Verb::Scaled => write_poly_or(page, a.scale(words.element::<F>()?)),
         Verb::Value => return write_value(alloc, page, a, words),
         Verb::Multiple => return write_multiple(alloc, page, a, words),
+        Verb::Plus | Verb::Less | Verb::Accumulate => {
+            return write_multiple_of(alloc, page, verb, a, words);
+        }
         _ => write_poly(page, a),
     }
     Some(())
@@ -236,9 +267,6 @@ pub fn row<F: Field, O: MonoOrder>(
 ) -> Option<()> {
     match named(&VERBS, words.next()?)? {
         Verb::Total => write_total::<F, O>(alloc, page, words),
-        Verb::Plus => multiple_added::<F, O>(alloc, words, page, false),
-        Verb::Less => multiple_added::<F, O>(alloc, words, page, true),
-        Verb::Accumulate => accumulate::<F, O>(alloc, words, page),
         Verb::Variables => product_of_variables::<F, O>(alloc, page, words.small()?),
         verb @ (Verb::Sum | Verb::Product | Verb::Equal) => {
             read_two::<F, O>(alloc, page, verb, words)
