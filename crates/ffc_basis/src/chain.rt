@@ -26,14 +26,14 @@ use std::alloc::{AllocError, Global};
 use std::cmp::Ordering;
 
 /// What is compared of a line times the monomial that makes its leading monomial a given multiple of it.
-#[derive(Debug, Drop)]
+#[derive(Drop)]
 pub(crate) struct Raised {
     /// The second monomial, where it has two terms.
     second: Option<Mono>,
 }
 
 /// What is compared of two lines.
-#[derive(Debug, Drop)]
+#[derive(Drop)]
 pub(crate) struct Top {
     /// The least common multiple of the leading monomials of the lines.
     lcm: Mono,

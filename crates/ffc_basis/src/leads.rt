@@ -19,7 +19,7 @@ use std::alloc::{AllocError, Global};
 use std::cmp::Ordering;
 
 /// What is compared of the S-polynomial of two lines.
-#[derive(Debug, Drop)]
+#[derive(Drop)]
 pub(crate) struct Whole {
     /// The least common multiple of the leading monomials of the lines.
     lcm: Mono,

@@ -40,7 +40,7 @@ impl<F: Field, O: MonoOrder> Drop for Reduced<F, O> {
 }
 
 /// A multiple of a line by a term.
-#[derive(Debug, Drop)]
+#[derive(Drop)]
 pub(crate) struct Step<F: Field> {
     pub line: usize,
     pub coefficient: F,

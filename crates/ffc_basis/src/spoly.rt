@@ -21,7 +21,6 @@ use ffc_poly::{Poly, PolyStop};
 use std::alloc::{AllocError, Global};
 
 /// The S-polynomial of two lines: the sum of two multiples of them.
-#[derive(Debug)]
 pub(crate) struct SPolynomial<F: Field, O: MonoOrder> {
     first: Step<F>,
     second: Step<F>,
@@ -39,7 +38,6 @@ impl<F: Field, O: MonoOrder> Drop for SPolynomial<F, O> {
 }
 
 /// What a pair's S-polynomial gives.
-#[derive(Debug)]
 pub(crate) enum Outcome<F: Field, O: MonoOrder> {
     /// It reduces to zero.
     Closed,

@@ -5,7 +5,7 @@ use std::alloc::{AllocError, Global};
 use std::collections::BTreeMap;
 
 /// How often a node is used by nodes whose polynomials are still to be made, and whether one of these is a product.
-#[derive(Clone, Copy, Debug)]
+#[derive(Clone, Copy)]
 struct Use {
     left: u64,
     factor: bool,

@@ -19,7 +19,7 @@ use ffc_words::{FormWords, TakeStop};
 use std::alloc::Global;
 
 /// What a list is of.
-#[derive(Clone, Copy, Debug)]
+#[derive(Clone, Copy)]
 pub(crate) enum Listed {
     /// Terms of any sort, of which there is at least one.
     Values,
@@ -42,7 +42,7 @@ impl Listed {
 }
 
 /// The terms of a list, their weight up to 2^32 - 1, and the place after them.
-#[derive(Debug, Drop)]
+#[derive(Drop)]
 pub(crate) struct AskedList {
     pub(crate) terms: Vec<AskedTerm>,
     pub(crate) weight: u32,

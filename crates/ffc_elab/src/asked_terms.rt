@@ -14,7 +14,7 @@ use ffc_words::{FormWords, TakeStop};
 use std::alloc::Global;
 
 /// A term that was read: what makes its node, its weight up to 2^32 - 1, where it begins, and the place after it.
-#[derive(Debug, Drop)]
+#[derive(Drop)]
 pub(crate) struct AskedTerm {
     pub(crate) code: Vec<Op>,
     pub(crate) weight: u32,

@@ -29,7 +29,7 @@ pub(crate) const FIRST: usize = 2;
 pub(crate) const MOST_LEVELS: u32 = 65_536;
 
 /// What `get-info` answers.
-#[derive(Clone, Copy, Debug, PartialEq, Eq)]
+#[derive(Clone, Copy, PartialEq, Eq)]
 pub(crate) enum Info {
     SolverName,
     Version,
@@ -38,7 +38,7 @@ pub(crate) enum Info {
 }
 
 /// A command that is read without looking at the names in scope.
-#[derive(Clone, Copy, Debug)]
+#[derive(Clone, Copy)]
 pub(crate) enum Plain<'a> {
     SetLogic,
     SetOption(Setting, bool),

@@ -14,7 +14,7 @@ use std::alloc::{AllocError, Global};
 use std::collections::{BTreeMap, BinaryHeap};
 
 /// A node to look at, and whether its polynomial is made whatever node it is: it is asked for, or a factor.
-#[derive(Clone, Copy, Debug, PartialEq, Eq, PartialOrd, Ord)]
+#[derive(Clone, Copy, PartialEq, Eq, PartialOrd, Ord)]
 struct Visit {
     node: NodeId,
     made: bool,

@@ -10,14 +10,14 @@ use ffc_parts::{Operator, Wanted};
 use ffc_term::Sort;
 
 /// A function, or a macro by how many names of terms came before it.
-#[derive(Clone, Copy, Debug, PartialEq, Eq)]
+#[derive(Clone, Copy, PartialEq, Eq)]
 pub(crate) enum Callee {
     Function(Operator),
     Macro(usize),
 }
 
 /// The arguments so far: how many, the sorts of the first two, the greatest height and the sum of the weights.
-#[derive(Clone, Copy, Debug, PartialEq, Eq)]
+#[derive(Clone, Copy, PartialEq, Eq)]
 pub(crate) struct Parts {
     pub(crate) count: usize,
     pub(crate) first: Option<Sort>,

@@ -13,7 +13,7 @@ use std::alloc::{AllocError, Global};
 use std::marker::Model;
 
 /// Where a word is.
-#[derive(Clone, Copy, Debug, PartialEq, Eq)]
+#[derive(Clone, Copy, PartialEq, Eq)]
 pub(crate) struct Place {
     pub(crate) line: u64,
     pub(crate) column: u64,
@@ -43,7 +43,7 @@ impl Place {
 }
 
 /// A term that is being read, and inside which another one is: where it begins, and what is known of its parts.
-#[derive(Clone, Copy, Debug, PartialEq, Eq)]
+#[derive(Clone, Copy, PartialEq, Eq)]
 pub(crate) enum Frame {
     Call(Place, Callee, Parts),
     /// A `let`, and inside the term of its last variable.
@@ -53,7 +53,7 @@ pub(crate) enum Frame {
 }
 
 /// What the next word is to be.
-#[derive(Clone, Copy, Debug, PartialEq, Eq)]
+#[derive(Clone, Copy, PartialEq, Eq)]
 pub(crate) enum Stage {
     /// A term begins, or the innermost call ends.
     Term,

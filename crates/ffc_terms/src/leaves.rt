@@ -16,14 +16,14 @@ use ffc_term::Sort;
 use ffc_words::{FormWords, ScriptFault};
 
 /// A term of one word: what makes it, and its sort.
-#[derive(Clone, Copy, Debug, PartialEq, Eq)]
+#[derive(Clone, Copy, PartialEq, Eq)]
 pub(crate) struct Leaf {
     pub(crate) op: Op,
     pub(crate) sort: Sort,
 }
 
 /// What is at the head of a term in parentheses.
-#[derive(Clone, Copy, Debug, PartialEq, Eq)]
+#[derive(Clone, Copy, PartialEq, Eq)]
 pub(crate) enum Head {
     Let,
     As,

@@ -16,7 +16,7 @@ use ffc_term::Sort;
 use ffc_words::{FormWords, ScriptFault};
 
 /// What the next word of a sort is to be.
-#[derive(Clone, Copy, Debug, PartialEq, Eq)]
+#[derive(Clone, Copy, PartialEq, Eq)]
 pub(crate) enum SortStage {
     Start,
     Underscore,
@@ -27,7 +27,7 @@ pub(crate) enum SortStage {
 }
 
 /// What there is after a word.
-#[derive(Clone, Copy, Debug, PartialEq, Eq)]
+#[derive(Clone, Copy, PartialEq, Eq)]
 pub(crate) enum SortStep {
     More(SortStage),
     Whole(Sort),

@@ -3,7 +3,7 @@ use crate::frames::Place;
 use ffc_term::Sort;
 
 /// A term that was read: where it begins, its sort, its height and its weight.
-#[derive(Clone, Copy, Debug, PartialEq, Eq)]
+#[derive(Clone, Copy, PartialEq, Eq)]
 pub(crate) struct Value {
     pub(crate) place: Place,
     pub(crate) sort: Sort,

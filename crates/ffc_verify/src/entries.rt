@@ -9,7 +9,7 @@ use ffc_base::Source;
 use ffc_cert::{CertFault, CertReader, CertStop, Numbered};
 
 /// The next entry, or how a certificate ends.
-#[derive(Debug, Drop)]
+#[derive(Drop)]
 pub(crate) enum NextEntry {
     Entry(Numbered),
     /// The text ends with the last entry that is wanted.

@@ -8,7 +8,7 @@ use ffc_script::{ScriptReader, ScriptStop};
 use std::alloc::Global;
 
 /// What a command is to a walk from check to check.
-#[derive(Clone, Copy, Debug, PartialEq, Eq)]
+#[derive(Clone, Copy, PartialEq, Eq)]
 enum Kind {
     Check,
     Last,

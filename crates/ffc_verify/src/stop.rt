@@ -7,7 +7,7 @@ use ffc_base::Source;
 use std::alloc::{AllocError, AllocFailed, Global};
 
 /// Why a reading stops.
-#[derive(Clone, Copy, Debug, PartialEq, Eq)]
+#[derive(Clone, Copy, PartialEq, Eq)]
 pub(crate) enum Stop {
     /// A call of the source failed.
     Failed,

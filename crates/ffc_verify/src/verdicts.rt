@@ -1,7 +1,7 @@
 //! Verdicts on certificates.
 
 /// How many entries of each kind were accepted, and the lines of their cores.
-#[derive(Debug, Drop)]
+#[derive(Drop)]
 pub(crate) struct Tally {
     pub(crate) sat: u64,
     pub(crate) unsat: u64,
@@ -10,21 +10,21 @@ pub(crate) struct Tally {
 }
 
 /// Why an entry is refused: a code of its form, or a rule.
-#[derive(Clone, Copy, Debug, PartialEq, Eq)]
+#[derive(Clone, Copy, PartialEq, Eq)]
 pub(crate) enum Cause {
     Format(u8),
     Rule(u8),
 }
 
 /// The entry that is refused, the line of the certificate, and why.
-#[derive(Clone, Copy, Debug, PartialEq, Eq)]
+#[derive(Clone, Copy, PartialEq, Eq)]
 pub(crate) struct Refusal {
     pub(crate) entry: u64,
     pub(crate) line: u64,
     pub(crate) cause: Cause,
 }
 
-#[derive(Debug, Drop)]
+#[derive(Drop)]
 pub(crate) enum Verdict {
     Accepted(Tally),
     Refused(Refusal),

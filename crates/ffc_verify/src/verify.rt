@@ -60,7 +60,7 @@ impl CheckStatus {
 }
 
 /// The statuses that come with a line.
-#[derive(Clone, Copy, Debug, PartialEq, Eq)]
+#[derive(Clone, Copy, PartialEq, Eq)]
 enum Ending {
     Accepted,
     Refused,
@@ -80,14 +80,14 @@ impl Ending {
 }
 
 /// What is to be written, and the status that comes with it.
-#[derive(Debug, Drop)]
+#[derive(Drop)]
 struct Answer {
     ending: Ending,
     text: Vec<u8>,
 }
 
 /// Why there is no answer.
-#[derive(Clone, Copy, Debug, PartialEq, Eq)]
+#[derive(Clone, Copy, PartialEq, Eq)]
 enum AnswerStop {
     ReadFault,
     CertFault,
