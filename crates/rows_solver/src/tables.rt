@@ -1,5 +1,5 @@
 //! Clauses and polynomials of nodes. Each node is tested before it is put.
-ghost use Rattle.std.specs.Prelude.{◌<◌, All, IsTrue, length};
+ghost use Rattle.std.specs.Prelude.{◌↔◌, ◌<◌, All, IsTrue, length};
 
 use crate::naming::named;
 use crate::page::Page;
@@ -144,13 +144,19 @@ fn write_clause(page: &mut Page, clause: &NodeClause) {
     }
 }
 
+/// Whether a number is that of a node.
+fn is_node(table: &NodeTable, id: NodeId) -> bool
+    ensures { IsTrue result ↔ (id < length table.now) }
+{
+    id < table.len()
+}
+
 /// Whether all numbers are those of nodes.
 fn are_nodes(table: &NodeTable, ids: &[NodeId]) -> bool
     ensures { IsTrue result → All (λ id. id < length table.now) ids.now }
 {
-    let len = table.len();
     for id in ids {
-        if *id >= len {
+        if !is_node(table, *id) {
             return false;
         }
     }
