@@ -8,8 +8,6 @@ pub mod laws;
 mod order;
 mod remainder;
 mod residue;
-#[cfg(test)]
-mod tests;
 mod visitor;
 mod word;
 

@@ -5,6 +5,7 @@
 //! hand or from the algebra.
 #![tactic(auto)]
 
+mod built;
 mod certificates;
 mod checks;
 mod commands;
@@ -17,10 +18,9 @@ mod polynomials;
 mod queries;
 mod reading;
 mod scripts;
-mod session;
 mod texts;
 
-use crate::session::Session;
+use crate::built::Built;
 use std::rt::{Env, Files};
 use std::{env, fs, io};
 
@@ -33,20 +33,20 @@ fn print_finding(rt: &impl Print, finding: &str) -> io::Result<()> {
 }
 
 /// Prints a row and what is found. Returns how many findings there are, which is one or none.
-fn print_row<R: Print + AllocGlobal>(rt: &R, session: &mut Session, row: &str) -> io::Result<u64> {
+fn print_row<R: Print + AllocGlobal>(rt: &R, built: &mut Built, row: &str) -> io::Result<u64> {
     println!(rt; "{row}")?;
-    let finding = session.row(rt.alloc(), row)?;
+    let finding = built.row(rt.alloc(), row)?;
     print_finding(rt, finding.as_str())?;
     Ok(u64::from(!finding.is_empty()))
 }
 
 /// Prints the rows of a text but for its comments.
 fn print_rows<R: Print + AllocGlobal>(rt: &R, text: &str) -> io::Result<u64> {
-    let mut session = Session::new(rt.alloc())?;
+    let mut built = Built::new(rt.alloc())?;
     let mut count = 0u64;
     for row in text.lines() {
         if !row.starts_with('#') {
-            count = count.saturating_add(print_row(rt, &mut session, row)?);
+            count = count.saturating_add(print_row(rt, &mut built, row)?);
         }
     }
     Ok(count)

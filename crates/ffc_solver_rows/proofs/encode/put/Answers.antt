@@ -1,5 +1,0 @@
-use Rattle.std.proofs.Common.{inr, rules}
-use Rattle.ffc_solver_rows.proofs.encode.put.Goals as goal
-
-pub intern-requires-clause-numbered : goal.intern-requires-clause-numbered
-intern-requires-clause-numbered g c = inr (search (rules, c.is_plain.ensures.numbered))
