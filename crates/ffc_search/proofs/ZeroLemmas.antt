@@ -1,5 +1,5 @@
 -- Common zeros of generators.
-use Rattle.std.proofs.Common.{◌≡◌, ℕ, zero, suc, ◌+◌, ◌*◌, ◌^◌, ◌%◌, ◌<◌, ◌==◌, ◌&&◌, ◌||◌, not, Bool, true, false, List, [], ◌∷◌, ◌++◌, All, map, length, take, drop, get_or, ◌≤◌, refl, sym, ap, ap₂, ◌∙◌, inl, inr, ne_eqb, eq-eqb, arith, if◌then◌else◌}
+use Rattle.std.proofs.Common.{◌≡◌, ℕ, zero, suc, ◌+◌, ◌*◌, ◌^◌, ◌%◌, ◌<◌, ◌==◌, ◌&&◌, ◌||◌, not, Bool, true, false, List, [], ◌∷◌, ◌++◌, All, length, take, ◌≤◌, refl, sym, ap, ap₂, ◌∙◌, inl, inr, ne_eqb, eq-eqb, arith, if◌then◌else◌}
 use Rattle.std.specs.Prelude.{slice_set}
 use Rattle.std.proofs.Math.ListN.{replicate}
 use Rattle.std.proofs.lemmas.List.{take_all}
@@ -12,8 +12,7 @@ use Rattle.ffc_basis.specs.declared.line.Line.{Line}
 use Rattle.ffc_basis.specs.Lines.{Parts}
 use Rattle.ffc_stack.specs.Stacks.{own, generators}
 use Rattle.ffc_poly.specs.Ordered.{point_of}
-use Rattle.ffc_cktree.proofs.SumLemmas.{left_at}
-use Rattle.ffc_search.specs.Finding.{point_at, is_generator, is_zero_line}
+use Rattle.ffc_search.specs.Finding.{is_generator, is_zero_line}
 
 -- the value of a polynomial depends on the coordinates alone
 mono_alike : (a b : ℕ → ℕ) → ((x : ℕ) → a x ≡ b x) → (m : Monomial) → mono_value a m ≡ mono_value b m

@@ -15,7 +15,7 @@ use Rattle.ffc_term.specs.Nodes.{IsNodeAt, IsConstantAt, is_constant, node_at}
 use Rattle.ffc_term.specs.Tables.{IsWellFormed, constant_count}
 use Rattle.ffc_term.specs.Values.{truth, value_in}
 use Rattle.ffc_term.specs.Measuring.{value_count}
-use Rattle.ffc_rules.specs.Assignments.{number_of_constant, value_of_number, value_of_constant, digits}
+use Rattle.ffc_rules.specs.Assignments.{number_of_constant, value_of_number, digits}
 use Rattle.ffc_rules.proofs.AssignmentLemmas.{AreDifferent, node_at-is, same_number, number_below}
 use Rattle.ffc_rules.proofs.CaseLemmas.{AreApart, named_each, named_apart}
 use Rattle.ffc_check.specs.Assigning.{with_value}

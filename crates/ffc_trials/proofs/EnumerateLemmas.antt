@@ -1,19 +1,18 @@
 -- Going through the assignments of a check.
-use Rattle.std.proofs.Common.{◌≡◌, ℕ, ◌+◌, ◌<◌, false, List, length, replicate, All, Contains, sym, ap, ◌∙◌, subst}
+use Rattle.std.proofs.Common.{◌≡◌, ℕ, ◌+◌, ◌<◌, false, length, replicate, All, Contains, sym, ap, ◌∙◌, subst}
 use Rattle.std.proofs.lemmas.List.{length-replicate}
 use Rattle.std.proofs.lemmas.List.Elements.{All-from_recursion}
 use Rattle.std.proofs.lemmas.Option.{slice_get_within}
-use Rattle.ffc_term.specs.declared.value.Value.{Value}
 use Rattle.ffc_term.specs.declared.value.Value.TheVariants as value
 use Rattle.ffc_term.specs.Nodes.{IsConstantAt}
 use Rattle.ffc_term.specs.Checks.{AreNodesOf, AreConstantsOf}
 use Rattle.ffc_term.proofs.RootLemmas.{roots_among}
-use Rattle.ffc_rules.specs.Assignments.{are_true, has_model_below}
-use Rattle.ffc_rules.specs.Cones.{cone, cone_constants}
+use Rattle.ffc_rules.specs.Assignments.{are_true}
+use Rattle.ffc_rules.specs.Cones.{cone_constants}
 use Rattle.ffc_rules.specs.Entries.{NodeCheck}
 use Rattle.ffc_rules.specs.Laws.{IsValid}
 use Rattle.ffc_rules.proofs.ConeLemmas.{cone_nodes}
-use Rattle.ffc_rules.proofs.CaseLemmas.{constants_of, each_contained, increasing_apart}
+use Rattle.ffc_rules.proofs.CaseLemmas.{constants_of, increasing_apart}
 use Rattle.ffc_check.proofs.CaseLemmas.{within, constants_each, no_model_yet, no_model_next}
 use Rattle.ffc_trials.specs.declared.cone.Cone.{Cone}
 use Rattle.ffc_trials.specs.declared.enumerate.Enumeration.{Enumeration}

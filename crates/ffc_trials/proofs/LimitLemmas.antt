@@ -1,5 +1,5 @@
 -- Limits, and what may be left undecided.
-use Rattle.std.proofs.Common.{◌≡◌, ℕ, ◌+◌, ◌*◌, ◌/◌, ◌^◌, ◌<◌, ◌≤◌, ◌==◌, ◌&&◌, ◌||◌, not, min, nat_lt, nat_le, Bool, true, false, cond, List, [], ◌∷◌, length, filter, get_or, drop, All, refl, sym, ap, ap₂, ◌∙◌, subst, arith, lit≤}
+use Rattle.std.proofs.Common.{◌≡◌, ℕ, ◌+◌, ◌*◌, ◌/◌, ◌^◌, ◌<◌, ◌≤◌, ◌==◌, ◌&&◌, ◌||◌, not, min, nat_le, Bool, true, false, cond, List, ◌∷◌, length, filter, get_or, drop, refl, sym, ap, ap₂, ◌∙◌, subst, arith, lit≤}
 use Rattle.std.proofs.Common.{Result, Ok, Err, Option, Some, None}
 use Rattle.std.specs.Option.{IfNone}
 use Rattle.std.specs.Result.{IfErr}

@@ -1,5 +1,5 @@
 -- Entries that list what an assignment gives the declared constants.
-use Rattle.std.proofs.Common.{◌≡◌, ℕ, zero, suc, ◌+◌, ◌*◌, ◌^◌, ◌<◌, ◌≤◌, true, List, [], ◌∷◌, ◌++◌, length, map, get_or, take, drop, All, Contains, codes, decimal, refl, sym, ap, ap₂, ◌∙◌, subst, arith, inl, inr, lit<}
+use Rattle.std.proofs.Common.{◌≡◌, ℕ, zero, suc, ◌+◌, ◌*◌, ◌^◌, ◌<◌, ◌≤◌, true, List, [], ◌∷◌, ◌++◌, length, map, get_or, take, drop, All, Contains, codes, refl, sym, ap, ap₂, ◌∙◌, subst, arith, inl, inr, lit<}
 use Rattle.std.specs.List.{AllByRecursion, flat_map}
 use Rattle.std.specs.List.Sorted.{IsStrictlyIncreasing}
 use Rattle.std.proofs.Math.ListN.{set}
@@ -13,11 +13,11 @@ use Rattle.ffc_cert.specs.Ranges.{IsValue}
 use Rattle.ffc_cert.specs.WellFormed.{IsReadable}
 use Rattle.ffc_field.specs.declared.id.FieldId.{FieldId}
 use Rattle.ffc_field.specs.declared.id.FieldId.TheVariants.{F2, F3, F5, F17, F65537, BabyBear, KoalaBear, Goldilocks}
-use Rattle.ffc_field.specs.Orders.{IsOrder, order_of_id}
+use Rattle.ffc_field.specs.Orders.{order_of_id}
 use Rattle.ffc_term.specs.declared.node.Node.{Node}
 use Rattle.ffc_term.specs.declared.node.Node.TheVariants.{FieldConst}
 use Rattle.ffc_term.specs.declared.value.Value.{Value}
-use Rattle.ffc_term.specs.Nodes.{IsNodeAt, IsConstantAt, node_at}
+use Rattle.ffc_term.specs.Nodes.{IsConstantAt, node_at}
 use Rattle.ffc_term.specs.Tables.{Fits, IsWellFormed}
 use Rattle.ffc_term.specs.Measuring.{value_count}
 use Rattle.ffc_rules.specs.Assignments.{value_of_constant, value_of_number, listed_assignment, are_true}
@@ -27,7 +27,7 @@ use Rattle.ffc_rules.specs.Laws.{IsValid}
 use Rattle.ffc_rules.proofs.AssignmentLemmas.{AreConstants, AreDifferent, Among, node_at-is, constant_listed}
 use Rattle.ffc_rules.proofs.CaseLemmas.{AreApart, each_contained, AreTrue-from_test, constants_of, named_each, named_apart, named_among, increasing_apart, ids_within, declared_each}
 use Rattle.ffc_rules.proofs.KeptLemmas.{values_kept}
-use Rattle.ffc_trials.specs.Counting.{number_given, GivesNumbers, numbers_listed}
+use Rattle.ffc_trials.specs.Counting.{GivesNumbers, numbers_listed}
 use Rattle.ffc_trials.specs.Stops.{AreModelValues}
 use Rattle.ffc_trials.proofs.CountingLemmas.{number_fits, count_positive}
 use Rattle.ffc_trials.proofs.ModelLemmas.{same_model}

@@ -1,5 +1,5 @@
 -- What is true under an assignment is determined by the numbers that it gives constants.
-use Rattle.std.proofs.Common.{◌≡◌, ℕ, ◌+◌, ◌/◌, ◌%◌, ◌<◌, ◌≤◌, Bool, true, false, cond, List, [], ◌∷◌, ◌++◌, length, All, Contains, refl, sym, ap, ap₂, ◌∙◌, subst, arith}
+use Rattle.std.proofs.Common.{◌≡◌, ℕ, ◌/◌, ◌<◌, Bool, true, false, cond, List, [], ◌∷◌, length, All, Contains, refl, sym, ap, ◌∙◌, subst, arith}
 use Rattle.std.specs.List.{AllByRecursion}
 use Rattle.std.proofs.Math.Nat.{mod-lt}
 use Rattle.std.proofs.lemmas.Bool.{false≢true}
@@ -13,7 +13,7 @@ use Rattle.ffc_term.specs.Checks.{AreConstantsOf}
 use Rattle.ffc_term.specs.Values.{value_at, value_in, value_of_node, truth_in}
 use Rattle.ffc_term.specs.Measuring.{value_count}
 use Rattle.ffc_term.proofs.ValueLemmas.{value_at-is}
-use Rattle.ffc_rules.specs.Assignments.{number_of_constant, digits, listed_assignment, numbered_assignment, are_true, has_model_below}
+use Rattle.ffc_rules.specs.Assignments.{number_of_constant, digits, listed_assignment, numbered_assignment, are_true}
 use Rattle.ffc_rules.specs.Cones.{cone_constants}
 use Rattle.ffc_rules.proofs.AssignmentLemmas.{AreConstants, AreDifferent, Among, from_each, node_at-is, constant_listed}
 use Rattle.ffc_rules.proofs.CaseLemmas.{AreTrue-from_test, test-from_AreTrue, true_alike, named_among, increasing_apart}

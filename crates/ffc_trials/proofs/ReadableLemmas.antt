@@ -1,5 +1,5 @@
 -- Going over the parts of an entry: lists of parts that are in range, variables that increase, and lines in their order.
-use Rattle.std.proofs.Common.{◌≡◌, ℕ, zero, suc, ◌+◌, ◌-◌, ◌<◌, ◌≤◌, ◌==◌, ◌&&◌, nat_lt, Bool, true, false, cond, List, [], ◌∷◌, length, get_or, drop, Option, Some, None, IsTrue, refl, sym, ap, ◌∙◌, subst, arith}
+use Rattle.std.proofs.Common.{◌≡◌, ℕ, ◌+◌, ◌-◌, ◌<◌, ◌≤◌, ◌==◌, ◌&&◌, nat_lt, Bool, true, false, cond, List, [], ◌∷◌, length, get_or, drop, Option, Some, None, refl, sym, ap, subst, arith}
 use Rattle.std.specs.List.{AllByRecursion}
 use Rattle.std.proofs.lemmas.List.{drop_more}
 use Rattle.std.proofs.lemmas.Bool.Decides.{nat_tests}
@@ -9,7 +9,6 @@ use Rattle.ffc_cert.specs.Ranges.{VariablesIncrease}
 use Rattle.ffc_cert.specs.Reading.{awaited_after, is_whole}
 use Rattle.ffc_cert.specs.Spelling.{is_clause}
 use Rattle.ffc_cert.proofs.GrammarLemmas.{awaiting, Completes, AreCounted, clauses_shape}
-use Rattle.ffc_cert.proofs.LineCodes.{IsNext}
 use Rattle.ffc_trials.specs.declared.readable.Open.{Open}
 use Rattle.ffc_trials.specs.Opened.{opened, opened_by_clause, opened_by_step, opened_by_tree}
 

@@ -1,4 +1,3 @@
-use Rattle.std.proofs.Common.{get_or}
 use Rattle.ffc_trials.proofs.CountingLemmas.{with_carry, without_carry}
 use Rattle.ffc_trials.proofs.counting.advance.Goals as goal
 

@@ -1,4 +1,4 @@
-use Rattle.std.proofs.Common.{◌≡◌, ℕ, ◌<◌, length, get_or, sym, ap, ◌∙◌, subst, arith}
+use Rattle.std.proofs.Common.{ℕ, ◌<◌, length, get_or, sym, ap, ◌∙◌, subst, arith}
 use Rattle.ffc_trials.specs.Counting.{number_given}
 use Rattle.ffc_trials.proofs.CountingLemmas.{given_number}
 use Rattle.ffc_trials.proofs.ListedLemmas.{get_or-dropped, listed_more, rest_left}

@@ -1,4 +1,4 @@
-use Rattle.std.proofs.Common.{◌≡◌, false, sym, ap, ◌∙◌, subst, refl, arith}
+use Rattle.std.proofs.Common.{◌≡◌, sym, ap, ◌∙◌, refl, arith}
 use Rattle.ffc_base.specs.Metering.{total}
 use Rattle.ffc_rules.specs.Assignments.{has_model_below}
 use Rattle.ffc_check.specs.Judged.{node_check}
