@@ -21,6 +21,7 @@ mod scripts;
 mod texts;
 
 use crate::built::Built;
+use crate::commands::OUT_OF_MEMORY;
 use std::rt::{Env, Files};
 use std::{env, fs, io};
 
@@ -35,9 +36,13 @@ fn print_finding(rt: &impl Print, finding: &str) -> io::Result<()> {
 /// Prints a row and what is found. Returns how many findings there are, which is one or none.
 fn print_row<R: Print + AllocGlobal>(rt: &R, built: &mut Built, row: &str) -> io::Result<u64> {
     println!(rt; "{row}")?;
-    let finding = built.row(rt.alloc(), row)?;
-    print_finding(rt, finding.as_str())?;
-    Ok(u64::from(!finding.is_empty()))
+    let finding = built.row(rt.alloc(), row);
+    let found = match &finding {
+        Ok(found) => found.as_str(),
+        Err(_) => OUT_OF_MEMORY,
+    };
+    print_finding(rt, found)?;
+    Ok(u64::from(!found.is_empty()))
 }
 
 /// Prints the rows of a text but for its comments.
