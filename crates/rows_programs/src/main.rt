@@ -1,7 +1,7 @@
 //! Runs `ffsolve` and `ffcheck` over objects in memory, on rows that are files, and prints what they did:
 //! `rows_programs FILE ..`.
 //!
-//! Each line of a file is a step, and its first word says which; a line that begins with `#` is for the reader.
+//! Each line of a file is a step, and its first word says which; a line whose first word is `#` is for the reader.
 //!
 //! | Step | What it does |
 //! |---|---|
@@ -32,7 +32,8 @@
 //!
 //! In the bytes of a script or a certificate a backslash and two hexadecimal digits are a byte; bytes are shown as they
 //! are written here. The certificate's object and the output hold `before` when a run begins; of the output what was
-//! added to it is shown. A line that is no step is shown as one that cannot be read.
+//! added to it is shown. Each step is printed, but for the texts that are added once, so that none can be left out unseen.
+//! A line that is no step is shown as one that cannot be read.
 #![tactic(auto)]
 
 mod bytes;

@@ -2,7 +2,7 @@
 use crate::bytes::shown;
 use crate::objects::Objects;
 use crate::runs::{Left, check, solve};
-use crate::steps::{Place, Program, Show, Step, halves, step_of};
+use crate::steps::{Edit, Place, Program, Setting, Show, Step, halves, step_of};
 use crate::sums::summed;
 use crate::texts::Texts;
 use std::alloc::{AllocError, Global};
@@ -145,6 +145,30 @@ impl Rows {
         }
     }
 
+    /// Changes a text, and prints a step that is no text itself, so that it cannot be left out unseen.
+    fn edit<R: Print>(&mut self, rt: &R, edit: Edit, line: &str, rest: &str) -> io::Result<bool> {
+        let is_read = self.texts.edit(edit, rest)?;
+        if is_read && !edit.is_text() {
+            println!(rt; "{line}")?;
+        }
+        Ok(is_read)
+    }
+
+    /// Changes an object, and prints the step.
+    fn set<R: Print>(
+        &mut self,
+        rt: &R,
+        setting: Setting,
+        line: &str,
+        rest: &str,
+    ) -> io::Result<bool> {
+        let is_read = self.objects.set(setting, rest)?;
+        if is_read {
+            println!(rt; "{line}")?;
+        }
+        Ok(is_read)
+    }
+
     /// Takes a line, and says whether it is a step that can be read.
     fn step<R: Print>(&mut self, rt: &R, line: &str) -> io::Result<bool> {
         let (word, rest) = halves(line);
@@ -156,8 +180,8 @@ impl Rows {
                 self.begin(rt, rest)?;
             }
             Some(Step::Also) => self.begin(rt, rest)?,
-            Some(Step::Edit(edit)) => return Ok(self.texts.edit(edit, rest)?),
-            Some(Step::Setting(setting)) => return Ok(self.objects.set(setting, rest)?),
+            Some(Step::Edit(edit)) => return self.edit(rt, edit, line, rest),
+            Some(Step::Setting(setting)) => return self.set(rt, setting, line, rest),
             Some(Step::Run(program)) => self.run(rt, program, line)?,
             Some(Step::Show(show)) => {
                 self.show(rt, show)?;

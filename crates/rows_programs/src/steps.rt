@@ -14,6 +14,13 @@ pub(crate) enum Edit {
     CertCut,
 }
 
+impl Edit {
+    /// Whether it is a text to add, once.
+    pub(crate) fn is_text(self) -> bool {
+        matches!(self, Edit::Line | Edit::Part)
+    }
+}
+
 /// An object that a run reads or writes.
 #[derive(Clone, Copy)]
 pub(crate) enum Object {

@@ -4,6 +4,7 @@ ghost use Rattle.std.specs.Prelude.{◌≤◌, IfOk};
 use crate::naming::named;
 use crate::page::Page;
 use crate::reading::{Words, numbers, words_of};
+use crate::rows::alone;
 use ffc_base::{
     Failed, FileSink, FileSource, MemSink, MemSource, NamedSink, NamedSource, Sink, Source,
     StdSink, StdSource, SureSink, SureSource, WriteStop,
@@ -35,12 +36,16 @@ fn read_four<S: Source>(source: &mut S, page: &mut Page) {
 }
 
 /// Does steps on a source, each of which reads.
-fn read_steps<S: Source>(source: &mut S, steps: &[&str], page: &mut Page) {
+fn read_steps<S: Source>(source: &mut S, steps: &[&str], page: &mut Page) -> Option<()> {
     page.say("begun");
     for step in steps {
         page.begin(step);
+        if step.trim() != "read" {
+            return None;
+        }
         read_four(source, page);
     }
+    Some(())
 }
 
 /// Writes whether the content of a name is opened.
@@ -287,10 +292,11 @@ fn interrupted_twice(words: &mut Words<'_>) -> Interrupted {
 }
 
 /// A source over a reader.
-fn with_reader<R: Read + Drop>(reader: R, steps: &[&str], page: &mut Page) {
+fn with_reader<R: Read + Drop>(reader: R, steps: &[&str], page: &mut Page) -> Option<()> {
     let mut source = StdSource::new(reader);
-    read_steps(&mut source, steps, page);
+    read_steps(&mut source, steps, page)?;
     write_faults(page, source.faults());
+    Some(())
 }
 
 /// A sink over a writer, to which a text is written once.
@@ -345,20 +351,36 @@ pub fn source_row<R: Files + Input + AllocGlobal>(
 ) -> Option<()> {
     let kind = named(&KINDS, words.next()?)?;
     match kind {
-        Kind::Memory => return with_memory_source(rt.alloc(), words, steps, page),
-        Kind::Sure => return with_sure_source(rt.alloc(), words, steps, page),
-        Kind::File => return with_file_source(rt, steps, page),
+        Kind::Memory => with_memory_source(rt.alloc(), words, steps, page),
+        Kind::Sure => with_sure_source(rt.alloc(), words, steps, page),
+        Kind::File => with_file_source(rt, steps, page),
         Kind::Standard => with_reader(rt.reader(), steps, page),
         Kind::Interrupted => with_reader(interrupted_twice(words), steps, page),
-        _ => return None,
+        _ => None,
     }
-    Some(())
 }
 
 /// The line that is written to standard output.
 const LINE: &str = "a line on standard output\n";
 
-/// Begins a sink, and does the steps; or puts a file there, or removes it.
+/// Writes to a sink once, or puts a file there, or removes it.
+fn sink_once<R: Files + Print>(
+    rt: &R,
+    kind: Kind,
+    words: &mut Words<'_>,
+    page: &mut Page,
+) -> Option<()> {
+    match kind {
+        Kind::Put => return put_file(rt, words, page),
+        Kind::Remove => return remove_file(rt, words, page),
+        Kind::Standard => with_writer(io::writer(rt), LINE, page),
+        Kind::Interrupted => with_writer(interrupted_twice(words), "abcde", page),
+        _ => return None,
+    }
+    Some(())
+}
+
+/// Begins a sink, and does the steps; or what is done once.
 pub fn sink_row<R: Files + Print + AllocGlobal>(
     rt: &R,
     words: &mut Words<'_>,
@@ -367,13 +389,12 @@ pub fn sink_row<R: Files + Print + AllocGlobal>(
 ) -> Option<()> {
     let kind = named(&KINDS, words.next()?)?;
     match kind {
-        Kind::Memory => return with_memory_sink(rt.alloc(), words, steps, page),
-        Kind::Sure => return with_sure_sink(rt.alloc(), words, steps, page),
-        Kind::File => return with_file_sink(rt, steps, page),
-        Kind::Put => return put_file(rt, words, page),
-        Kind::Remove => return remove_file(rt, words, page),
-        Kind::Standard => with_writer(io::writer(rt), LINE, page),
-        Kind::Interrupted => with_writer(interrupted_twice(words), "abcde", page),
+        Kind::Memory => with_memory_sink(rt.alloc(), words, steps, page),
+        Kind::Sure => with_sure_sink(rt.alloc(), words, steps, page),
+        Kind::File => with_file_sink(rt, steps, page),
+        other => {
+            alone(steps)?;
+            sink_once(rt, other, words, page)
+        }
     }
-    Some(())
 }

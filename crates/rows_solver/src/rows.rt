@@ -14,15 +14,21 @@ use std::rt::Files;
 /// What the first word of a row names.
 #[derive(Clone, Copy)]
 enum Subject {
-    Orders,
-    Laws,
-    Mono,
+    Single(Single),
     Table,
     Clauses,
     Source,
     Sink,
     Meter,
     Over(OverField),
+}
+
+/// A subject whose rows have one step.
+#[derive(Clone, Copy)]
+enum Single {
+    Orders,
+    Laws,
+    Mono,
 }
 
 /// A subject over a field, which the second word names.
@@ -44,9 +50,9 @@ enum OverBoth {
 }
 
 const SUBJECTS: [(&str, Subject); 14] = [
-    ("order", Subject::Orders),
-    ("laws", Subject::Laws),
-    ("mono", Subject::Mono),
+    ("order", Subject::Single(Single::Orders)),
+    ("laws", Subject::Single(Single::Laws)),
+    ("mono", Subject::Single(Single::Mono)),
     ("table", Subject::Table),
     ("clauses", Subject::Clauses),
     ("source", Subject::Source),
@@ -72,10 +78,16 @@ fn over_both<F: Field, O: MonoOrder>(
     page: &mut Page,
 ) -> Option<()> {
     match subject {
-        OverBoth::Poly => polynomials::row::<F, O>(alloc, words, page),
+        OverBoth::Poly => {
+            alone(steps)?;
+            polynomials::row::<F, O>(alloc, words, page)
+        }
         OverBoth::Basis => bases::row::<F, O>(alloc, words, steps, page),
         OverBoth::Stack => levels::row::<F, O>(alloc, steps, page),
-        OverBoth::Search => searches::row::<F, O>(alloc, words, page),
+        OverBoth::Search => {
+            alone(steps)?;
+            searches::row::<F, O>(alloc, words, page)
+        }
     }
 }
 
@@ -115,8 +127,14 @@ impl ForField for Work<'_, '_> {
     fn run<F: Field>(self) -> Option<()> {
         let mut words = self.words;
         match self.subject {
-            OverField::Field => fields::row::<F>(&mut words, self.page),
-            OverField::Uni => one_variable::row::<F>(self.alloc, &mut words, self.page),
+            OverField::Field => {
+                alone(self.steps)?;
+                fields::row::<F>(&mut words, self.page)
+            }
+            OverField::Uni => {
+                alone(self.steps)?;
+                one_variable::row::<F>(self.alloc, &mut words, self.page)
+            }
             OverField::Ordered(subject) => {
                 ordered::<F>(self.alloc, subject, &mut words, self.steps, self.page)
             }
@@ -142,6 +160,25 @@ fn over_field(
     })
 }
 
+/// Whether a subject that has no further steps is alone in its row.
+pub fn alone(steps: &[&str]) -> Option<()> {
+    if steps.is_empty() { Some(()) } else { None }
+}
+
+/// Does a row of a subject that has one step.
+fn single<R: AllocGlobal>(
+    rt: &R,
+    subject: Single,
+    words: &mut Words<'_>,
+    page: &mut Page,
+) -> Option<()> {
+    match subject {
+        Single::Orders => fields::order(words, page),
+        Single::Laws => fields::laws(page),
+        Single::Mono => monomials::row(rt.alloc(), words, page),
+    }
+}
+
 /// Does a row: the words of its first step, and the further steps.
 fn begin<R: Files + Input + Print + AllocGlobal>(
     rt: &R,
@@ -151,9 +188,10 @@ fn begin<R: Files + Input + Print + AllocGlobal>(
 ) -> Option<()> {
     let alloc = rt.alloc();
     match named(&SUBJECTS, words.next()?)? {
-        Subject::Orders => fields::order(&mut words, page),
-        Subject::Laws => fields::laws(page),
-        Subject::Mono => monomials::row(alloc, &mut words, page),
+        Subject::Single(subject) => {
+            alone(steps)?;
+            single(rt, subject, &mut words, page)
+        }
         Subject::Table => tables::row(alloc, steps, page),
         Subject::Clauses => formulas::row(alloc, &mut words, steps, page),
         Subject::Source => outside::source_row(rt, &mut words, steps, page),
