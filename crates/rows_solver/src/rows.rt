@@ -166,7 +166,7 @@ pub fn alone(steps: &[&str]) -> Option<()> {
 }
 
 /// Does a row of a subject that has one step.
-fn single<R: AllocGlobal>(
+fn one_step<R: AllocGlobal>(
     rt: &R,
     subject: Single,
     words: &mut Words<'_>,
@@ -190,7 +190,7 @@ fn begin<R: Files + Input + Print + AllocGlobal>(
     match named(&SUBJECTS, words.next()?)? {
         Subject::Single(subject) => {
             alone(steps)?;
-            single(rt, subject, &mut words, page)
+            one_step(rt, subject, &mut words, page)
         }
         Subject::Table => tables::row(alloc, steps, page),
         Subject::Clauses => formulas::row(alloc, &mut words, steps, page),
