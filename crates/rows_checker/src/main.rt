@@ -1,4 +1,4 @@
-//! Library calls that the checker is made of, on worked rows: each file that the arguments name has rows of one library,
+//! Library calls that the checker is made of, by rows of data: each file that the arguments name has rows of one library,
 //! and begins with what they show, how they are written and where the wanted answers are from.
 //!
 //! Each row is printed again with what was found below it. The file `stdout` of the crate has what is wanted, computed by
