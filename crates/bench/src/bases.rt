@@ -1,10 +1,10 @@
 //! Bases of systems of equations, completed as far as so many units go.
 ghost use Rattle.std.specs.Prelude.{◌≤◌};
 
-use crate::drafts::{Sparse, Stop, polys_of};
+use crate::drafts::{NotMade, Sparse, polys_of};
 use crate::systems::{LARGEST, System};
-use ffc_base::{Meter, Unit};
-use ffc_basis::{Basis, BasisStop, Completion};
+use ffc_base::{Meter, Stop, Unit};
+use ffc_basis::{Basis, Completion};
 use ffc_field::{BabyBear, Field, KoalaBear};
 use ffc_mono::GradedReverseLex;
 use std::alloc::Global;
@@ -22,7 +22,7 @@ struct Outcome {
 }
 
 /// Appends the equations of a case.
-fn append(system: &mut System, kind: u32, size: u32) -> Result<(), Stop>
+fn append(system: &mut System, kind: u32, size: u32) -> Result<(), NotMade>
     requires some { 1 ≤ size }
     requires small { size ≤ LARGEST }
 {
@@ -37,7 +37,7 @@ fn append(system: &mut System, kind: u32, size: u32) -> Result<(), Stop>
 }
 
 /// The system of a case over the field of this order.
-fn system(alloc: Global, order: u64, kind: u32, size: u32) -> Result<System, Stop> {
+fn system(alloc: Global, order: u64, kind: u32, size: u32) -> Result<System, NotMade> {
     let mut system = System::new(alloc, order);
     append(&mut system, kind, size.clamp(1, LARGEST))?;
     Ok(system)
@@ -48,13 +48,13 @@ fn zeros<F: Field>(
     basis: &mut Basis<F, GradedReverseLex>,
     polys: &[Sparse<F>],
     meter: &mut Meter,
-) -> Result<usize, Stop> {
+) -> Result<usize, NotMade> {
     let mut count = 0usize;
     for poly in polys {
         match basis.reduce(poly, meter) {
             Ok(reduced) => count = count.saturating_add(usize::from(reduced.rest.is_zero())),
-            Err(BasisStop::Spent) => return Ok(count),
-            Err(BasisStop::Memory) => return Err(Stop),
+            Err(Stop::Spent) => return Ok(count),
+            Err(Stop::Memory) => return Err(NotMade),
         }
     }
     Ok(count)
@@ -64,11 +64,11 @@ fn zeros<F: Field>(
 fn completed<F: Field>(
     basis: &mut Basis<F, GradedReverseLex>,
     meter: &mut Meter,
-) -> Result<Option<Completion>, Stop> {
+) -> Result<Option<Completion>, NotMade> {
     match basis.complete(meter) {
         Ok(completion) => Ok(Some(completion)),
-        Err(BasisStop::Spent) => Ok(None),
-        Err(BasisStop::Memory) => Err(Stop),
+        Err(Stop::Spent) => Ok(None),
+        Err(Stop::Memory) => Err(NotMade),
     }
 }
 
@@ -77,7 +77,7 @@ fn measured<F: Field>(
     basis: &mut Basis<F, GradedReverseLex>,
     differences: &[Sparse<F>],
     units: u64,
-) -> Result<Outcome, Stop> {
+) -> Result<Outcome, NotMade> {
     let mut meter = Meter::new(units);
     let completion = completed(basis, &mut meter)?;
     let zeros = zeros(basis, differences, &mut Meter::new(units))?;
@@ -91,7 +91,7 @@ fn measured<F: Field>(
 }
 
 /// The same for the basis of a case.
-fn case<F: Field>(alloc: Global, kind: u32, size: u32, units: u32) -> Result<Outcome, Stop> {
+fn case<F: Field>(alloc: Global, kind: u32, size: u32, units: u32) -> Result<Outcome, NotMade> {
     let System {
         generators,
         differences,

@@ -6,7 +6,7 @@ ghost use Rattle.ffc_term.specs.Nodes.{IsConstantAt};
 ghost use Rattle.ffc_term.specs.Tables.{IsFieldAt, AreOfOneField, IsBooleanAt, constant_count};
 ghost use Rattle.ffc_rules.specs.Entries.{is_boolean};
 ghost use Rattle.ffc_rules.specs.Laws.{IsValid};
-ghost use Rattle.ffc_check.specs.Judged.{node_check};
+ghost use Rattle.ffc_check.specs.Judged.{judged_check};
 
 use ffc_field::FieldId;
 use ffc_term::{Check, Node, NodeId, NodeList, NodeTable, Sort, TermStop};
@@ -87,7 +87,7 @@ fn are_boolean(table: &NodeTable, ids: &[NodeId]) -> bool
 
 /// A check that declares all constants of its table, of which there is at most one.
 pub fn is_valid(check: &Check) -> bool
-    ensures { IsTrue result → IsValid (node_check check.now) }
+    ensures { IsTrue result → IsValid (judged_check check.now) }
 {
     let _nodes = check.table.len();
     if check.declared.len() > 1 {

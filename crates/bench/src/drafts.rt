@@ -11,29 +11,29 @@ pub type Draft = Vec<(u64, Mono)>;
 
 /// A limit was passed, or there was no memory.
 #[derive(Clone, Copy, Debug, Drop)]
-pub struct Stop;
+pub struct NotMade;
 
-impl From<MonoStop> for Stop {
-    fn from(_: MonoStop) -> Stop {
-        Stop
+impl From<MonoStop> for NotMade {
+    fn from(_: MonoStop) -> NotMade {
+        NotMade
     }
 }
 
-impl From<PolyStop> for Stop {
-    fn from(_: PolyStop) -> Stop {
-        Stop
+impl From<PolyStop> for NotMade {
+    fn from(_: PolyStop) -> NotMade {
+        NotMade
     }
 }
 
-impl From<AllocError> for Stop {
-    fn from(_: AllocError) -> Stop {
-        Stop
+impl From<AllocError> for NotMade {
+    fn from(_: AllocError) -> NotMade {
+        NotMade
     }
 }
 
-impl<T: Drop> From<AllocFailed<T>> for Stop {
-    fn from(_: AllocFailed<T>) -> Stop {
-        Stop
+impl<T: Drop> From<AllocFailed<T>> for NotMade {
+    fn from(_: AllocFailed<T>) -> NotMade {
+        NotMade
     }
 }
 
@@ -52,7 +52,7 @@ pub fn times_power(
 }
 
 /// Appends a number times a product of variables.
-pub fn push(draft: &mut Draft, number: u64, factors: &[u32]) -> Result<(), Stop> {
+pub fn push(draft: &mut Draft, number: u64, factors: &[u32]) -> Result<(), NotMade> {
     let alloc = *draft.allocator();
     let mut product = Mono::from_pairs(alloc, &[])?;
     for variable in factors {
@@ -63,7 +63,7 @@ pub fn push(draft: &mut Draft, number: u64, factors: &[u32]) -> Result<(), Stop>
 }
 
 /// The polynomial over a field.
-pub fn poly_of<F: Field>(alloc: Global, draft: Draft) -> Result<Sparse<F>, Stop> {
+pub fn poly_of<F: Field>(alloc: Global, draft: Draft) -> Result<Sparse<F>, NotMade> {
     let mut terms = Vec::new(alloc);
     for (number, product) in draft {
         terms.push((F::of(u128::from(number)), product))?;
@@ -72,7 +72,7 @@ pub fn poly_of<F: Field>(alloc: Global, draft: Draft) -> Result<Sparse<F>, Stop>
 }
 
 /// The polynomials over a field.
-pub fn polys_of<F: Field>(alloc: Global, drafts: Vec<Draft>) -> Result<Vec<Sparse<F>>, Stop> {
+pub fn polys_of<F: Field>(alloc: Global, drafts: Vec<Draft>) -> Result<Vec<Sparse<F>>, NotMade> {
     let mut polys = Vec::new(alloc);
     for draft in drafts {
         polys.push(poly_of(alloc, draft)?)?;

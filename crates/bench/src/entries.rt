@@ -1,14 +1,14 @@
 //! Judges entries of generated certificates.
 ghost use Rattle.ffc_rules.specs.Laws.{IsValid};
-ghost use Rattle.ffc_check.specs.Judged.{node_check};
+ghost use Rattle.ffc_check.specs.Judged.{judged_check};
 
 use crate::checks::{false_equality, is_valid, unequal_sums};
 use crate::refutations;
+use ffc_base::Stop;
 use ffc_cert::CertReader;
 use ffc_check::{CheckStop, check_entry};
 use ffc_field::{Field, Goldilocks};
 use ffc_term::{Check, NodeId, NodeTable, TermStop};
-use ffc_uni::UniStop;
 use std::alloc::{AllocError, Global};
 use std::io;
 
@@ -25,7 +25,7 @@ enum Answer {
 
 /// Judges the one entry of a certificate.
 fn judged(alloc: Global, check: &Check, text: &str) -> Answer
-    requires { IsValid (node_check check.now) }
+    requires { IsValid (judged_check check.now) }
 {
     let mut reader = CertReader::new(alloc, 1);
     if reader.feed(text.as_bytes()).is_err() {
@@ -78,7 +78,7 @@ fn enumerated(alloc: Global, nodes: u32) -> Result<Answer, TermStop> {
 }
 
 /// The text of a refutation.
-fn text_of(alloc: Global, kind: u32, size: u32, count: u32) -> Result<String, UniStop> {
+fn text_of(alloc: Global, kind: u32, size: u32, count: u32) -> Result<String, Stop> {
     match kind {
         0 => Ok(refutations::clauses(alloc, size)?),
         1 => Ok(refutations::products(alloc, count)?),

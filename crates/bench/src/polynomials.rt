@@ -1,5 +1,5 @@
 //! Products, sums and steps of a reduction on polynomials of a given size.
-use crate::drafts::{Draft, Sparse, Stop, poly_of, push, times_power};
+use crate::drafts::{Draft, NotMade, Sparse, poly_of, push, times_power};
 use ffc_field::{BabyBear, Field, Goldilocks};
 use ffc_mono::{GradedReverseLex, Mono, MonoStop};
 use ffc_poly::{Accumulator, PolyStop};
@@ -30,7 +30,7 @@ fn coefficient(number: u32) -> u64 {
 }
 
 /// The monomials of the numbers from one on, in this base.
-fn numbered(alloc: Global, from: u32, count: u32, base: u32) -> Result<Draft, Stop> {
+fn numbered(alloc: Global, from: u32, count: u32, base: u32) -> Result<Draft, NotMade> {
     let mut draft = Vec::new(alloc);
     for i in 0..count {
         let monomial = digits(alloc, from.saturating_add(i), base)?;
@@ -40,7 +40,7 @@ fn numbered(alloc: Global, from: u32, count: u32, base: u32) -> Result<Draft, St
 }
 
 /// The sum of so many variables.
-fn linear(alloc: Global, count: u32) -> Result<Draft, Stop> {
+fn linear(alloc: Global, count: u32) -> Result<Draft, NotMade> {
     let mut draft = Vec::new(alloc);
     for i in 0..count {
         push(&mut draft, coefficient(i), &[i])?;
@@ -49,7 +49,7 @@ fn linear(alloc: Global, count: u32) -> Result<Draft, Stop> {
 }
 
 /// The first operand of a case.
-fn first(alloc: Global, kind: u32, count: u32) -> Result<Draft, Stop> {
+fn first(alloc: Global, kind: u32, count: u32) -> Result<Draft, NotMade> {
     match kind {
         0 => numbered(alloc, 0, count, 3),
         1 => linear(alloc, count),
@@ -58,7 +58,7 @@ fn first(alloc: Global, kind: u32, count: u32) -> Result<Draft, Stop> {
 }
 
 /// The second operand of a case.
-fn second(alloc: Global, kind: u32, count: u32) -> Result<Draft, Stop> {
+fn second(alloc: Global, kind: u32, count: u32) -> Result<Draft, NotMade> {
     match kind {
         0 | 1 => first(alloc, kind, count),
         3 | 4 => numbered(alloc, 0, SHORT, 6),
@@ -98,7 +98,7 @@ fn steps<F: Field>(
     start: Sparse<F>,
     q: &Sparse<F>,
     times: u32,
-) -> Result<usize, Stop> {
+) -> Result<usize, NotMade> {
     let m = factor(alloc)?;
     let mut p = start;
     for _ in 0..times {
@@ -124,7 +124,7 @@ fn accumulated<F: Field>(
     start: &Sparse<F>,
     q: &Sparse<F>,
     times: u32,
-) -> Result<usize, Stop> {
+) -> Result<usize, NotMade> {
     let m = factor(alloc)?;
     let mut p = Accumulator::new(alloc);
     p.add(start)?;
@@ -137,7 +137,7 @@ fn accumulated<F: Field>(
 }
 
 /// The terms of the result of a case, with so many terms, done so many times.
-fn case<F: Field>(alloc: Global, kind: u32, count: u32, times: u32) -> Result<usize, Stop> {
+fn case<F: Field>(alloc: Global, kind: u32, count: u32, times: u32) -> Result<usize, NotMade> {
     let a = poly_of::<F>(alloc, first(alloc, kind, count)?)?;
     let b = poly_of::<F>(alloc, second(alloc, kind, count)?)?;
     match kind {

@@ -2,9 +2,9 @@
 //! from node 3 on.
 ghost use Rattle.std.specs.Prelude.{◌≤◌, length};
 
-use ffc_base::Meter;
+use ffc_base::{Meter, Stop};
 use ffc_field::{Field, Goldilocks};
-use ffc_uni::{Chain, Uni, UniStop, pow_mod_chain};
+use ffc_uni::{Chain, Uni, pow_mod_chain};
 use std::alloc::{AllocError, Global};
 
 /// The node of the first literal that is not asserted.
@@ -173,7 +173,7 @@ fn push_chains(
     alloc: Global,
     f: &Uni<Goldilocks>,
     count: u32,
-) -> Result<(), UniStop>
+) -> Result<(), Stop>
     requires { 2 ≤ length f.now }
 {
     let chain = pow_mod_chain(alloc, f, &mut Meter::new(BUDGET))?;
@@ -184,10 +184,10 @@ fn push_chains(
 }
 
 /// A refutation with so many chains over a polynomial of this degree.
-pub fn chains(alloc: Global, degree: u32, count: u32) -> Result<String, UniStop> {
+pub fn chains(alloc: Global, degree: u32, count: u32) -> Result<String, Stop> {
     let f = polynomial(alloc, degree)?;
     if f.coefs().len() < 2 {
-        return Err(UniStop::Memory);
+        return Err(Stop::Memory);
     }
     let mut text = begun(alloc)?;
     push_polynomial(&mut text, f.coefs())?;

@@ -1,9 +1,9 @@
 //! All roots of a polynomial in one variable that has as many of them as its degree, or none.
 ghost use Rattle.std.specs.Prelude.{◌≤◌, length};
 
-use ffc_base::Meter;
+use ffc_base::{Meter, Stop};
 use ffc_field::{BabyBear, Field, Goldilocks};
-use ffc_roots::{RootStop, roots};
+use ffc_roots::roots;
 use ffc_uni::Uni;
 use std::alloc::{AllocError, Global};
 use std::io;
@@ -43,7 +43,7 @@ fn without_roots<F: Field>(alloc: Global, degree: u32) -> Result<Uni<F>, AllocEr
 }
 
 /// How many roots a polynomial has.
-fn count<F: Field>(alloc: Global, f: &Uni<F>) -> Result<usize, RootStop>
+fn count<F: Field>(alloc: Global, f: &Uni<F>) -> Result<usize, Stop>
     requires { 2 ≤ length f.now }
 {
     let mut meter = Meter::new(BUDGET);
@@ -52,7 +52,7 @@ fn count<F: Field>(alloc: Global, f: &Uni<F>) -> Result<usize, RootStop>
 }
 
 /// How many roots the polynomial of a case has.
-fn case<F: Field>(alloc: Global, kind: u32, degree: u32) -> Result<usize, RootStop> {
+fn case<F: Field>(alloc: Global, kind: u32, degree: u32) -> Result<usize, Stop> {
     let f = if kind == 0 {
         split::<F>(alloc, degree)?
     } else {

@@ -1,7 +1,7 @@
 //! Systems of equations, and differences that follow from them. The variable of the lowest number leads.
 ghost use Rattle.std.specs.Prelude.{◌≤◌, ◌<◌};
 
-use crate::drafts::{Draft, Stop, push};
+use crate::drafts::{Draft, NotMade, push};
 use std::alloc::Global;
 
 /// The greatest size of a system.
@@ -29,7 +29,7 @@ pub struct System {
 }
 
 /// One variable minus another one.
-fn difference(alloc: Global, left: u32, right: u32, minus_one: u64) -> Result<Draft, Stop> {
+fn difference(alloc: Global, left: u32, right: u32, minus_one: u64) -> Result<Draft, NotMade> {
     let mut draft = Vec::new(alloc);
     push(&mut draft, 1, &[left])?;
     push(&mut draft, minus_one, &[right])?;
@@ -55,26 +55,26 @@ impl System {
     }
 
     /// Appends a generator.
-    fn add(&mut self, draft: Draft) -> Result<(), Stop> {
+    fn add(&mut self, draft: Draft) -> Result<(), NotMade> {
         self.generators.push(draft)?;
         Ok(())
     }
 
     /// Two variables are equal.
-    fn equate(&mut self, left: u32, right: u32) -> Result<(), Stop> {
+    fn equate(&mut self, left: u32, right: u32) -> Result<(), NotMade> {
         let draft = difference(self.alloc(), left, right, self.minus(1))?;
         self.add(draft)
     }
 
     /// Two variables are equal where the generators are zero.
-    fn differ(&mut self, left: u32, right: u32) -> Result<(), Stop> {
+    fn differ(&mut self, left: u32, right: u32) -> Result<(), NotMade> {
         let draft = difference(self.alloc(), left, right, self.minus(1))?;
         self.differences.push(draft)?;
         Ok(())
     }
 
     /// A variable minus the product that defines it.
-    fn definition(&self, defined: u32, left: u32, right: u32) -> Result<Draft, Stop> {
+    fn definition(&self, defined: u32, left: u32, right: u32) -> Result<Draft, NotMade> {
         let mut draft = Vec::new(self.alloc());
         push(&mut draft, 1, &[defined])?;
         push(&mut draft, self.minus(1), &[left, right])?;
@@ -82,13 +82,13 @@ impl System {
     }
 
     /// Defines a variable as a product.
-    fn define(&mut self, defined: u32, left: u32, right: u32) -> Result<(), Stop> {
+    fn define(&mut self, defined: u32, left: u32, right: u32) -> Result<(), NotMade> {
         let draft = self.definition(defined, left, right)?;
         self.add(draft)
     }
 
     /// The sum of Katsura's variables, each but the first one twice, minus 1.
-    fn katsura_sum(&mut self, size: u32) -> Result<(), Stop>
+    fn katsura_sum(&mut self, size: u32) -> Result<(), NotMade>
         requires small { size ≤ LARGEST }
     {
         let mut draft = Vec::new(self.alloc());
@@ -101,7 +101,7 @@ impl System {
 
     /// The sum of products of two of Katsura's variables whose places differ by a number, minus the variable of this
     /// number.
-    fn katsura_products(&mut self, size: u32, number: u32) -> Result<(), Stop>
+    fn katsura_products(&mut self, size: u32, number: u32) -> Result<(), NotMade>
         requires small { size ≤ LARGEST }
         requires number { number ≤ size }
     {
@@ -117,7 +117,7 @@ impl System {
     }
 
     /// Katsura's equations in one variable more than the size.
-    pub fn katsura(&mut self, size: u32) -> Result<(), Stop>
+    pub fn katsura(&mut self, size: u32) -> Result<(), NotMade>
         requires small { size ≤ LARGEST }
     {
         self.katsura_sum(size)?;
@@ -128,7 +128,7 @@ impl System {
     }
 
     /// The cyclic equations in so many variables: the sums of products of each count, of which the product of all is 1.
-    pub fn cyclic(&mut self, size: u32) -> Result<(), Stop>
+    pub fn cyclic(&mut self, size: u32) -> Result<(), NotMade>
         requires some { 1 ≤ size }
         requires small { size ≤ LARGEST }
     {
@@ -142,7 +142,7 @@ impl System {
     }
 
     /// Definitions of variables as products of two others each, in two copies with equal factors.
-    pub fn definitions(&mut self, size: u32) -> Result<(), Stop>
+    pub fn definitions(&mut self, size: u32) -> Result<(), NotMade>
         requires small { size ≤ LARGEST }
     {
         for number in 0..size {
@@ -151,7 +151,7 @@ impl System {
         Ok(())
     }
 
-    fn definition_twice(&mut self, size: u32, number: u32) -> Result<(), Stop>
+    fn definition_twice(&mut self, size: u32, number: u32) -> Result<(), NotMade>
         requires small { size ≤ LARGEST }
         requires number { number < size }
     {
@@ -165,7 +165,7 @@ impl System {
     }
 
     /// Random linear equations, as many as variables.
-    pub fn linear(&mut self, size: u32) -> Result<(), Stop> {
+    pub fn linear(&mut self, size: u32) -> Result<(), NotMade> {
         let mut residues = Residues { state: 1 };
         for _ in 0..size {
             let draft = residues.equation(self.alloc(), size)?;
@@ -175,7 +175,7 @@ impl System {
     }
 
     /// Bits whose sum with the weights 1, 2, 4 and so on is a constant.
-    pub fn bits(&mut self, size: u32) -> Result<(), Stop> {
+    pub fn bits(&mut self, size: u32) -> Result<(), NotMade> {
         let mut sum = Vec::new(self.alloc());
         let mut weight = 1u64;
         for bit in 0..size {
@@ -188,7 +188,7 @@ impl System {
     }
 
     /// Rounds of exponent 7 with a dense linear layer each, in two copies with equal inputs.
-    pub fn rounds(&mut self, size: u32) -> Result<(), Stop> {
+    pub fn rounds(&mut self, size: u32) -> Result<(), NotMade> {
         let mut numbers = RoundNumbers::new(size);
         let mut left = numbers.factors.take_lanes();
         let mut right = numbers.factors.take_lanes();
@@ -211,7 +211,7 @@ impl System {
         numbers: &mut RoundNumbers,
         state: Lanes,
         number: u32,
-    ) -> Result<Lanes, Stop> {
+    ) -> Result<Lanes, NotMade> {
         let mut constant = number.saturating_mul(LANES);
         let mut powers = state;
         for lane in &mut powers {
@@ -226,7 +226,12 @@ impl System {
     }
 
     /// Defines the 7th power of a variable with a constant added to it, by the powers 2, 4 and 6.
-    fn power(&mut self, numbers: &mut RoundNumbers, base: u32, constant: u32) -> Result<u32, Stop> {
+    fn power(
+        &mut self,
+        numbers: &mut RoundNumbers,
+        base: u32,
+        constant: u32,
+    ) -> Result<u32, NotMade> {
         let [second, fourth, sixth] = numbers.factors.take_lanes();
         let seventh = numbers.sevenths.take();
         self.square(second, base, u64::from(constant))?;
@@ -237,7 +242,7 @@ impl System {
     }
 
     /// Defines a variable as the square of another one with a constant added to it.
-    fn square(&mut self, defined: u32, base: u32, constant: u64) -> Result<(), Stop> {
+    fn square(&mut self, defined: u32, base: u32, constant: u64) -> Result<(), NotMade> {
         let mut draft = self.definition(defined, base, base)?;
         push(&mut draft, self.minus(constant.wrapping_mul(2)), &[base])?;
         push(&mut draft, self.minus(constant.wrapping_mul(constant)), &[])?;
@@ -245,14 +250,20 @@ impl System {
     }
 
     /// Defines a variable as a product, whose second factor has a constant added to it.
-    fn multiply(&mut self, defined: u32, left: u32, right: u32, constant: u64) -> Result<(), Stop> {
+    fn multiply(
+        &mut self,
+        defined: u32,
+        left: u32,
+        right: u32,
+        constant: u64,
+    ) -> Result<(), NotMade> {
         let mut draft = self.definition(defined, left, right)?;
         push(&mut draft, self.minus(constant), &[left])?;
         self.add(draft)
     }
 
     /// Defines a lane as the sum of the powers, of which one counts twice.
-    fn mix(&mut self, lane: u32, powers: Lanes, twice: u32) -> Result<(), Stop> {
+    fn mix(&mut self, lane: u32, powers: Lanes, twice: u32) -> Result<(), NotMade> {
         let mut draft = difference(self.alloc(), lane, twice, self.minus(1))?;
         for power in powers {
             push(&mut draft, self.minus(1), &[power])?;
@@ -263,7 +274,7 @@ impl System {
 
 /// The sum of the products of so many variables that follow one another, from each of the first ones on. The first of all
 /// variables comes after the last.
-fn cycles(alloc: Global, size: u32, firsts: u32, count: u32) -> Result<Draft, Stop>
+fn cycles(alloc: Global, size: u32, firsts: u32, count: u32) -> Result<Draft, NotMade>
     requires small { size ≤ LARGEST }
     requires firsts { firsts ≤ size }
     requires count { count ≤ size }
@@ -276,7 +287,7 @@ fn cycles(alloc: Global, size: u32, firsts: u32, count: u32) -> Result<Draft, St
 }
 
 /// Appends the product of so many variables from one on.
-fn push_cycle(draft: &mut Draft, size: u32, first: u32, count: u32) -> Result<(), Stop>
+fn push_cycle(draft: &mut Draft, size: u32, first: u32, count: u32) -> Result<(), NotMade>
     requires small { size ≤ LARGEST }
     requires first { first < size }
     requires count { count ≤ size }
@@ -342,7 +353,7 @@ impl Residues {
     }
 
     /// An equation in so many variables.
-    fn equation(&mut self, alloc: Global, variables: u32) -> Result<Draft, Stop> {
+    fn equation(&mut self, alloc: Global, variables: u32) -> Result<Draft, NotMade> {
         let mut draft = Vec::new(alloc);
         for variable in 0..variables {
             push(&mut draft, self.draw(), &[variable])?;

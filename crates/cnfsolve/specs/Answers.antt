@@ -3,7 +3,7 @@ use Rattle.std.specs.Prelude.{◌≡◌, ℕ, ◌≤◌, Bool, List, [], ◌∷�
 use Rattle.ffc_clause.specs.Clauses.{Clause}
 use Rattle.ffc_cdcl.specs.Outcomes.{IsModel}
 use Rattle.ffc_cdcl.specs.State.{State, AllHold}
-use Rattle.ffc_cdcl.specs.declared.theory.CdclStop.TheVariants.{Spent}
+use Rattle.ffc_base.specs.declared.stop.SearchStop.TheVariants.{Spent}
 use Rattle.cnfsolve.specs.Reading.{formulas_of}
 use Rattle.cnfsolve.specs.declared.deciding.Answer.{Answer}
 use Rattle.cnfsolve.specs.declared.deciding.Verdict.{Verdict}

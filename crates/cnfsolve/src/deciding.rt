@@ -7,9 +7,9 @@ ghost use Rattle.cnfsolve.specs.Steps.{Stops};
 
 use crate::faults::ReadStop;
 use crate::reading::read_formulas;
-use ffc_base::{Meter, Unit};
+use ffc_base::{Meter, SearchStop, Unit};
 use ffc_cdcl::laws::refutations_are_sound;
-use ffc_cdcl::{CdclStop, Lit, Literals, Outcome, Solver, Theory, TheoryAnswer};
+use ffc_cdcl::{Lit, Literals, Outcome, Solver, Theory, TheoryAnswer};
 use std::alloc::Global;
 
 /// A theory with no lemmas, which agrees with every trail.
@@ -23,7 +23,7 @@ impl Theory for Agreeing {
 
     ghost fits = { λ _ _. Unit {0} };
 
-    fn check(&mut self, _trail: &[Lit], _meter: &mut Meter) -> Result<TheoryAnswer, CdclStop> {
+    fn check(&mut self, _trail: &[Lit], _meter: &mut Meter) -> Result<TheoryAnswer, SearchStop> {
         Ok(TheoryAnswer::Agreed)
     }
 }
@@ -35,7 +35,7 @@ pub enum Verdict {
     Satisfiable(Literals),
     /// So many steps refute it.
     Unsatisfiable(usize),
-    Unknown(CdclStop),
+    Unknown(SearchStop),
 }
 
 /// A verdict with the work that it took.
@@ -65,7 +65,7 @@ fn units_of(meter: &Meter) -> u64
 fn verdict_on(formula: &mut Solver, meter: &mut Meter) -> Verdict
     requires { formula.old.lemmas ≡ [] }
     ensures right { IsVerdict formula.old.added result }
-    ensures spent { result ≡ Verdict.Unknown CdclStop.Spent → total meter.new ≡ meter.new.budget }
+    ensures spent { result ≡ Verdict.Unknown SearchStop.Spent → total meter.new ≡ meter.new.budget }
     ensures budget { meter.new.budget ≡ meter.old.budget }
 {
     refutations_are_sound();

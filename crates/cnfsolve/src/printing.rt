@@ -1,7 +1,8 @@
 //! Answers in the form of SAT competitions: `s` lines with the verdict, `v` lines with literals, `c` lines with the work.
 use crate::deciding::{Answer, Verdict};
 use crate::faults::{Cause, Fault};
-use ffc_cdcl::{CdclStop, Lit};
+use ffc_base::SearchStop;
+use ffc_cdcl::Lit;
 use std::fmt;
 
 /// How many literals a `v` line has.
@@ -45,11 +46,14 @@ impl fmt::Display for Answer {
             Verdict::Unsatisfiable(steps) => {
                 writeln!(f, "s UNSATISFIABLE\nc steps {steps}")?;
             }
-            Verdict::Unknown(CdclStop::Spent) => {
+            Verdict::Unknown(SearchStop::Spent) => {
                 writeln!(f, "s UNKNOWN\nc the budget is spent")?;
             }
-            Verdict::Unknown(CdclStop::Memory) => {
+            Verdict::Unknown(SearchStop::Memory) => {
                 writeln!(f, "s UNKNOWN\nc out of memory")?;
+            }
+            Verdict::Unknown(SearchStop::GaveUp) => {
+                writeln!(f, "s UNKNOWN\nc the search gave up")?;
             }
         }
         let conflicts = self.conflicts;

@@ -1,8 +1,8 @@
 -- A view of a step shows the answer to it.
-use Rattle.std.proofs.Common.{◌≡◌, ℕ, ◌<◌, ◌≤◌, Bool, true, false, cond, List, [], ◌∷◌, ◌++◌, length, map, All, Option, Some, None, option_map, refl, sym, ap, ap₂, ◌∙◌, subst, arith, append-nil, length-append, lit≤}
+use Rattle.std.proofs.Common.{◌≡◌, ℕ, ◌<◌, ◌≤◌, Bool, true, false, cond, List, [], ◌∷◌, ◌++◌, length, map, All, Option, Some, None, option_map, refl, sym, ap, ap₂, ◌∙◌, subst, arith, append-nil, length-append}
 use Rattle.std.specs.Option.{option_copied}
 use Rattle.std.proofs.lemmas.List.{length-map}
-use Rattle.std.proofs.lemmas.List.Elements.{All-head, All-tail, All-map, All-weaker, All-cons, All-nil}
+use Rattle.std.proofs.lemmas.List.Elements.{All-weaker}
 use Rattle.std.proofs.lemmas.Option.{slice_get_within}
 use Rattle.ffc_lex.specs.Names.{written_symbol}
 use Rattle.ffc_cert.specs.declared.entries.Entry.{Entry}
@@ -17,15 +17,12 @@ use Rattle.ffc_smt.specs.Making.{constant_node}
 use Rattle.ffc_smt.specs.Scopes.{State, Declared, declared_of, assertions_of}
 use Rattle.ffc_smt.specs.States.{IsSoundState}
 use Rattle.ffc_smt.specs.ScriptLaw.{HasNode}
-use Rattle.ffc_smt.specs.CommandReading.{limits}
 use Rattle.ffc_smt.specs.Scripts.{Step, after}
 use Rattle.ffc_smt.specs.TableChecks.{TableCheck, node_of, declared_nodes, nodes_in_force, names_in_force}
 use Rattle.ffc_smt.specs.CheckLaws.{HasConstantNode}
 use Rattle.ffc_smt.specs.Answering.{asked_text}
 use Rattle.ffc_smt.proofs.Extends.{Extends, node_stays}
 use Rattle.ffc_smt.proofs.DeclaredLemmas.{node_there}
-use Rattle.ffc_smt.proofs.SoundStates.{next_is_sound}
-use Rattle.ffc_smt.proofs.ScriptLemmas.{keeps_values}
 use Rattle.ffc_rules.specs.Assignments.{listed_assignment}
 use Rattle.ffc_rules.specs.Cores.{names_at}
 use Rattle.ffc_elab.specs.declared.answers.Asked.{Asked}
@@ -34,9 +31,11 @@ use Rattle.ffc_elab.specs.declared.answers.Command.{Command}
 use Rattle.ffc_elab.specs.declared.answers.Command.TheVariants as command
 use Rattle.ffc_elab.specs.Histories.{Known, assumptions_of, check_now, known_of}
 use Rattle.ffc_elab.specs.Answers.{Says, IsQuiet, ChecksUnder, AsksFor, IsAnswered, asked_as, declared_as}
+use Rattle.ffc_elab.specs.Contexts.{asked_nodes, terms_of}
+use Rattle.ffc_elab.proofs.ContextLemmas.{asked_have_nodes, context_is_sound, from_map}
 use Rattle.ffc_answer.specs.declared.view.View.{View}
 use Rattle.ffc_answer.specs.Answers.{Last, line, listed, error_answer, no_assumptions, model_of, core_of, model_answer, values_answer, core_answer, assumptions_answer, assumption_texts, reason_answer, verdict_answer, success_answer, answer_to, answer_of}
-use Rattle.ffc_answer.specs.Seen.{pairs_of, pairs_seen, model_by, model_seen, values_by, values_seen, is_refutation, has_core, core_seen, assumed_texts, assumptions_by, assumptions_seen, reason_seen, verdict_seen, success_seen, answer_seen, AreAskedWithin, FitsModel, EntryHasBudget, AsksWithin, IsSafe}
+use Rattle.ffc_answer.specs.Seen.{pairs_of, pairs_seen, model_by, model_seen, values_by, values_seen, is_refutation, has_core, core_seen, assumed_texts, assumptions_by, assumptions_seen, reason_seen, verdict_seen, success_seen, answer_seen, FitsModel, EntryHasBudget, CanAnswer}
 use Rattle.ffc_answer.specs.Views.{IsEntryFor, IsRemembered, IsRememberedAt, IsFreshAs, IsView, entry_of, numbers_of, assumed_of}
 use Rattle.ffc_answer.proofs.SeenLemmas.{listed_stays, definitions_are, pairs_are, by_model, by_core, names_without, nones, none_for_each}
 
@@ -46,10 +45,6 @@ record IsModelOf (s : State) (k : Last) (pairs : List (ℕ × ℕ)) : Type 0 whe
   same : listed_assignment s.nodes pairs ≡ listed_assignment k.check.nodes pairs
   at : All (λ d. IsNodeAt s.nodes (node_of s.nodes (Constant d.number d.sort)) (constant_node d.number d.sort)) (declared_of s)
   within : All (λ p. p.0 < length s.nodes) pairs
-
-from_map : {A B : Type 0} (P : B → Type 0) (f : A → B) (xs : List A) → All P (map f xs) → All (λ x. P (f x)) xs
-from_map P f [] h = All-nil (λ x. P (f x))
-from_map P f (x ∷ xs) h = All-cons (λ y. P (f y)) x xs (All-head P (f x) (map f xs) h) (from_map P f xs (All-tail P (f x) (map f xs) h))
 
 constant_within : (ns : List Node) (id : ℕ) → IsConstantAt ns id → id < length ns
 constant_within ns id (n, at, is) = slice_get_within ns id n at
@@ -108,7 +103,7 @@ values_are s (Some k) fresh asked sound h f has =
 
 -- what a model lists is in the table
 abbrev ModelFits : State → Option (List (ℕ × ℕ)) → Type 0
-ModelFits s o = (pairs : List (ℕ × ℕ)) → o ≡ Some pairs → All (λ d. d.node < length s.nodes) (map (declared_as s.nodes) (declared_of s)) × All (λ p. p.0 < length s.nodes) pairs
+ModelFits s o = (pairs : List (ℕ × ℕ)) → o ≡ Some pairs → All (λ p. p.0 < length s.nodes) pairs
 
 none_fits : (s : State) → ModelFits s None
 none_fits s pairs e = cc
@@ -117,14 +112,10 @@ pub model_fits : (s : State) (l : Option Last) (fresh : Bool) → IsSoundState s
 model_fits s None fresh sound h f = subst (ModelFits s) (sym (no_pairs fresh)) (none_fits s)
 model_fits s (Some k) fresh sound h f =
     let By : Option (List (ℕ × ℕ)) → Option (List Value) → Type 0 = λ o m. ModelFits s o in
-    let Has : Declared → Type 0 = λ d. IsNodeAt s.nodes (node_of s.nodes (Constant d.number d.sort)) (constant_node d.number d.sort) in
-    let In : Declared → Type 0 = λ d. node_of s.nodes (Constant d.number d.sort) < length s.nodes in
     subst (λ b. ModelFits s (PairsOf (Some k) b)) (sym f)
-    (by_model By k.check k.entry k.fresh (none_fits s) (λ pairs sat yes.
-    let is = is_model s k pairs sound h sat yes in
-    λ others e.
+    (by_model By k.check k.entry k.fresh (none_fits s) (λ pairs sat yes others e.
     let same : pairs ≡ others = cc in
-    (All-map (λ (d : _). d.node < length s.nodes) (declared_as s.nodes) (declared_of s) (All-weaker Has In (λ d at. slice_get_within s.nodes _ _ at) (declared_of s) is.at), subst (All (λ p. p.0 < length s.nodes)) same is.within)))
+    subst (λ ps. All (λ p. p.0 < length s.nodes) ps) same (is_model s k pairs sound h sat yes).within))
 
 -- Cores
 
@@ -223,7 +214,7 @@ module _ (v : View) (asked_for : Command) (l : Option Last) (x : Step) (h : IsVi
   Knows = record { state = Now; assumptions = assumptions_of x.command }
 
   sound : IsSoundState Now
-  sound = next_is_sound limits x.before x.tree x.command (lit≤ tt) h.sound h.read
+  sound = subst (λ (k : Known). IsSoundState k.state) h.known (context_is_sound v.context.now).state
 
   pairs_left : pairs_seen v ≡ PairsOf l v.fresh
   pairs_left = ap (λ o. cond v.fresh (pairs_of o) None) h.last
@@ -235,7 +226,7 @@ module _ (v : View) (asked_for : Command) (l : Option Last) (x : Step) (h : IsVi
       ∙ model_is Now l v.fresh sound h.remembered h.fresh
 
   has_nodes : (asked : List smt.Asked) → x.command ≡ smt.GetValue asked → All (λ a. HasNode Now.nodes a.term) asked
-  has_nodes asked is = (keeps_values limits x.before x.tree x.command (lit≤ tt) h.sound h.read).asked asked is
+  has_nodes asked is = from_map (HasNode Now.nodes) (λ (a : smt.Asked). a.term) asked (subst (λ c. All (HasNode Now.nodes) (terms_of c)) is h.values)
 
   values_here : (asked : List smt.Asked) (terms : List Asked) → x.command ≡ smt.GetValue asked → terms ≡ map (asked_as Now.nodes) asked → values_seen v terms ≡ values_answer asked (model_of l)
   values_here asked terms is same =
@@ -320,49 +311,11 @@ module _ (v : View) (asked_for : Command) (l : Option Last) (x : Step) (h : IsVi
 
   fits : FitsModel v
   fits pairs e =
-      let there = model_fits Now l v.fresh sound h.remembered h.fresh pairs (sym pairs_left ∙ e) in
-      record {
-        declared = subst (λ (k : Known). All (λ d. d.node < length k.state.nodes) (map (declared_as k.state.nodes) (declared_of k.state))) (sym h.known) there.0;
-        listed = subst (λ (k : Known). All (λ p. p.0 < length k.state.nodes) pairs) (sym h.known) there.1;
-      }
+      subst (λ (k : Known). All (λ p. p.0 < length k.state.nodes) pairs) (sym h.known) (model_fits Now l v.fresh sound h.remembered h.fresh pairs (sym pairs_left ∙ e))
 
-  asked_within : (asked : List smt.Asked) (terms : List Asked) → x.command ≡ smt.GetValue asked → terms ≡ map (asked_as Now.nodes) asked → AreAskedWithin v terms
-  asked_within asked terms is same =
-      let In : Asked → Type 0 = λ a. a.node < length Now.nodes in
-      subst (λ (k : Known). All (λ a. a.node < length k.state.nodes) terms) (sym h.known)
-      (subst (All In) (sym same) (All-map In (asked_as Now.nodes) asked (All-weaker (λ a. HasNode Now.nodes a.term) (λ a. node_of Now.nodes a.term < length Now.nodes) (λ a has. (has.means []).within) asked (has_nodes asked is))))
-
-  within : (c : smt.Command) (r : Command) → x.command ≡ c → IsAnswered Now c r → AsksWithin v r
-  within (smt.GetValue asked) (command.GetValue terms) is a = asked_within asked terms.items is a
-  within (smt.GetOption o) (command.GetValue terms) is a = absurd a
-  within (smt.GetInfo smt.SolverName) (command.GetValue terms) is a = absurd a
-  within (smt.GetInfo smt.Version) (command.GetValue terms) is a = absurd a
-  within (smt.GetInfo smt.AssertionStackLevels) (command.GetValue terms) is a = absurd a
-  within (smt.GetInfo smt.ReasonUnknown) (command.GetValue terms) is a = cc
-  within smt.Unsupported (command.GetValue terms) is a = cc
-  within (smt.Echo bytes) (command.GetValue terms) is a = absurd a
-  within smt.CheckSat (command.GetValue terms) is a = cc
-  within (smt.CheckSatAssuming asked) (command.GetValue terms) is a = absurd a
-  within smt.GetModel (command.GetValue terms) is a = cc
-  within smt.GetUnsatCore (command.GetValue terms) is a = cc
-  within smt.GetUnsatAssumptions (command.GetValue terms) is a = cc
-  within smt.Exit (command.GetValue terms) is a = cc
-  within smt.SetLogic (command.GetValue terms) is a = absurd a
-  within (smt.SetOption o b) (command.GetValue terms) is a = absurd a
-  within smt.SetInfo (command.GetValue terms) is a = absurd a
-  within (smt.Declare name s) (command.GetValue terms) is a = absurd a
-  within (smt.DefineSort name s) (command.GetValue terms) is a = absurd a
-  within (smt.Define name parameters s t) (command.GetValue terms) is a = absurd a
-  within (smt.Assert label t) (command.GetValue terms) is a = absurd a
-  within (smt.Push n) (command.GetValue terms) is a = absurd a
-  within (smt.Pop n) (command.GetValue terms) is a = absurd a
-  within smt.ResetAssertions (command.GetValue terms) is a = absurd a
-  within smt.Reset (command.GetValue terms) is a = absurd a
-  within c _ is a = tt
-
-  pub view_is_safe : IsSafe v asked_for
-  view_is_safe = record {
+  pub view_can_answer : CanAnswer v asked_for
+  view_can_answer = record {
     model = fits;
-    asked = within x.command asked_for refl h.answered;
+    asked = subst (λ (k : Known). All (λ id. id < length k.state.nodes) (asked_nodes asked_for)) (sym h.known) (asked_have_nodes Now x.command asked_for h.answered h.values);
     budget = subst EntryHasBudget (sym h.last) (has_budget Now l h.remembered);
   }

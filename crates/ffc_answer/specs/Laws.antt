@@ -1,5 +1,5 @@
 -- How answers go on from step to step: what is remembered fits the state that each step leaves, and the answers to more steps
--- are those so far and then those that follow from what is remembered.
+-- are those so far and then those that follow from what is remembered. A view of a step has what its answer looks at.
 use Rattle.std.specs.Prelude.{◌≡◌, List, [], ◌∷◌, ◌++◌, length, Option, Some, None}
 use Rattle.ffc_cert.specs.declared.entries.Entry.{Entry}
 use Rattle.ffc_smt.specs.Faults.{Sound}
@@ -9,8 +9,11 @@ use Rattle.ffc_smt.specs.States.{IsSoundState}
 use Rattle.ffc_smt.specs.ScopedStates.{IsScopedState}
 use Rattle.ffc_smt.specs.Scripts.{Step, after}
 use Rattle.ffc_smt.specs.TableChecks.{TableCheck, table_check_of, table_checks}
+use Rattle.ffc_elab.specs.declared.answers.Command.{Command}
+use Rattle.ffc_answer.specs.declared.view.View.{View}
 use Rattle.ffc_answer.specs.Answers.{Last, checked, last_after, answer_of, answers_from, last_from}
-use Rattle.ffc_answer.specs.Views.{IsEntryFor, IsRemembered, IsRememberedAt}
+use Rattle.ffc_answer.specs.Seen.{CanAnswer}
+use Rattle.ffc_answer.specs.Views.{IsEntryFor, IsRemembered, IsRememberedAt, IsView}
 
 pub record RememberingGoesOn : Type 0 where
   pub first : IsRememberedAt None first_state
@@ -33,3 +36,6 @@ pub record AnswersGoOn : Type 0 where
       → (answers_from l (x ∷ []) (entry ∷ []) ≡ answer_of (Some (checked x.command c entry)) x) × (last_from l (x ∷ []) (entry ∷ []) ≡ Some (checked x.command c entry))
   -- a check without an entry ends the answers
   pub ends : (l : Option Last) (x : Step) (xs : List Step) (c : TableCheck) → table_check_of x ≡ Some c → answers_from l (x ∷ xs) [] ≡ []
+
+abbrev pub ViewsCanAnswer : Type 0
+ViewsCanAnswer = (v : View) (command : Command) (l : Option Last) (x : Step) → IsView v command l x → CanAnswer v command

@@ -25,6 +25,7 @@ use Rattle.ffc_elab.specs.declared.answers.Command.{Command}
 use Rattle.ffc_elab.specs.declared.answers.Command.TheVariants as command
 use Rattle.ffc_elab.specs.Histories.{check_now, known_of, state_of}
 use Rattle.ffc_elab.specs.Answers.{declared_as, truth_text}
+use Rattle.ffc_elab.specs.Contexts.{asked_nodes}
 use Rattle.ffc_answer.specs.declared.view.View.{View}
 use Rattle.ffc_answer.specs.Answers.{line, listed, error_answer, sort_text, value_text, verdict, entry_reason, no_model, no_assumptions, no_reason}
 
@@ -159,13 +160,9 @@ answer_seen v command.Exit = []
 abbrev pub AreAskedWithin : View → List Asked → Type 0
 AreAskedWithin v asked = All (λ a. a.node < length (nodes_seen v)) asked
 
--- where there is a model, constants and what is listed are in the table
-pub record AreWithin (v : View) (pairs : List (ℕ × ℕ)) : Type 0 where
-  pub declared : All (λ d. d.node < length (nodes_seen v)) (declared_seen v)
-  pub listed : All (λ p. p.0 < length (nodes_seen v)) pairs
-
+-- where there is a model, the constants that it lists are in the table
 abbrev pub FitsModel : View → Type 0
-FitsModel v = (pairs : List (ℕ × ℕ)) → pairs_seen v ≡ Some pairs → AreWithin v pairs
+FitsModel v = (pairs : List (ℕ × ℕ)) → pairs_seen v ≡ Some pairs → All (λ p. p.0 < length (nodes_seen v)) pairs
 
 -- the four counts are those of a budget
 abbrev pub HasBudget : Cause → Type 0
@@ -176,11 +173,9 @@ abbrev pub EntryHasBudget : Option Entry → Type 0
 EntryHasBudget (Some (Unknown cause)) = HasBudget cause
 EntryHasBudget _ = Unit {0}
 
-abbrev pub AsksWithin : View → Command → Type 0
-AsksWithin v (command.GetValue asked) = AreAskedWithin v asked.items
-AsksWithin v _ = Unit {0}
-
-pub record IsSafe (v : View) (c : Command) : Type 0 where
+-- A command can be answered from the view: the nodes that a model lists and those that are asked for are in the context's
+-- table, and what was spent is a number of 64 bits.
+pub record CanAnswer (v : View) (c : Command) : Type 0 where
   pub model : FitsModel v
-  pub asked : AsksWithin v c
+  pub asked : All (λ id. id < length (nodes_seen v)) (asked_nodes c)
   pub budget : EntryHasBudget (option_copied v.last)

@@ -1,22 +1,21 @@
 -- Which views are those of a step: what is remembered of the last check, and the context after the step.
-use Rattle.std.specs.Prelude.{◌≡◌, ℕ, true, Bool, List, [], ◌++◌, length, map, Option, Some, None, option_map, option_and_then}
+use Rattle.std.specs.Prelude.{◌≡◌, ℕ, true, Bool, List, [], ◌++◌, length, map, All, Option, Some, None, option_map, option_and_then}
 use Rattle.std.specs.Option.{option_copied}
 use Rattle.ffc_cert.specs.declared.entries.Entry.{Entry}
 use Rattle.ffc_cert.specs.declared.entries.Entry.TheVariants.{Sat, Unknown}
 use Rattle.ffc_term.specs.declared.node.Node.{Node}
 use Rattle.ffc_term.specs.Tables.{constant_count}
-use Rattle.ffc_smt.specs.Faults.{Sound}
-use Rattle.ffc_smt.specs.CommandReading.{limits, command_read}
 use Rattle.ffc_smt.specs.Scopes.{State, declared_of, assertions_of}
-use Rattle.ffc_smt.specs.States.{IsSoundState}
 use Rattle.ffc_smt.specs.Scripts.{Step, after}
 use Rattle.ffc_smt.specs.TableChecks.{TableCheck, declared_nodes, nodes_in_force}
+use Rattle.ffc_smt.specs.ScriptLaw.{HasNode}
 use Rattle.ffc_smt.specs.CheckLaws.{KeepsCheck}
 use Rattle.ffc_smt.specs.Answering.{asked_text}
 use Rattle.ffc_rules.specs.Cores.{core}
 use Rattle.ffc_elab.specs.declared.answers.Command.{Command}
 use Rattle.ffc_elab.specs.Histories.{assumptions_of, known_of}
 use Rattle.ffc_elab.specs.Answers.{IsAnswered}
+use Rattle.ffc_elab.specs.Contexts.{terms_of}
 use Rattle.ffc_answer.specs.declared.view.View.{View}
 use Rattle.ffc_answer.specs.Answers.{Last}
 use Rattle.ffc_answer.specs.Seen.{HasBudget}
@@ -64,8 +63,8 @@ assumed_of l = option_map (map asked_text) (option_and_then (λ k. k.asked) l)
 
 -- A view of a step, whose command was answered so, where this is remembered after it.
 pub record IsView (v : View) (command : Command) (l : Option Last) (x : Step) : Type 0 where
-  pub sound : IsSoundState x.before
-  pub read : command_read limits x.before x.tree ≡ Sound x.command
+  -- each term of the command has its node
+  pub values : All (HasNode (after x.before x.tree x.command).nodes) (terms_of x.command)
   pub known : known_of v.context.now ≡ record { state = after x.before x.tree x.command; assumptions = assumptions_of x.command }
   pub answered : IsAnswered (after x.before x.tree x.command) x.command command
   pub remembered : IsRememberedAt l (after x.before x.tree x.command)

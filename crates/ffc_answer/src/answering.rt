@@ -2,7 +2,7 @@
 ghost use Rattle.std.specs.Prelude.{◌≡◌, ◌++◌, Option, OnErr, OnOk};
 ghost use Rattle.ffc_smt.specs.Scripts.{Step};
 ghost use Rattle.ffc_answer.specs.Answers.{Last, answer_of};
-ghost use Rattle.ffc_answer.specs.Seen.{IsSafe, answer_seen, success_seen};
+ghost use Rattle.ffc_answer.specs.Seen.{CanAnswer, answer_seen, success_seen};
 ghost use Rattle.ffc_answer.specs.Views.{IsView};
 
 use crate::cores::{append_assumptions, append_core};
@@ -31,7 +31,7 @@ fn append_answer(
     view: &View,
     out: &mut Vec<u8>,
 ) -> Result<(), AllocError>
-    requires { IsSafe view.now command.now }
+    requires { CanAnswer view.now command.now }
     ensures { OnOk result (out.new.items ≡ out.old.items ++ answer_seen view.now command.now) }
 {
     match command {
@@ -50,13 +50,16 @@ fn append_answer(
 
 /// Appends the answer to a command (SMT-LIB 2.6, section 3.9.1); of a check it is the verdict. Values cost the cone of what is
 /// asked for, and a few passes over the table. Where memory is out, nothing is appended.
+///
+/// What is appended is said by what the view has, and of a view of a script's step it is the answer to that step.
 pub fn write_answer(
     alloc: Global,
     command: &Command,
     view: &View,
     out: &mut Vec<u8>,
 ) -> Result<(), AllocError>
-    requires view { (l : Option Last) × (x : Step) × IsView view.now command.now l x }
+    requires { CanAnswer view.now command.now }
+    ensures seen { OnOk result (out.new.items ≡ out.old.items ++ answer_seen view.now command.now) }
     ensures ok { OnOk result ((l : Option Last) (x : Step) → IsView view.now command.now l x → out.new.items
         ≡ out.old.items ++ answer_of l x) }
     ensures err { OnErr result (out.new.items ≡ out.old.items) }

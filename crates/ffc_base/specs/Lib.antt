@@ -4,3 +4,4 @@ pub mod Contents
 pub mod Failing
 pub mod Files
 pub mod Metering
+pub mod Stops

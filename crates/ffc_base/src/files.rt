@@ -7,7 +7,7 @@ ghost use Rattle.ffc_base.specs.Counts.{counted};
 
 use crate::outside::{Failed, NamedSink, NamedSource, Sink, Source, WriteStop};
 use crate::standard::{read_some, write_whole};
-use ffc_ghost::GhostText;
+use crate::text::GhostText;
 use std::fs;
 use std::marker::Model;
 use std::rt::Files;

@@ -1,6 +1,6 @@
 //! A meter for the work of a search.
-ghost use Rattle.std.specs.Prelude.{◌≡◌, ◌+◌, ◌≤◌, ◌↔◌, IsErr, OnOk, OnErr};
-ghost use Rattle.ffc_base.specs.Metering.{spending, total, count_of, one_more};
+ghost use Rattle.std.specs.Prelude.{◌≡◌, ◌+◌, ◌-◌, ◌<◌, ◌≤◌, ◌↔◌, IsErr, OnOk, OnErr};
+ghost use Rattle.ffc_base.specs.Metering.{Takes, spending, total, count_of, more, one_more};
 
 use std::marker::Model;
 use thiserror::Error;
@@ -25,7 +25,7 @@ pub struct Spent;
 
 /// Counts units of work of four kinds against one budget.
 ///
-/// Only `take` raises a count, and nothing lowers one. No call takes memory, and each takes constant time.
+/// Only `take` and `charge` raise a count, and nothing lowers one. No call takes memory, and each takes constant time.
 #[derive(Debug, Drop)]
 pub struct Meter {
     budget: u64,
@@ -83,6 +83,41 @@ impl Meter {
             Unit::Chain => self.chains += 1,
         }
         Ok(())
+    }
+
+    /// Counts so many units of this kind, which were taken by a meter of a part's own. Where fewer are left, those are taken, and
+    /// the budget is spent.
+    pub fn charge(&mut self, kind: Unit, count: u64) -> Result<(), Spent>
+        ensures charged { OnOk result (self.new ≡ more self.old kind count) }
+        ensures spent { IsErr result ↔ (self.old.budget < total self.old + count) }
+        ensures full { OnErr result (self.new ≡ more self.old kind (self.old.budget - total self.old)) }
+        ensures all { OnErr result (total self.new ≡ self.new.budget) }
+        ensures takes { Takes self.old self.new }
+    {
+        let granted = count.min(self.left);
+        self.left -= granted;
+        match kind {
+            Unit::Trial => self.trials += granted,
+            Unit::Reduction => self.reductions += granted,
+            Unit::Assignment => self.assignments += granted,
+            Unit::Chain => self.chains += granted,
+        }
+        if granted < count { Err(Spent) } else { Ok(()) }
+    }
+
+    /// How many units were taken.
+    pub fn spent(&self) -> u64
+        ensures spent { result ≡ total self.now }
+        ensures within { result ≤ self.now.budget }
+    {
+        self.budget - self.left
+    }
+
+    /// How many units are left.
+    pub fn left(&self) -> u64
+        ensures { result + total self.now ≡ self.now.budget }
+    {
+        self.left
     }
 
     /// How many units of this kind were taken.

@@ -2,8 +2,10 @@
 //!
 //! These adapters are a trusted edge. They tell nothing of content, so no clause says which bytes come from or go to
 //! the system; what is proved is that just the calls that fail are counted.
-ghost use Rattle.std.specs.Prelude.{◌≡◌, ℕ, ◌≤◌, length, IfOk, IfErr, OnOk, OnErr, Option, None};
+ghost use Rattle.std.specs.Io.KnownBytes.{Keeps, Appends as Grows};
+ghost use Rattle.std.specs.Prelude.{◌≡◌, ℕ, ◌≤◌, ◌⊎◌, [], length, take, IfOk, IfErr, OnOk, OnErr, Option, None};
 ghost use Rattle.ffc_base.specs.Counts.{counted};
+ghost use Rattle.ffc_base.specs.Outside.{Appends, AppendsPrefix};
 
 use crate::outside::{Failed, Sink, Source, WriteStop};
 use std::io::{ErrorKind, Read, Write};
@@ -129,19 +131,35 @@ impl<W: Write + Drop> Sink for StdSink<W> {
     }
 }
 
-/// Writes until all the bytes are taken, and again where a write was interrupted. A write that takes none is a fault.
-pub(crate) fn write_whole<W: Write>(writer: &mut W, bytes: &[u8]) -> Result<(), Failed> {
+/// Writes once, and says how many bytes were taken: none where the write was interrupted. A write that takes none is a fault.
+fn write_some<W: Write>(writer: &mut W, bytes: &[u8]) -> Result<usize, Failed>
+    ensures within { IfOk result (λ n. n ≤ length bytes.now) }
+    ensures ok { IfOk result (λ n. Grows (W.contents writer.old) (W.contents writer.new) (take n bytes.now)
+        ⊎ ((n ≡ 0) × Keeps (W.contents writer.old) (W.contents writer.new))) }
+    ensures err { OnErr result (Keeps (W.contents writer.old) (W.contents writer.new)
+        ⊎ Grows (W.contents writer.old) (W.contents writer.new) []) }
+{
+    match writer.write(bytes) {
+        Ok(0) => Err(Failed),
+        Ok(count) => Ok(count),
+        Err(error) if error.kind() == ErrorKind::Interrupted => Ok(0),
+        Err(_) => Err(Failed),
+    }
+}
+
+/// Writes until all the bytes are taken, and again where a write was interrupted. Where the writer tells what it holds, the bytes
+/// stand after that; some first ones of them where it failed.
+pub(crate) fn write_whole<W: Write>(writer: &mut W, bytes: &[u8]) -> Result<(), Failed>
+    ensures ok { OnOk result (Appends bytes.now (W.contents writer.old) (W.contents writer.new)) }
+    ensures err { OnErr result (AppendsPrefix bytes.now (W.contents writer.old) (W.contents writer.new)) }
+{
     let mut left = bytes;
     for _ in 0..u64::MAX {
         if left.is_empty() {
             return Ok(());
         }
-        match writer.write(left) {
-            Ok(0) => return Err(Failed),
-            Ok(count) => left = &left[count..],
-            Err(error) if error.kind() == ErrorKind::Interrupted => {}
-            Err(_) => return Err(Failed),
-        }
+        let count = write_some(writer, left)?;
+        left = &left[count..];
     }
     Err(Failed)
 }

@@ -71,24 +71,24 @@ front_dropped p cmp old new left n (more, is, _) all cut = cut ∙ ap (take n) i
 
 -- ---- pairs of lists of lines
 
-pub pairs_none : (p : ℕ) (cmp : Monomial → Monomial → Ordering) (gs : List Terms) (rs : List PairRecord) (joined : ℕ) → rs ≡ [] → joined ≡ 0 → AreLists gs → ArePairs p cmp gs rs joined
-pairs_none p cmp gs rs joined none first lists =
-    subst (λ l. ArePairs p cmp gs l joined) (sym none) (subst (ArePairs p cmp gs []) (sym first) record {
-      joined_within = omega arith;
+pub pairs_none : (p : ℕ) (cmp : Monomial → Monomial → Ordering) (gs : List Terms) (rs : List PairRecord) (paired : ℕ) → rs ≡ [] → paired ≡ 0 → AreLists gs → ArePairs p cmp gs rs paired
+pairs_none p cmp gs rs paired none first lists =
+    subst (λ l. ArePairs p cmp gs l paired) (sym none) (subst (ArePairs p cmp gs []) (sym first) record {
+      paired_within = omega arith;
       lists = lists;
       records = tt;
       covered = λ i j h low. absurd (omega arith);
     })
 
-pub pairs_added : {F O : Type 0} (p : ℕ) (cmp : Monomial → Monomial → Ordering) (old new : List (Line F O)) (gens : List Terms) (rs : List PairRecord) (joined : ℕ) → IsAddedTo old new gens → AreLists (polys_of new) → ArePairs p cmp (polys_of old) rs joined → ArePairs p cmp (polys_of new) rs joined
-pairs_added p cmp old new gens rs joined (more, is, _) lists v =
+pub pairs_added : {F O : Type 0} (p : ℕ) (cmp : Monomial → Monomial → Ordering) (old new : List (Line F O)) (gens : List Terms) (rs : List PairRecord) (paired : ℕ) → IsAddedTo old new gens → AreLists (polys_of new) → ArePairs p cmp (polys_of old) rs paired → ArePairs p cmp (polys_of new) rs paired
+pairs_added p cmp old new gens rs paired (more, is, _) lists v =
     let all : polys_of new ≡ polys_of old ++ polys_of more = ap polys_of is ∙ polys-append_all old more in
-    subst (λ hs. ArePairs p cmp hs rs joined) (sym all) (pairs_grown p cmp (polys_of old) (polys_of more) rs joined (subst AreLists all lists) v)
+    subst (λ hs. ArePairs p cmp hs rs paired) (sym all) (pairs_grown p cmp (polys_of old) (polys_of more) rs paired (subst AreLists all lists) v)
 
-pub pairs_more : {F O : Type 0} (p : ℕ) (cmp : Monomial → Monomial → Ordering) (old new : List (Line F O)) (l : Line F O) (rs : List PairRecord) (joined : ℕ) → new ≡ old ++ l ∷ [] → AreTerms l.poly → ArePairs p cmp (polys_of old) rs joined → ArePairs p cmp (polys_of new) rs joined
-pairs_more p cmp old new l rs joined is terms v =
-    subst (λ hs. ArePairs p cmp hs rs joined) (sym (ap polys_of is ∙ polys-append_all old (l ∷ [])))
-    (pairs_grown p cmp (polys_of old) (polys_of (l ∷ [])) rs joined (lists_push (polys_of old) l.poly v.lists terms) v)
+pub pairs_more : {F O : Type 0} (p : ℕ) (cmp : Monomial → Monomial → Ordering) (old new : List (Line F O)) (l : Line F O) (rs : List PairRecord) (paired : ℕ) → new ≡ old ++ l ∷ [] → AreTerms l.poly → ArePairs p cmp (polys_of old) rs paired → ArePairs p cmp (polys_of new) rs paired
+pairs_more p cmp old new l rs paired is terms v =
+    subst (λ hs. ArePairs p cmp hs rs paired) (sym (ap polys_of is ∙ polys-append_all old (l ∷ [])))
+    (pairs_grown p cmp (polys_of old) (polys_of (l ∷ [])) rs paired (lists_push (polys_of old) l.poly v.lists terms) v)
 
 -- the lines with one more are lists of terms
 pub lists_more : {F O : Type 0} (old new : List (Line F O)) (l : Line F O) → new ≡ old ++ l ∷ [] → AreLists (polys_of old) → AreTerms l.poly → AreLists (polys_of new)
@@ -100,38 +100,38 @@ polys-take zero ls = refl
 polys-take (suc n) [] = refl
 polys-take (suc n) (l ∷ ls) = ap (λ hs. l.poly ∷ hs) (polys-take n ls)
 
-pub pairs_dropped : {F O : Type 0} (p : ℕ) (cmp : Monomial → Monomial → Ordering) (ls ks : List (Line F O)) (rs new : List PairRecord) (joined less len : ℕ) → len ≤ length ls → ks ≡ take len ls
-    → new ≡ map (forgotten len) (filter (λ r. nat_lt r.second len) rs) → less ≡ min joined len → ArePairs p cmp (polys_of ls) rs joined → ArePairs p cmp (polys_of ks) new less
-pairs_dropped p cmp ls ks rs new joined less len h is are low v =
+pub pairs_dropped : {F O : Type 0} (p : ℕ) (cmp : Monomial → Monomial → Ordering) (ls ks : List (Line F O)) (rs new : List PairRecord) (paired less len : ℕ) → len ≤ length ls → ks ≡ take len ls
+    → new ≡ map (forgotten len) (filter (λ r. nat_lt r.second len) rs) → less ≡ min paired len → ArePairs p cmp (polys_of ls) rs paired → ArePairs p cmp (polys_of ks) new less
+pairs_dropped p cmp ls ks rs new paired less len h is are low v =
     subst (λ hs. ArePairs p cmp hs new less) (sym (ap polys_of is ∙ polys-take len ls))
     (subst (λ l. ArePairs p cmp (take len (polys_of ls)) l less) (sym are)
     (subst (ArePairs p cmp (take len (polys_of ls)) (map (forgotten len) (filter (λ r. nat_lt r.second len) rs))) (sym low)
-    (pairs_cut p cmp (polys_of ls) rs joined len (omega (arith, h, length-polys ls)) v)))
+    (pairs_cut p cmp (polys_of ls) rs paired len (omega (arith, h, length-polys ls)) v)))
 
 -- ---- what is known of a pair
 
-pub settled_closed : {F O : Type 0} (p : ℕ) (cmp : Monomial → Monomial → Ordering) (ls : List (Line F O)) (rs : List PairRecord) (joined place : ℕ) (pair : PairRecord) (count : ℕ) → length ls ≡ count → place < length rs → get_or rs place pair ≡ pair
-    → AreBothClosed p cmp (polys_of ls) pair.first pair.second → ArePairs p cmp (polys_of ls) rs joined → ArePairs p cmp (polys_of ls) (set rs place (with_state pair (Closed count))) joined
-settled_closed p cmp ls rs joined place pair count all h is both v =
+pub settled_closed : {F O : Type 0} (p : ℕ) (cmp : Monomial → Monomial → Ordering) (ls : List (Line F O)) (rs : List PairRecord) (paired place : ℕ) (pair : PairRecord) (count : ℕ) → length ls ≡ count → place < length rs → get_or rs place pair ≡ pair
+    → AreBothClosed p cmp (polys_of ls) pair.first pair.second → ArePairs p cmp (polys_of ls) rs paired → ArePairs p cmp (polys_of ls) (set rs place (with_state pair (Closed count))) paired
+settled_closed p cmp ls rs paired place pair count all h is both v =
     let gs = polys_of ls in
-    let r = record_is p cmp gs rs joined place pair v h is in
-    pairs_set p cmp gs rs joined place pair (with_state pair (Closed count)) h is refl refl
+    let r = record_is p cmp gs rs paired place pair v h is in
+    pairs_set p cmp gs rs paired place pair (with_state pair (Closed count)) h is refl refl
     (subst (λ n. IsState p cmp gs pair.first pair.second (Closed n)) (length-polys ls ∙ all) (state_by_all p cmp gs pair.first pair.second r.within both)) v
 
-pub settled_over : {F O : Type 0} (p : ℕ) (cmp : Monomial → Monomial → Ordering) (ls : List (Line F O)) (rs : List PairRecord) (joined place : ℕ) (pair : PairRecord) (count : ℕ) → length ls ≡ count → place < length rs → get_or rs place pair ≡ pair
-    → IsPairOver p cmp (polys_of ls) pair.first pair.second → ArePairs p cmp (polys_of ls) rs joined → ArePairs p cmp (polys_of ls) (set rs place (with_state pair (Over count))) joined
-settled_over p cmp ls rs joined place pair count all h is over v =
+pub settled_over : {F O : Type 0} (p : ℕ) (cmp : Monomial → Monomial → Ordering) (ls : List (Line F O)) (rs : List PairRecord) (paired place : ℕ) (pair : PairRecord) (count : ℕ) → length ls ≡ count → place < length rs → get_or rs place pair ≡ pair
+    → IsPairOver p cmp (polys_of ls) pair.first pair.second → ArePairs p cmp (polys_of ls) rs paired → ArePairs p cmp (polys_of ls) (set rs place (with_state pair (Over count))) paired
+settled_over p cmp ls rs paired place pair count all h is over v =
     let gs = polys_of ls in
-    let r = record_is p cmp gs rs joined place pair v h is in
-    pairs_set p cmp gs rs joined place pair (with_state pair (Over count)) h is refl refl
+    let r = record_is p cmp gs rs paired place pair v h is in
+    pairs_set p cmp gs rs paired place pair (with_state pair (Over count)) h is refl refl
     (subst (λ n. IsState p cmp gs pair.first pair.second (Over n)) (length-polys ls ∙ all) (over_by_all p cmp gs pair.first pair.second r.within over)) v
 
-pub settled_added : {F O : Type 0} (p : ℕ) (cmp : Monomial → Monomial → Ordering) (ls ks : List (Line F O)) (l : Line F O) (rs : List PairRecord) (joined place : ℕ) (pair : PairRecord) (count : ℕ) → ks ≡ ls ++ l ∷ [] → length ls ≡ count → place < length rs → get_or rs place pair ≡ pair
-    → AreTerms l.poly → AreBothClosed p cmp (polys_of ls ++ l.poly ∷ []) pair.first pair.second → ArePairs p cmp (polys_of ls) rs joined → ArePairs p cmp (polys_of ks) (set rs place (with_state pair (Closed (count + 1)))) joined
-settled_added p cmp ls ks l rs joined place pair count is all h there terms both v =
-    settled_closed p cmp ks rs joined place pair (count + 1) (ap length is ∙ length-append ls (l ∷ []) ∙ ap (λ n. n + 1) all) h there
+pub settled_added : {F O : Type 0} (p : ℕ) (cmp : Monomial → Monomial → Ordering) (ls ks : List (Line F O)) (l : Line F O) (rs : List PairRecord) (paired place : ℕ) (pair : PairRecord) (count : ℕ) → ks ≡ ls ++ l ∷ [] → length ls ≡ count → place < length rs → get_or rs place pair ≡ pair
+    → AreTerms l.poly → AreBothClosed p cmp (polys_of ls ++ l.poly ∷ []) pair.first pair.second → ArePairs p cmp (polys_of ls) rs paired → ArePairs p cmp (polys_of ks) (set rs place (with_state pair (Closed (count + 1)))) paired
+settled_added p cmp ls ks l rs paired place pair count is all h there terms both v =
+    settled_closed p cmp ks rs paired place pair (count + 1) (ap length is ∙ length-append ls (l ∷ []) ∙ ap (λ n. n + 1) all) h there
     (subst (λ hs. AreBothClosed p cmp hs pair.first pair.second) (sym (ap polys_of is ∙ polys-append_all ls (l ∷ []))) both)
-    (pairs_more p cmp ls ks l rs joined is terms v)
+    (pairs_more p cmp ls ks l rs paired is terms v)
 
 pub line_added : {F O : Type 0} (p : ℕ) (ls ks : List (Line F O)) (l : Line F O) → ks ≡ ls ++ l ∷ [] → AreLines p ls → IsLine p (polys_of ls) (length (polys_of ls)) l → AreLines p ks
 line_added p ls ks l is v w = subst (AreLines p) (sym is) (lines_push p ls l v w)

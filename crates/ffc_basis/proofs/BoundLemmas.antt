@@ -210,16 +210,16 @@ front_pairs p cmp ls ks n old new (more, is, _) bound vs d graded up =
 
 -- ---- a completion
 
-pub settled_is_bounded : (p : ℕ) (cmp : Monomial → Monomial → Ordering) (gs : List Terms) (rs : List PairRecord) (joined : ℕ) (old new : Spending) → ArePairs p cmp gs rs joined → AreFew (seconds rs) joined → IsPairsBound p cmp gs (settled_count rs) old new → IsCompletionBound p cmp gs old new
-settled_is_bounded p cmp gs rs joined old new pairs few bound =
-    more_pairs p cmp gs (settled_count rs) (length gs * length gs) old new (settled_square rs joined (length gs) pairs.joined_within few) bound
+pub settled_is_bounded : (p : ℕ) (cmp : Monomial → Monomial → Ordering) (gs : List Terms) (rs : List PairRecord) (paired : ℕ) (old new : Spending) → ArePairs p cmp gs rs paired → AreFew (seconds rs) paired → IsPairsBound p cmp gs (settled_count rs) old new → IsCompletionBound p cmp gs old new
+settled_is_bounded p cmp gs rs paired old new pairs few bound =
+    more_pairs p cmp gs (settled_count rs) (length gs * length gs) old new (settled_square rs paired (length gs) pairs.paired_within few) bound
 
 -- a pair more, of which the lines may have grown
 pub bound_next : {F O : Type 0} (p : ℕ) (cmp : Monomial → Monomial → Ordering) (ls ks : List (Line F O)) (n : ℕ) (a b c : Spending) → IsFront p cmp ls ks → IsPairsBound p cmp (polys_of ls) n a b → IsPairsBound p cmp (polys_of ls) 1 b c → IsPairsBound p cmp (polys_of ks) (n + 1) a c
 bound_next p cmp ls ks n a b c front first second = front_pairs p cmp ls ks (n + 1) a c front (both_pairs p cmp (polys_of ls) n 1 a b c first second)
 
-pub pending_is_bounded : (p : ℕ) (cmp : Monomial → Monomial → Ordering) (gs : List Terms) (rs qs : List PairRecord) (joined again place : ℕ) (old new : Spending) → again ≡ joined → ArePairs p cmp gs qs again → IsPendingAt rs place → AreFew (seconds rs) joined
+pub pending_is_bounded : (p : ℕ) (cmp : Monomial → Monomial → Ordering) (gs : List Terms) (rs qs : List PairRecord) (paired again place : ℕ) (old new : Spending) → again ≡ paired → ArePairs p cmp gs qs again → IsPendingAt rs place → AreFew (seconds rs) paired
     → IsPairsBound p cmp gs (settled_count rs + 1) old new → IsCompletionBound p cmp gs old new
-pending_is_bounded p cmp gs rs qs joined again place old new same pairs pending few bound =
-    let within : joined ≤ length gs = omega (arith, pairs.joined_within, same) in
-    more_pairs p cmp gs (settled_count rs + 1) (length gs * length gs) old new (pending_square rs joined (length gs) place within pending few) bound
+pending_is_bounded p cmp gs rs qs paired again place old new same pairs pending few bound =
+    let within : paired ≤ length gs = omega (arith, pairs.paired_within, same) in
+    more_pairs p cmp gs (settled_count rs + 1) (length gs * length gs) old new (pending_square rs paired (length gs) place within pending few) bound

@@ -19,7 +19,7 @@ use Rattle.ffc_mono.specs.Leading.{IsLeading}
 use Rattle.ffc_mono.proofs.LeadingLemmas.{one_leading}
 use Rattle.ffc_basis.specs.declared.chain.Top.{Top}
 use Rattle.ffc_basis.specs.declared.leads.Whole.{Whole}
-use Rattle.ffc_basis.specs.Chains.{IsUnder, IsTop, IsWhole, IsNoHigher}
+use Rattle.ffc_basis.specs.Chains.{IsUnder, IsTop, IsWholeOfPair, IsNoHigher}
 use Rattle.ffc_basis.specs.Completion.{IsSPolynomial, ReducesToZero, IsPairClosed}
 use Rattle.ffc_basis.specs.Lines.{Parts, AreLists, combination, AreBefore, AreTermLists, HasMonomial}
 use Rattle.ffc_basis.specs.PairTable.{AreBothClosed}
@@ -342,7 +342,7 @@ module _ (p : ℕ) (prime : IsPrime p) (cmp : Monomial → Monomial → Ordering
       low (ap (λ y. cmp (mono_mul u y) lead) (one_leading cmp laws p s some.0 d x k some.1 is).1 ∙ above)
 
   -- the same by the leading monomials of the S-polynomials
-  pub whole_chain_closes : (gs : List Terms) → AreLists gs → (i j k : ℕ) (whole first second : Whole) (lead : Monomial) → IsWhole p cmp gs i j whole → IsWhole p cmp gs i k first → IsWhole p cmp gs k j second → whole.lead ≡ Some lead
+  pub whole_chain_closes : (gs : List Terms) → AreLists gs → (i j k : ℕ) (whole first second : Whole) (lead : Monomial) → IsWholeOfPair p cmp gs i j whole → IsWholeOfPair p cmp gs i k first → IsWholeOfPair p cmp gs k j second → whole.lead ≡ Some lead
       → IsNoHigher cmp first whole.lcm lead → IsNoHigher cmp second whole.lcm lead → IsPairClosed p cmp gs i k → IsPairClosed p cmp gs k j → AreBothClosed p cmp gs i j
   whole_chain_closes gs lists i j k whole first second lead is one two leads (u, v, up, below) (w, t, also, under) one_closed two_closed =
       let a = get_or gs i [] in

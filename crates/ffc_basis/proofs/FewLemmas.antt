@@ -6,7 +6,7 @@ use Rattle.std.proofs.lemmas.Bool.Decides.{nat_tests}
 use Rattle.ffc_basis.specs.declared.pair.PairRecord.{PairRecord}
 use Rattle.ffc_basis.specs.declared.pair.PairState.{PairState}
 use Rattle.ffc_basis.specs.declared.pair.PairState.TheVariants.{Pending, Closed, Over}
-use Rattle.ffc_basis.specs.PairTable.{forgotten, count_below, seconds, AreFew, ArePendingOf, IsJoined, IsPendingAt, settled_one, settled_count}
+use Rattle.ffc_basis.specs.PairTable.{forgotten, count_below, seconds, AreFew, ArePendingOf, IsPaired, IsPendingAt, settled_one, settled_count}
 
 -- ---- counts of numbers
 
@@ -50,28 +50,28 @@ settled_one_at_most (Over n) = omega arith
 
 -- ---- few pairs
 
-pub few_none : (ks : List ℕ) (joined : ℕ) → ks ≡ [] → joined ≡ 0 → AreFew ks joined
-few_none ks joined none first = subst (λ l. AreFew l joined) (sym none) record { all = omega arith; first = λ n h. omega arith }
+pub few_none : (ks : List ℕ) (paired : ℕ) → ks ≡ [] → paired ≡ 0 → AreFew ks paired
+few_none ks paired none first = subst (λ l. AreFew l paired) (sym none) record { all = omega arith; first = λ n h. omega arith }
 
--- all joined lines are kept
-few_cut_all : (ks : List ℕ) (joined len : ℕ) → joined ≤ len → AreFew ks joined → AreFew (filter (λ k. nat_lt k len) ks) joined
-few_cut_all ks joined len h v = record {
+-- all paired lines are kept
+few_cut_all : (ks : List ℕ) (paired len : ℕ) → paired ≤ len → AreFew ks paired → AreFew (filter (λ k. nat_lt k len) ks) paired
+few_cut_all ks paired len h v = record {
   all = omega (arith, length-kept len ks, count_at_most len ks, v.all);
   first = λ n low. omega (arith, count-kept n len ks, v.first n low);
 }
 
-few_cut_some : (ks : List ℕ) (joined len : ℕ) → len ≤ joined → AreFew ks joined → AreFew (filter (λ k. nat_lt k len) ks) len
-few_cut_some ks joined len h v = record {
+few_cut_some : (ks : List ℕ) (paired len : ℕ) → len ≤ paired → AreFew ks paired → AreFew (filter (λ k. nat_lt k len) ks) len
+few_cut_some ks paired len h v = record {
   all = omega (arith, length-kept len ks, v.first len h);
   first = λ n low. omega (arith, count-kept n len ks, v.first n (omega arith));
 }
 
-pub few_cut : (ks : List ℕ) (joined len : ℕ) → AreFew ks joined → AreFew (filter (λ k. nat_lt k len) ks) (min joined len)
-few_cut ks joined len v =
-    elim (cases_order joined len) [
-      | inl same ↦ subst (AreFew (filter (λ k. nat_lt k len) ks)) (sym (min-eq_left (omega arith))) (few_cut_all ks joined len (omega arith) v)
-      | inr (inl less) ↦ subst (AreFew (filter (λ k. nat_lt k len) ks)) (sym (min-eq_left (omega arith))) (few_cut_all ks joined len (omega arith) v)
-      | inr (inr more) ↦ subst (AreFew (filter (λ k. nat_lt k len) ks)) (sym (min-eq_right (omega arith))) (few_cut_some ks joined len (omega arith) v)
+pub few_cut : (ks : List ℕ) (paired len : ℕ) → AreFew ks paired → AreFew (filter (λ k. nat_lt k len) ks) (min paired len)
+few_cut ks paired len v =
+    elim (cases_order paired len) [
+      | inl same ↦ subst (AreFew (filter (λ k. nat_lt k len) ks)) (sym (min-eq_left (omega arith))) (few_cut_all ks paired len (omega arith) v)
+      | inr (inl less) ↦ subst (AreFew (filter (λ k. nat_lt k len) ks)) (sym (min-eq_left (omega arith))) (few_cut_all ks paired len (omega arith) v)
+      | inr (inr more) ↦ subst (AreFew (filter (λ k. nat_lt k len) ks)) (sym (min-eq_right (omega arith))) (few_cut_some ks paired len (omega arith) v)
     ]
 
 -- ---- the second lines of pairs
@@ -97,12 +97,12 @@ seconds-filter len (r ∷ rs) =
       | false ↦ seconds-filter len rs
     ]
 
-pub few_pairs_cut : (rs new : List PairRecord) (joined less len : ℕ) → new ≡ map (forgotten len) (filter (λ r. nat_lt r.second len) rs) → less ≡ min joined len → AreFew (seconds rs) joined → AreFew (seconds new) less
-few_pairs_cut rs new joined less len is low v =
+pub few_pairs_cut : (rs new : List PairRecord) (paired less len : ℕ) → new ≡ map (forgotten len) (filter (λ r. nat_lt r.second len) rs) → less ≡ min paired len → AreFew (seconds rs) paired → AreFew (seconds new) less
+few_pairs_cut rs new paired less len is low v =
     subst (λ ks. AreFew ks less) (sym (ap seconds is ∙ seconds-forgotten len (filter (λ r. nat_lt r.second len) rs) ∙ seconds-filter len rs))
-    (subst (AreFew (filter (λ k. nat_lt k len) (seconds rs))) (sym low) (few_cut (seconds rs) joined len v))
+    (subst (AreFew (filter (λ k. nat_lt k len) (seconds rs))) (sym low) (few_cut (seconds rs) paired len v))
 
--- ---- a line is joined
+-- ---- a line is paired
 
 count_of_line : (line n : ℕ) (more : List PairRecord) → n ≤ line → ArePendingOf line more → count_below n (seconds more) ≡ 0
 count_of_line line n [] h v = refl
@@ -114,8 +114,8 @@ length-seconds : (rs : List PairRecord) → length (seconds rs) ≡ length rs
 length-seconds [] = refl
 length-seconds (r ∷ rs) = ap suc (length-seconds rs)
 
-pub few_joined : (old new : List PairRecord) (line : ℕ) → AreFew (seconds old) line → IsJoined line line old new → AreFew (seconds new) (line + 1)
-few_joined old new line v (more, is, of_line, short) =
+pub few_paired : (old new : List PairRecord) (line : ℕ) → AreFew (seconds old) line → IsPaired line line old new → AreFew (seconds new) (line + 1)
+few_paired old new line v (more, is, of_line, short) =
     let whole : seconds new ≡ seconds old ++ seconds more = ap seconds is ∙ seconds-append old more in
     let square : (line + 1) * (line + 1) ≡ line * line + line + line + 1 = omega arith in
     let all : length (seconds new) ≤ line * line + line = omega (arith, ap length whole, length-append (seconds old) (seconds more), length-seconds more, v.all) in
@@ -152,8 +152,8 @@ settled-append : (rs qs : List PairRecord) → settled_count (rs ++ qs) ≡ sett
 settled-append [] qs = omega arith
 settled-append (r ∷ rs) qs = omega (arith, settled-append rs qs)
 
-pub settled_joined : (old new : List PairRecord) (line most : ℕ) → IsJoined line most old new → settled_count new ≡ settled_count old
-settled_joined old new line most (more, is, of_line, short) =
+pub settled_paired : (old new : List PairRecord) (line most : ℕ) → IsPaired line most old new → settled_count new ≡ settled_count old
+settled_paired old new line most (more, is, of_line, short) =
     ap settled_count is ∙ settled-append old more ∙ (let none = settled-pending line more of_line in omega arith)
 
 pub settled_set : (rs : List PairRecord) (place : ℕ) (r : PairRecord) → IsPendingAt rs place → settled_one r.state ≡ 1 → settled_count (set rs place r) ≡ settled_count rs + 1
@@ -178,26 +178,26 @@ pending_push : (line : ℕ) (more : List PairRecord) (r : PairRecord) → r.seco
 pending_push line [] r e f v = (e, f, tt)
 pending_push line (x ∷ more) r e f v = (v.0, v.1, pending_push line more r e f v.2)
 
-pub joins_nothing : (line : ℕ) (old : List PairRecord) → IsJoined line 0 old old
-joins_nothing line old = ([], sym (append-nil old), tt, omega arith)
+pub pairs_nothing : (line : ℕ) (old : List PairRecord) → IsPaired line 0 old old
+pairs_nothing line old = ([], sym (append-nil old), tt, omega arith)
 
-pub joins_more : (line most more : ℕ) (old new : List PairRecord) → most ≤ more → IsJoined line most old new → IsJoined line more old new
-joins_more line most more old new h (qs, is, of_line, short) = (qs, is, of_line, omega arith)
+pub pairs_more : (line most more : ℕ) (old new : List PairRecord) → most ≤ more → IsPaired line most old new → IsPaired line more old new
+pairs_more line most more old new h (qs, is, of_line, short) = (qs, is, of_line, omega arith)
 
-pub joins_one : (line most : ℕ) (old mid new : List PairRecord) (r : PairRecord) → r.second ≡ line → r.state ≡ Pending → new ≡ mid ++ r ∷ [] → IsJoined line most old mid → IsJoined line (most + 1) old new
-joins_one line most old mid new r e f is (qs, are, of_line, short) = (
+pub pairs_one : (line most : ℕ) (old mid new : List PairRecord) (r : PairRecord) → r.second ≡ line → r.state ≡ Pending → new ≡ mid ++ r ∷ [] → IsPaired line most old mid → IsPaired line (most + 1) old new
+pairs_one line most old mid new r e f is (qs, are, of_line, short) = (
   qs ++ r ∷ [],
   is ∙ ap (λ l. l ++ r ∷ []) are ∙ append_assoc old qs (r ∷ []),
   pending_push line qs r e f of_line,
   omega (arith, length-append qs (r ∷ [])),
 )
 
-pub few_same : (rs qs : List PairRecord) (joined again : ℕ) → seconds qs ≡ seconds rs → again ≡ joined → AreFew (seconds rs) joined → AreFew (seconds qs) again
-few_same rs qs joined again same is v = subst (λ ks. AreFew ks again) (sym same) (subst (AreFew (seconds rs)) (sym is) v)
+pub few_same : (rs qs : List PairRecord) (paired again : ℕ) → seconds qs ≡ seconds rs → again ≡ paired → AreFew (seconds rs) paired → AreFew (seconds qs) again
+few_same rs qs paired again same is v = subst (λ ks. AreFew ks again) (sym same) (subst (AreFew (seconds rs)) (sym is) v)
 
 -- there are at most as many settled pairs as pairs of lines, and fewer where one is pending
-pub settled_square : (rs : List PairRecord) (joined n : ℕ) → joined ≤ n → AreFew (seconds rs) joined → settled_count rs ≤ n * n
-settled_square rs joined n h v = omega (arith, settled_at_most rs, v.all, mul-le-mul h h)
+pub settled_square : (rs : List PairRecord) (paired n : ℕ) → paired ≤ n → AreFew (seconds rs) paired → settled_count rs ≤ n * n
+settled_square rs paired n h v = omega (arith, settled_at_most rs, v.all, mul-le-mul h h)
 
-pub pending_square : (rs : List PairRecord) (joined n place : ℕ) → joined ≤ n → IsPendingAt rs place → AreFew (seconds rs) joined → settled_count rs + 1 ≤ n * n
-pending_square rs joined n place h pending v = omega (arith, settled_and_pending rs place pending, v.all, mul-le-mul h h)
+pub pending_square : (rs : List PairRecord) (paired n place : ℕ) → paired ≤ n → IsPendingAt rs place → AreFew (seconds rs) paired → settled_count rs + 1 ≤ n * n
+pending_square rs paired n place h pending v = omega (arith, settled_and_pending rs place pending, v.all, mul-le-mul h h)

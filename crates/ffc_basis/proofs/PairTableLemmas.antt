@@ -83,16 +83,16 @@ module _ (p : ℕ) (cmp : Monomial → Monomial → Ordering) where
   needless_alike : (a b c d : Terms) → a ≡ c → b ≡ d → AreNeedless p cmp a b → AreNeedless p cmp c d
   needless_alike a b c d e f v = subst (λ x. AreNeedless p cmp x d) e (subst (AreNeedless p cmp a) f v)
 
-  pub pairs_grown : (gs more : List Terms) (rs : List PairRecord) (joined : ℕ) → AreLists (gs ++ more) → ArePairs p cmp gs rs joined → ArePairs p cmp (gs ++ more) rs joined
-  pairs_grown gs more rs joined lists v = record {
+  pub pairs_grown : (gs more : List Terms) (rs : List PairRecord) (paired : ℕ) → AreLists (gs ++ more) → ArePairs p cmp gs rs paired → ArePairs p cmp (gs ++ more) rs paired
+  pairs_grown gs more rs paired lists v = record {
     lists = lists;
-    joined_within = omega (arith, v.joined_within, length-append gs more);
+    paired_within = omega (arith, v.paired_within, length-append gs more);
     records = records_grown gs more rs v.records;
     covered = λ i j h g.
         elim (v.covered i j h g) [
           | inl there ↦ inl there
           | inr needless ↦
-              let within = v.joined_within in
+              let within = v.paired_within in
               inr (needless_alike (get_or gs i []) (get_or gs j []) (get_or (gs ++ more) i []) (get_or (gs ++ more) j [])
               (sym (get_or-append gs more [] i (omega arith))) (sym (get_or-append gs more [] j (omega arith))) needless)
         ];
@@ -152,9 +152,9 @@ module _ (p : ℕ) (cmp : Monomial → Monomial → Ordering) where
   has_cut len (r ∷ rs) i j low (inl here) = has_cut_first len r rs i j (nat_lt r.second len) refl low (inl here)
   has_cut len (r ∷ rs) i j low (inr there) = has_cut_first len r rs i j (nat_lt r.second len) refl low (inr (has_cut len rs i j low there))
 
-  pub pairs_cut : (gs : List Terms) (rs : List PairRecord) (joined len : ℕ) → len ≤ length gs → ArePairs p cmp gs rs joined → ArePairs p cmp (take len gs) (map (forgotten len) (filter (λ r. nat_lt r.second len) rs)) (min joined len)
-  pairs_cut gs rs joined len h v = record {
-    joined_within = omega (arith, length-take-le len gs h);
+  pub pairs_cut : (gs : List Terms) (rs : List PairRecord) (paired len : ℕ) → len ≤ length gs → ArePairs p cmp gs rs paired → ArePairs p cmp (take len gs) (map (forgotten len) (filter (λ r. nat_lt r.second len) rs)) (min paired len)
+  pairs_cut gs rs paired len h v = record {
+    paired_within = omega (arith, length-take-le len gs h);
     lists = lists_take len gs v.lists;
     records = records_cut gs len rs h v.records;
     covered = λ i j low below.
@@ -182,10 +182,10 @@ module _ (p : ℕ) (cmp : Monomial → Monomial → Ordering) where
   records_push gs (x ∷ rs) r v w = (v.0, records_push gs rs r v.1 w)
 
   -- a pending pair more
-  pub pairs_push : (gs : List Terms) (rs : List PairRecord) (joined : ℕ) (r : PairRecord) → r.first < r.second → r.second < length gs → r.state ≡ Pending → ArePairs p cmp gs rs joined → ArePairs p cmp gs (rs ++ r ∷ []) joined
-  pairs_push gs rs joined r h g is v = record {
+  pub pairs_push : (gs : List Terms) (rs : List PairRecord) (paired : ℕ) (r : PairRecord) → r.first < r.second → r.second < length gs → r.state ≡ Pending → ArePairs p cmp gs rs paired → ArePairs p cmp gs (rs ++ r ∷ []) paired
+  pairs_push gs rs paired r h g is v = record {
     lists = v.lists;
-    joined_within = v.joined_within;
+    paired_within = v.paired_within;
     records = records_push gs rs r v.records record { ordered = h; within = g; state = subst (IsState p cmp gs r.first r.second) (sym is) tt };
     covered = λ i j low below.
         elim (v.covered i j low below) [ inl there ↦ inl (has_push rs r i j there) | inr needless ↦ inr needless ];
@@ -212,10 +212,10 @@ module _ (p : ℕ) (cmp : Monomial → Monomial → Ordering) where
       ]
 
   -- so each pair of one line more is
-  pub pairs_joined : (gs : List Terms) (rs : List PairRecord) (second : ℕ) → second < length gs → ArePairs p cmp gs rs second → IsColumn gs rs second second → ArePairs p cmp gs rs (second + 1)
-  pairs_joined gs rs second h v column = record {
+  pub pairs_paired : (gs : List Terms) (rs : List PairRecord) (second : ℕ) → second < length gs → ArePairs p cmp gs rs second → IsColumn gs rs second second → ArePairs p cmp gs rs (second + 1)
+  pairs_paired gs rs second h v column = record {
     lists = v.lists;
-    joined_within = omega (arith, h);
+    paired_within = omega (arith, h);
     records = v.records;
     covered = λ i j low below.
         elim (last_or_before j second below) [
@@ -242,17 +242,17 @@ module _ (p : ℕ) (cmp : Monomial → Monomial → Ordering) where
   record_at gs (r ∷ rs) zero x v h = v.0
   record_at gs (r ∷ rs) (suc place) x v h = record_at gs rs place x v.1 (omega arith)
 
-  pub record_is : (gs : List Terms) (rs : List PairRecord) (joined place : ℕ) (x : PairRecord) → ArePairs p cmp gs rs joined → place < length rs → get_or rs place x ≡ x → IsRecord p cmp gs x
-  record_is gs rs joined place x v h is = subst (IsRecord p cmp gs) is (record_at gs rs place x v.records h)
+  pub record_is : (gs : List Terms) (rs : List PairRecord) (paired place : ℕ) (x : PairRecord) → ArePairs p cmp gs rs paired → place < length rs → get_or rs place x ≡ x → IsRecord p cmp gs x
+  record_is gs rs paired place x v h is = subst (IsRecord p cmp gs) is (record_at gs rs place x v.records h)
 
   -- more is known of a pair
-  pub pairs_set : (gs : List Terms) (rs : List PairRecord) (joined place : ℕ) (x r : PairRecord) → place < length rs → get_or rs place x ≡ x → r.first ≡ x.first → r.second ≡ x.second
-      → IsState p cmp gs x.first x.second r.state → ArePairs p cmp gs rs joined → ArePairs p cmp gs (set rs place r) joined
-  pairs_set gs rs joined place x r h is e f state v =
-      let old = record_is gs rs joined place x v h is in
+  pub pairs_set : (gs : List Terms) (rs : List PairRecord) (paired place : ℕ) (x r : PairRecord) → place < length rs → get_or rs place x ≡ x → r.first ≡ x.first → r.second ≡ x.second
+      → IsState p cmp gs x.first x.second r.state → ArePairs p cmp gs rs paired → ArePairs p cmp gs (set rs place r) paired
+  pairs_set gs rs paired place x r h is e f state v =
+      let old = record_is gs rs paired place x v h is in
       record {
         lists = v.lists;
-        joined_within = v.joined_within;
+        paired_within = v.paired_within;
         records = records_set gs rs place r v.records record {
           ordered = omega (arith, old.ordered, e, f);
           within = omega (arith, old.within, f);
@@ -350,8 +350,8 @@ module _ (p : ℕ) (cmp : Monomial → Monomial → Ordering) where
     answer_is gs (t ∷ ts) over v = record { some = λ none. absurd (no_list t ts none); over = over; others = v }
 
     -- then the answer is right
-    pub settled_answer_is : (gs : List Terms) (rs : List PairRecord) (joined : ℕ) → joined ≡ length gs → AreSettled rs → ArePairs p cmp gs rs joined → IsCompletion p cmp gs (answer_of (over_of rs))
-    settled_answer_is gs rs joined all done v =
+    pub settled_answer_is : (gs : List Terms) (rs : List PairRecord) (paired : ℕ) → paired ≡ length gs → AreSettled rs → ArePairs p cmp gs rs paired → IsCompletion p cmp gs (answer_of (over_of rs))
+    settled_answer_is gs rs paired all done v =
         let w = subst (ArePairs p cmp gs rs) all v in
         answer_is gs (over_of rs) (are_over gs rs v.records) (others gs rs done w)
 

@@ -67,7 +67,7 @@ pub record IsTop (p : ℕ) (cmp : Monomial → Monomial → Ordering) (a b : Ter
 
 -- the least common multiple of the leading monomials of two lines, and the leading monomial of their S-polynomial,
 -- which may be 0
-pub record IsWhole (p : ℕ) (cmp : Monomial → Monomial → Ordering) (gs : List Terms) (i j : ℕ) (t : Whole) : Type 0 where
+pub record IsWholeOfPair (p : ℕ) (cmp : Monomial → Monomial → Ordering) (gs : List Terms) (i j : ℕ) (t : Whole) : Type 0 where
   pub first_coefficient : ℕ
   pub first : Monomial
   pub second_coefficient : ℕ

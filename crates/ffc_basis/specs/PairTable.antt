@@ -43,14 +43,14 @@ HasRecord (r ∷ rs) i j = ((r.first ≡ i) × (r.second ≡ j)) ⊎ HasRecord r
 
 -- each pair of the first lines is there or needless
 abbrev pub IsCovered : ℕ → (Monomial → Monomial → Ordering) → List Terms → List PairRecord → ℕ → Type 0
-IsCovered p cmp gs rs joined =
-    (i j : ℕ) → i < j → j < joined → HasRecord rs i j ⊎ AreNeedless p cmp (get_or gs i []) (get_or gs j [])
+IsCovered p cmp gs rs paired =
+    (i j : ℕ) → i < j → j < paired → HasRecord rs i j ⊎ AreNeedless p cmp (get_or gs i []) (get_or gs j [])
 
-pub record ArePairs (p : ℕ) (cmp : Monomial → Monomial → Ordering) (gs : List Terms) (rs : List PairRecord) (joined : ℕ) : Type 0 where
-  pub joined_within : joined ≤ length gs
+pub record ArePairs (p : ℕ) (cmp : Monomial → Monomial → Ordering) (gs : List Terms) (rs : List PairRecord) (paired : ℕ) : Type 0 where
+  pub paired_within : paired ≤ length gs
   pub lists : AreLists gs
   pub records : AreRecords p cmp gs rs
-  pub covered : IsCovered p cmp gs rs joined
+  pub covered : IsCovered p cmp gs rs paired
 
 -- how many of these numbers are below n
 abbrev pub count_below : ℕ → List ℕ → ℕ
@@ -61,10 +61,10 @@ count_below n (k ∷ ks) = (if nat_lt k n then 1 else 0) + count_below n ks
 abbrev pub seconds : List PairRecord → List ℕ
 seconds rs = map (λ r. r.second) rs
 
--- of the first n lines there are at most n*n pairs, and of all joined lines
-pub record AreFew (ks : List ℕ) (joined : ℕ) : Type 0 where
-  pub all : length ks ≤ joined * joined
-  pub first : (n : ℕ) → n ≤ joined → count_below n ks ≤ n * n
+-- of the first n lines there are at most n*n pairs, and of all paired lines
+pub record AreFew (ks : List ℕ) (paired : ℕ) : Type 0 where
+  pub all : length ks ≤ paired * paired
+  pub first : (n : ℕ) → n ≤ paired → count_below n ks ≤ n * n
 
 -- pending pairs of one line with others
 abbrev pub ArePendingOf : ℕ → List PairRecord → Type 0
@@ -72,8 +72,8 @@ ArePendingOf line [] = Unit {0}
 ArePendingOf line (r ∷ rs) = (r.second ≡ line) × (r.state ≡ Pending) × ArePendingOf line rs
 
 -- at most so many pending pairs of the line are appended
-abbrev pub IsJoined : ℕ → ℕ → List PairRecord → List PairRecord → Type 0
-IsJoined line most old new = (more : List PairRecord) × (new ≡ old ++ more) × ArePendingOf line more × (length more ≤ most)
+abbrev pub IsPaired : ℕ → ℕ → List PairRecord → List PairRecord → Type 0
+IsPaired line most old new = (more : List PairRecord) × (new ≡ old ++ more) × ArePendingOf line more × (length more ≤ most)
 
 -- the pair at this place is pending
 abbrev pub IsPendingAt : List PairRecord → ℕ → Type 0

@@ -8,12 +8,7 @@ use Rattle.ffc_ring.specs.Polynomial.{Terms, coefficient}
 use Rattle.ffc_ring.specs.Counting.{IsIn}
 use Rattle.ffc_mono.specs.Graded.{IsGradedIn}
 
--- a meter of the same budget, of which no unit was given back
-pub record Takes (old new : Spending) : Type 0 where
-  pub same_budget : new.budget ≡ old.budget
-  pub taken : total old ≤ total new
-
--- and of which only units of reduction were taken
+-- only units of reduction were taken
 pub record TakesReductions (old new : Spending) : Type 0 where
   pub same_budget : new.budget ≡ old.budget
   pub trials : new.trials ≡ old.trials

@@ -1,21 +1,19 @@
 //! Bases.
 ghost use Rattle.std.specs.Prelude.{◌≡◌, ◌≤◌, [], length, vec_len, take, IfOk, IfSome, IfNone, OnOk, OnErr, IsErrOf};
-ghost use Rattle.ffc_base.specs.Metering.{total};
+ghost use Rattle.ffc_base.specs.Metering.{Metered};
 ghost use Rattle.ffc_ring.specs.Polynomial.{SamePolynomial, difference};
 ghost use Rattle.ffc_basis.specs.Completion.{ReducesToZero};
 ghost use Rattle.ffc_basis.specs.Completed.{IsFront, IsCompletion, IsProgress, HasTaken};
-ghost use Rattle.ffc_basis.specs.Units.{Takes, TakesReductions, IsReductionBound, IsCompletionBound};
+ghost use Rattle.ffc_basis.specs.Units.{TakesReductions, IsReductionBound, IsCompletionBound};
 ghost use Rattle.ffc_basis.specs.Lines.{polys_of, combination, AreBefore, AreLines, ArePolynomials, AreGenerators};
 ghost use Rattle.ffc_basis.specs.Lines.{AreLists, IsAddedTo};
 ghost use Rattle.ffc_basis.specs.Reduction.{ArePartsAtMost, IsReduced, IsStopped};
-ghost use Rattle.ffc_basis.specs.declared.stop.BasisStop.TheVariants as stops;
 
 use crate::completion::{Completion, Progress};
 use crate::line::Line;
 use crate::pairing::{Pairing, advance};
 use crate::reduction::{Reduced, reduce_by};
-use crate::stop::BasisStop;
-use ffc_base::Meter;
+use ffc_base::{Meter, Stop};
 use ffc_field::Field;
 use ffc_mono::MonoOrder;
 use ffc_poly::Poly;
@@ -49,8 +47,8 @@ impl<F: Field, O: MonoOrder> Model for Basis<F, O> {
     ghost view = { λ b. b.lines.items };
 
     ghost invariant = { λ b. AreLines F.ORDER b.lines.items
-        × ArePairs F.ORDER O.cmp (polys_of b.lines.items) b.pairing.records.items b.pairing.joined
-        × AreFew (seconds b.pairing.records.items) b.pairing.joined };
+        × ArePairs F.ORDER O.cmp (polys_of b.lines.items) b.pairing.records.items b.pairing.paired
+        × AreFew (seconds b.pairing.records.items) b.pairing.paired };
 }
 
 impl<F: Field, O: MonoOrder> Basis<F, O> {
@@ -111,21 +109,20 @@ impl<F: Field, O: MonoOrder> Basis<F, O> {
     /// Completes the basis by Buchberger's algorithm (Buchberger 1965; Cox, Little and O'Shea, chapter 2, section 7). Each
     /// S-polynomial that is formed and each multiple that is subtracted is one Reduction. At Spent the lines so far stand,
     /// and a later call goes on with them.
-    pub fn complete(&mut self, meter: &mut Meter) -> Result<Completion, BasisStop>
+    pub fn complete(&mut self, meter: &mut Meter) -> Result<Completion, Stop>
         ensures stays { IsFront F.ORDER O.cmp self.old self.new }
         ensures found { IfOk result (IsCompletion F.ORDER O.cmp (polys_of self.new)) }
-        ensures spent { IsErrOf result stops.Spent → total meter.new ≡ meter.new.budget }
-        ensures takes { Takes meter.old meter.new }
+        ensures metered { Metered Stop.Spent result meter.old meter.new }
         ensures reductions { TakesReductions meter.old meter.new }
-        ensures bound { (IsErrOf result stops.Memory → ⊥) → IsCompletionBound F.ORDER O.cmp (polys_of self.new)
+        ensures bound { (IsErrOf result Stop.Memory → ⊥) → IsCompletionBound F.ORDER O.cmp (polys_of self.new)
             meter.old meter.new }
-        ensures unchanged { IsErrOf result stops.Memory → self.new ≡ self.old }
+        ensures unchanged { IsErrOf result Stop.Memory → self.new ≡ self.old }
     {
         match self.complete_within(u64::MAX, meter) {
             Ok(Progress::Done(completion)) => Ok(completion),
             Ok(Progress::Left) => {
                 let _budget = meter.budget();
-                Err(BasisStop::Spent)
+                Err(Stop::Spent)
             }
             Err(stop) => Err(stop),
         }
@@ -135,24 +132,23 @@ impl<F: Field, O: MonoOrder> Basis<F, O> {
     /// other S-polynomials, and are all done, also past the units: a pair simplifies where both lines are linear, or where one
     /// line's leading monomial divides that of the other line and it is no longer. With no units no other pair is reduced.
     /// The units are looked at between two pairs, so a call with at least one unit goes on by at least one pair.
-    pub fn complete_within(&mut self, units: u64, meter: &mut Meter) -> Result<Progress, BasisStop>
+    pub fn complete_within(&mut self, units: u64, meter: &mut Meter) -> Result<Progress, Stop>
         ensures stays { IsFront F.ORDER O.cmp self.old self.new }
         ensures found { IfOk result (IsProgress F.ORDER O.cmp (polys_of self.new)) }
         ensures left { IfOk result (HasTaken meter.old meter.new units) }
-        ensures spent { IsErrOf result stops.Spent → total meter.new ≡ meter.new.budget }
-        ensures takes { Takes meter.old meter.new }
+        ensures metered { Metered Stop.Spent result meter.old meter.new }
         ensures reductions { TakesReductions meter.old meter.new }
-        ensures bound { (IsErrOf result stops.Memory → ⊥) → IsCompletionBound F.ORDER O.cmp (polys_of self.new)
+        ensures bound { (IsErrOf result Stop.Memory → ⊥) → IsCompletionBound F.ORDER O.cmp (polys_of self.new)
             meter.old meter.new }
-        ensures unchanged { IsErrOf result stops.Memory → self.new ≡ self.old }
+        ensures unchanged { IsErrOf result Stop.Memory → self.new ≡ self.old }
     {
         let count = self.lines.len();
         match advance(&mut self.lines, &mut self.pairing, units, meter) {
             Ok(progress) => Ok(progress),
-            Err(BasisStop::Spent) => Err(BasisStop::Spent),
-            Err(BasisStop::Memory) => {
+            Err(Stop::Spent) => Err(Stop::Spent),
+            Err(Stop::Memory) => {
                 self.cut(count);
-                Err(BasisStop::Memory)
+                Err(Stop::Memory)
             }
         }
     }
@@ -160,11 +156,7 @@ impl<F: Field, O: MonoOrder> Basis<F, O> {
     /// Reduces a polynomial by the lines: what is left of it is the polynomial minus the sum of the parts' multiples of
     /// lines, and no leading monomial of a line divides a monomial of it, unless a limit of polynomials is passed before. Each
     /// multiple that is subtracted is one Reduction.
-    pub fn reduce(
-        &mut self,
-        poly: &Poly<F, O>,
-        meter: &mut Meter,
-    ) -> Result<Reduced<F, O>, BasisStop>
+    pub fn reduce(&mut self, poly: &Poly<F, O>, meter: &mut Meter) -> Result<Reduced<F, O>, Stop>
         ensures difference { IfOk result (λ r. SamePolynomial F.ORDER r.rest
             (difference F.ORDER poly.now (combination (polys_of self.old) r.parts.items))) }
         ensures lines_exist { IfOk result (λ r. AreBefore (length self.old) r.parts.items) }
@@ -174,8 +166,7 @@ impl<F: Field, O: MonoOrder> Basis<F, O> {
         ensures reduced { IfOk result (λ r. IfNone r.over (IsReduced F.ORDER O.cmp (polys_of self.old) r.rest)) }
         ensures over { IfOk result (λ r. IfSome r.over (λ t.
             IsStopped F.ORDER O.cmp (polys_of self.old) r.rest r.parts.items t.0 t.1)) }
-        ensures spent { IsErrOf result stops.Spent → total meter.new ≡ meter.new.budget }
-        ensures takes { Takes meter.old meter.new }
+        ensures metered { Metered Stop.Spent result meter.old meter.new }
         ensures reductions { TakesReductions meter.old meter.new }
         ensures bound { IsReductionBound F.ORDER O.cmp (polys_of self.old) poly.now meter.old meter.new }
         ensures unchanged { self.new ≡ self.old }

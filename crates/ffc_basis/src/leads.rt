@@ -2,7 +2,7 @@
 //! monomials tell nothing of its leading monomial, so S-polynomials are made to compare those.
 ghost use Rattle.std.specs.Prelude.{◌≡◌, ℕ, ◌<◌, [], length, IsTrue, IfOk, IfSome, IfNone};
 ghost use Rattle.ffc_mono.specs.Leading.{IsLeading};
-ghost use Rattle.ffc_basis.specs.Chains.{IsWhole, IsNoHigher};
+ghost use Rattle.ffc_basis.specs.Chains.{IsWholeOfPair, IsNoHigher};
 ghost use Rattle.ffc_basis.specs.Completion.{IsPairClosed};
 ghost use Rattle.ffc_basis.specs.Lines.{polys_of, AreLists};
 ghost use Rattle.ffc_basis.specs.PairTable.{AreRecords, AreBothClosed};
@@ -50,7 +50,7 @@ fn whole_of<F: Field, O: MonoOrder>(
 ) -> Result<Option<Whole>, AllocError>
     requires first { i < length lines.now }
     requires second { j < length lines.now }
-    ensures { IfOk result (λ o. IfSome o (IsWhole F.ORDER O.cmp (polys_of lines.now) i j)) }
+    ensures { IfOk result (λ o. IfSome o (IsWholeOfPair F.ORDER O.cmp (polys_of lines.now) i j)) }
 {
     let a = &lines[i].poly;
     let b = &lines[j].poly;
@@ -118,7 +118,7 @@ fn follows<F: Field, O: MonoOrder>(
     requires first { i < length lines.now }
     requires second { j < length lines.now }
     requires third { third < length lines.now }
-    requires whole { IsWhole F.ORDER O.cmp (polys_of lines.now) i j whole.now }
+    requires whole { IsWholeOfPair F.ORDER O.cmp (polys_of lines.now) i j whole.now }
     requires lists { AreLists (polys_of lines.now) }
     requires first_closed { IsPairClosed F.ORDER O.cmp (polys_of lines.now) i third }
     requires second_closed { IsPairClosed F.ORDER O.cmp (polys_of lines.now) third j }
@@ -187,7 +187,7 @@ fn is_followed<F: Field, O: MonoOrder>(
     requires first { i < length lines.now }
     requires second { j < length lines.now }
     requires third { third < length lines.now }
-    requires whole { IsWhole F.ORDER O.cmp (polys_of lines.now) i j whole.now }
+    requires whole { IsWholeOfPair F.ORDER O.cmp (polys_of lines.now) i j whole.now }
     requires lists { AreLists (polys_of lines.now) }
     requires records { AreRecords F.ORDER O.cmp (polys_of lines.now) records.now }
     ensures { IfOk result (λ b. IsTrue b → AreBothClosed F.ORDER O.cmp (polys_of lines.now) i j) }

@@ -11,11 +11,9 @@ mod pairing;
 mod queue;
 mod reduction;
 mod spoly;
-mod stop;
 
 pub use basis::Basis;
 pub use completion::{Completion, Progress};
 pub use line::{Line, LineId};
 pub use pair::Pairs;
 pub use reduction::Reduced;
-pub use stop::BasisStop;

@@ -1,17 +1,16 @@
 //! The pairs of a basis, and what is known of each.
 ghost use Rattle.std.specs.Prelude.{◌≡◌, ◌+◌, ◌<◌, ◌≤◌, [], length, min, map, filter, nat_lt, vec_len, get_or, set};
-ghost use Rattle.std.specs.Prelude.{IfOk, IfSome, IfNone, OnOk, IsErrOf};
+ghost use Rattle.std.specs.Prelude.{IfOk, IfSome, IfNone, OnOk};
 ghost use Rattle.std.specs.Bool.{OnTrue, OnFalse};
-ghost use Rattle.ffc_base.specs.Metering.{total};
+ghost use Rattle.ffc_base.specs.Metering.{Metered};
 ghost use Rattle.ffc_basis.specs.Lines.{polys_of, AreLines, AreLists};
 ghost use Rattle.ffc_basis.specs.Completion.{IsConstantLine};
 ghost use Rattle.ffc_basis.specs.Completed.{IsFront, IsProgress, HasTaken};
 ghost use Rattle.ffc_basis.specs.Outcomes.{IsOutcome};
-ghost use Rattle.ffc_basis.specs.PairTable.{AreNeedless, ArePairs, AreRecords, AreFew, AreSettled, IsJoined};
+ghost use Rattle.ffc_basis.specs.PairTable.{AreNeedless, ArePairs, AreRecords, AreFew, AreSettled, IsPaired};
 ghost use Rattle.ffc_basis.specs.PairTable.{IsPendingAt, seconds, settled_count, known_by, forgotten, with_state};
 ghost use Rattle.ffc_basis.specs.PairTable.{over_of, answer_of};
 ghost use Rattle.ffc_basis.specs.Units.{TakesReductions, IsPairBound, IsPairsBound, IsCompletionBound};
-ghost use Rattle.ffc_basis.specs.declared.stop.BasisStop.TheVariants as stops;
 
 use crate::chain::is_chained;
 use crate::completion::{Completion, Progress};
@@ -19,8 +18,7 @@ use crate::line::Line;
 use crate::pair::{PairRecord, PairState, Pairs};
 use crate::queue::Queue;
 use crate::spoly::{Outcome, reduce_pair};
-use crate::stop::BasisStop;
-use ffc_base::{Meter, Unit};
+use ffc_base::{Meter, Stop, Unit};
 use ffc_field::Field;
 use ffc_mono::MonoOrder;
 use ffc_poly::Poly;
@@ -31,7 +29,7 @@ use std::alloc::{AllocError, Global};
 pub(crate) struct Pairing {
     records: Vec<PairRecord>,
     /// Of so many lines each pair is there.
-    joined: usize,
+    paired: usize,
     queue: Queue,
 }
 
@@ -39,11 +37,11 @@ impl Pairing {
     /// No pairs. It takes no memory.
     pub fn new(alloc: Global) -> Self
         ensures records { result.records.items ≡ [] }
-        ensures joined { result.joined ≡ 0 }
+        ensures paired { result.paired ≡ 0 }
     {
         Pairing {
             records: Vec::new(alloc),
-            joined: 0,
+            paired: 0,
             queue: Queue::new(alloc),
         }
     }
@@ -52,11 +50,11 @@ impl Pairing {
     pub fn cut(&mut self, len: usize)
         ensures records { self.new.records.items
             ≡ map (forgotten len) (filter (λ r. nat_lt r.second len) self.old.records.items) }
-        ensures joined { self.new.joined ≡ min self.old.joined len }
+        ensures paired { self.new.paired ≡ min self.old.paired len }
     {
         drop_after(&mut self.records, len);
         forget_after(&mut self.records, len);
-        self.joined = self.joined.min(len);
+        self.paired = self.paired.min(len);
         self.queue
             .cut(*self.records.allocator(), self.records.len());
     }
@@ -122,7 +120,7 @@ pub(crate) fn is_needed<F: Field, O: MonoOrder>(a: &Poly<F, O>, b: &Poly<F, O>) 
 }
 
 /// Makes the pairs of a line with the earlier ones.
-fn join_line<F: Field, O: MonoOrder>(
+fn pair_line<F: Field, O: MonoOrder>(
     alloc: Global,
     lines: &[Line<F, O>],
     records: &mut Vec<PairRecord>,
@@ -131,8 +129,8 @@ fn join_line<F: Field, O: MonoOrder>(
 ) -> Result<(), AllocError>
     requires within { second < length lines.now }
     requires pairs { ArePairs F.ORDER O.cmp (polys_of lines.now) records.old.items second }
-    ensures more { IsJoined second second records.old.items records.new.items }
-    ensures joined { OnOk result (ArePairs F.ORDER O.cmp (polys_of lines.now) records.new.items (second + 1)) }
+    ensures more { IsPaired second second records.old.items records.new.items }
+    ensures paired { OnOk result (ArePairs F.ORDER O.cmp (polys_of lines.now) records.new.items (second + 1)) }
 {
     for first in 0..second {
         if is_needed(&lines[first].poly, &lines[second].poly) {
@@ -149,22 +147,22 @@ fn join_line<F: Field, O: MonoOrder>(
 }
 
 /// Makes the pairs of the first line that has none yet. Without memory it has none still.
-fn join_next<F: Field, O: MonoOrder>(
+fn pair_next<F: Field, O: MonoOrder>(
     alloc: Global,
     lines: &[Line<F, O>],
     pairing: &mut Pairing,
 ) -> Result<(), AllocError>
-    requires within { pairing.old.joined < length lines.now }
-    requires pairs { ArePairs F.ORDER O.cmp (polys_of lines.now) pairing.old.records.items pairing.old.joined }
-    requires few { AreFew (seconds pairing.old.records.items) pairing.old.joined }
-    ensures pairs { ArePairs F.ORDER O.cmp (polys_of lines.now) pairing.new.records.items pairing.new.joined }
-    ensures few { AreFew (seconds pairing.new.records.items) pairing.new.joined }
+    requires within { pairing.old.paired < length lines.now }
+    requires pairs { ArePairs F.ORDER O.cmp (polys_of lines.now) pairing.old.records.items pairing.old.paired }
+    requires few { AreFew (seconds pairing.old.records.items) pairing.old.paired }
+    ensures pairs { ArePairs F.ORDER O.cmp (polys_of lines.now) pairing.new.records.items pairing.new.paired }
+    ensures few { AreFew (seconds pairing.new.records.items) pairing.new.paired }
     ensures settled { settled_count pairing.new.records.items ≡ settled_count pairing.old.records.items }
-    ensures joined { OnOk result (pairing.new.joined ≡ pairing.old.joined + 1) }
+    ensures paired { OnOk result (pairing.new.paired ≡ pairing.old.paired + 1) }
 {
-    let second = pairing.joined;
+    let second = pairing.paired;
     let count = pairing.records.len();
-    match join_line(
+    match pair_line(
         alloc,
         lines,
         &mut pairing.records,
@@ -172,7 +170,7 @@ fn join_next<F: Field, O: MonoOrder>(
         second,
     ) {
         Ok(()) => {
-            pairing.joined = second + 1;
+            pairing.paired = second + 1;
             Ok(())
         }
         Err(stop) => {
@@ -183,21 +181,21 @@ fn join_next<F: Field, O: MonoOrder>(
 }
 
 /// Makes the pairs of the lines that have none yet, and lets all pending pairs wait.
-fn join<F: Field, O: MonoOrder>(
+fn pair_lines<F: Field, O: MonoOrder>(
     alloc: Global,
     lines: &[Line<F, O>],
     pairing: &mut Pairing,
 ) -> Result<(), AllocError>
-    requires pairs { ArePairs F.ORDER O.cmp (polys_of lines.now) pairing.old.records.items pairing.old.joined }
-    requires few { AreFew (seconds pairing.old.records.items) pairing.old.joined }
-    ensures pairs { ArePairs F.ORDER O.cmp (polys_of lines.now) pairing.new.records.items pairing.new.joined }
-    ensures few { AreFew (seconds pairing.new.records.items) pairing.new.joined }
+    requires pairs { ArePairs F.ORDER O.cmp (polys_of lines.now) pairing.old.records.items pairing.old.paired }
+    requires few { AreFew (seconds pairing.old.records.items) pairing.old.paired }
+    ensures pairs { ArePairs F.ORDER O.cmp (polys_of lines.now) pairing.new.records.items pairing.new.paired }
+    ensures few { AreFew (seconds pairing.new.records.items) pairing.new.paired }
     ensures settled { settled_count pairing.new.records.items ≡ settled_count pairing.old.records.items }
-    ensures joined { OnOk result (pairing.new.joined ≡ length lines.now) }
+    ensures paired { OnOk result (pairing.new.paired ≡ length lines.now) }
 {
     pairing.queue.refresh(pairing.records.as_slice())?;
-    while pairing.joined < lines.len() {
-        join_next(alloc, lines, pairing)?;
+    while pairing.paired < lines.len() {
+        pair_next(alloc, lines, pairing)?;
     }
     Ok(())
 }
@@ -296,13 +294,13 @@ fn settle<F: Field, O: MonoOrder>(
     requires pending { IsPendingAt pairing.old.records.items place }
     requires pair { get_or pairing.old.records.items place pair ≡ pair }
     requires lines { AreLines F.ORDER lines.old.items }
-    requires pairs { ArePairs F.ORDER O.cmp (polys_of lines.old.items) pairing.old.records.items pairing.old.joined }
+    requires pairs { ArePairs F.ORDER O.cmp (polys_of lines.old.items) pairing.old.records.items pairing.old.paired }
     requires outcome { IsOutcome F.ORDER O.cmp (polys_of lines.old.items) pair.first pair.second outcome }
     ensures front { IsFront F.ORDER O.cmp lines.old.items lines.new.items }
     ensures lines { AreLines F.ORDER lines.new.items }
-    ensures pairs { ArePairs F.ORDER O.cmp (polys_of lines.new.items) pairing.new.records.items pairing.new.joined }
+    ensures pairs { ArePairs F.ORDER O.cmp (polys_of lines.new.items) pairing.new.records.items pairing.new.paired }
     ensures seconds { seconds pairing.new.records.items ≡ seconds pairing.old.records.items }
-    ensures joined { pairing.new.joined ≡ pairing.old.joined }
+    ensures paired { pairing.new.paired ≡ pairing.old.paired }
     ensures settled { OnOk result (settled_count pairing.new.records.items ≡ settled_count pairing.old.records.items
         + 1) }
 {
@@ -338,13 +336,13 @@ fn outcome_of<F: Field, O: MonoOrder>(
     i: usize,
     j: usize,
     meter: &mut Meter,
-) -> Result<Outcome<F, O>, BasisStop>
+) -> Result<Outcome<F, O>, Stop>
     requires first { i < length lines.now }
     requires second { j < length lines.now }
     requires records { AreRecords F.ORDER O.cmp (polys_of lines.now) records.now }
     requires lists { AreLists (polys_of lines.now) }
     ensures outcome { IfOk result (IsOutcome F.ORDER O.cmp (polys_of lines.now) i j) }
-    ensures spent { IsErrOf result stops.Spent → total meter.new ≡ meter.new.budget }
+    ensures metered { Metered Stop.Spent result meter.old meter.new }
     ensures takes { TakesReductions meter.old meter.new }
     ensures bound { IsPairBound F.ORDER O.cmp (polys_of lines.now) meter.old meter.new }
 {
@@ -360,18 +358,18 @@ fn treat<F: Field, O: MonoOrder>(
     pairing: &mut Pairing,
     place: usize,
     meter: &mut Meter,
-) -> Result<(), BasisStop>
+) -> Result<(), Stop>
     requires pending { IsPendingAt pairing.old.records.items place }
     requires lines { AreLines F.ORDER lines.old.items }
-    requires pairs { ArePairs F.ORDER O.cmp (polys_of lines.old.items) pairing.old.records.items pairing.old.joined }
+    requires pairs { ArePairs F.ORDER O.cmp (polys_of lines.old.items) pairing.old.records.items pairing.old.paired }
     ensures front { IsFront F.ORDER O.cmp lines.old.items lines.new.items }
     ensures lines { AreLines F.ORDER lines.new.items }
-    ensures pairs { ArePairs F.ORDER O.cmp (polys_of lines.new.items) pairing.new.records.items pairing.new.joined }
+    ensures pairs { ArePairs F.ORDER O.cmp (polys_of lines.new.items) pairing.new.records.items pairing.new.paired }
     ensures seconds { seconds pairing.new.records.items ≡ seconds pairing.old.records.items }
-    ensures joined { pairing.new.joined ≡ pairing.old.joined }
+    ensures paired { pairing.new.paired ≡ pairing.old.paired }
     ensures settled { OnOk result (settled_count pairing.new.records.items ≡ settled_count pairing.old.records.items
         + 1) }
-    ensures spent { IsErrOf result stops.Spent → total meter.new ≡ meter.new.budget }
+    ensures metered { Metered Stop.Spent result meter.old meter.new }
     ensures takes { TakesReductions meter.old meter.new }
     ensures bound { IsPairsBound F.ORDER O.cmp (polys_of lines.old.items) 1 meter.old meter.new }
     ensures forward { OnOk result (meter.old.reductions < meter.new.reductions) }
@@ -420,18 +418,18 @@ pub(crate) fn advance<F: Field, O: MonoOrder>(
     pairing: &mut Pairing,
     units: u64,
     meter: &mut Meter,
-) -> Result<Progress, BasisStop>
+) -> Result<Progress, Stop>
     requires lines { AreLines F.ORDER lines.old.items }
-    requires pairs { ArePairs F.ORDER O.cmp (polys_of lines.old.items) pairing.old.records.items pairing.old.joined }
-    requires few { AreFew (seconds pairing.old.records.items) pairing.old.joined }
+    requires pairs { ArePairs F.ORDER O.cmp (polys_of lines.old.items) pairing.old.records.items pairing.old.paired }
+    requires few { AreFew (seconds pairing.old.records.items) pairing.old.paired }
     ensures front { IsFront F.ORDER O.cmp lines.old.items lines.new.items }
     ensures lines { AreLines F.ORDER lines.new.items }
-    ensures pairs { ArePairs F.ORDER O.cmp (polys_of lines.new.items) pairing.new.records.items pairing.new.joined }
-    ensures few { AreFew (seconds pairing.new.records.items) pairing.new.joined }
+    ensures pairs { ArePairs F.ORDER O.cmp (polys_of lines.new.items) pairing.new.records.items pairing.new.paired }
+    ensures few { AreFew (seconds pairing.new.records.items) pairing.new.paired }
     ensures bound { IsCompletionBound F.ORDER O.cmp (polys_of lines.new.items) meter.old meter.new }
     ensures found { IfOk result (IsProgress F.ORDER O.cmp (polys_of lines.new.items)) }
     ensures left { IfOk result (HasTaken meter.old meter.new units) }
-    ensures spent { IsErrOf result stops.Spent → total meter.new ≡ meter.new.budget }
+    ensures metered { Metered Stop.Spent result meter.old meter.new }
     ensures takes { TakesReductions meter.old meter.new }
 {
     let alloc = *lines.allocator();
@@ -440,7 +438,7 @@ pub(crate) fn advance<F: Field, O: MonoOrder>(
     }
     let before = meter.count(Unit::Reduction);
     let mut taken = 0;
-    join(alloc, lines.as_slice(), pairing)?;
+    pair_lines(alloc, lines.as_slice(), pairing)?;
     while is_due(
         alloc,
         lines.as_slice(),
@@ -465,7 +463,7 @@ pub(crate) fn advance<F: Field, O: MonoOrder>(
         if is_constant_at(lines.as_slice(), count) {
             return Ok(Progress::Done(Completion::Constant(count as u64)));
         }
-        join(alloc, lines.as_slice(), pairing)?;
+        pair_lines(alloc, lines.as_slice(), pairing)?;
     }
     Ok(Progress::Left)
 }

@@ -1,7 +1,7 @@
 //! Reduction by the lines of a basis.
 ghost use Rattle.std.specs.Prelude.{◌≡◌, ◌≢◌, ℕ, ◌<◌, ◌⊎◌, [], ◌∷◌, ◌++◌, length, vec_len, get_or, IfOk, IfErr, IfSome};
 ghost use Rattle.std.specs.Prelude.{IfNone, OnOk, OnErr, IsErrOf};
-ghost use Rattle.ffc_base.specs.Metering.{total};
+ghost use Rattle.ffc_base.specs.Metering.{Metered};
 ghost use Rattle.ffc_field.specs.Modular.{mul_mod};
 ghost use Rattle.ffc_ring.specs.Monomial.{Divides, mono_mul};
 ghost use Rattle.ffc_ring.specs.Polynomial.{Terms, SamePolynomial, PassesTerms};
@@ -9,11 +9,9 @@ ghost use Rattle.ffc_basis.specs.Lines.{polys_of, HasPart, IsLineOfNone, ArePoly
 ghost use Rattle.ffc_basis.specs.Reduction.{IsIrreducible, IsStep, IsAddedAt, IsRecorded, IsReduction, IsReduced};
 ghost use Rattle.ffc_basis.specs.Reduction.{SameFirst, IsCancelled, IsStopped, PassesLimit};
 ghost use Rattle.ffc_basis.specs.Units.{TakesReductions, IsReductionBound};
-ghost use Rattle.ffc_basis.specs.declared.stop.BasisStop.TheVariants as stops;
 
 use crate::line::{Line, LineId};
-use crate::stop::BasisStop;
-use ffc_base::{Meter, Unit};
+use ffc_base::{Meter, Stop, Unit};
 use ffc_field::Field;
 use ffc_mono::{Mono, MonoOrder, MonoRef};
 use ffc_poly::{Poly, PolyStop};
@@ -118,7 +116,8 @@ pub(crate) fn term<F: Field, O: MonoOrder>(
     terms.push((c, m.clone()?))?;
     match Poly::from_terms(alloc, terms.as_slice()) {
         Ok(single) => Ok(single),
-        Err(_) => Err(AllocError),
+        Err(PolyStop::Memory) => Err(AllocError),
+        Err(_) => unreachable!(),
     }
 }
 
@@ -253,13 +252,13 @@ pub fn reduce_by<F: Field, O: MonoOrder>(
     lines: &[Line<F, O>],
     poly: &Poly<F, O>,
     meter: &mut Meter,
-) -> Result<Reduced<F, O>, BasisStop>
+) -> Result<Reduced<F, O>, Stop>
     ensures reduction { IfOk result (λ r. IsReduction F.ORDER O.cmp (polys_of lines.now) poly.now r.rest
         r.parts.items) }
     ensures reduced { IfOk result (λ r. IfNone r.over (IsReduced F.ORDER O.cmp (polys_of lines.now) r.rest)) }
     ensures over { IfOk result
         (λ r. IfSome r.over (λ t. IsStopped F.ORDER O.cmp (polys_of lines.now) r.rest r.parts.items t.0 t.1)) }
-    ensures spent { IsErrOf result stops.Spent → total meter.new ≡ meter.new.budget }
+    ensures metered { Metered Stop.Spent result meter.old meter.new }
     ensures takes { TakesReductions meter.old meter.new }
     ensures bound { IsReductionBound F.ORDER O.cmp (polys_of lines.now) poly.now meter.old meter.new }
 {

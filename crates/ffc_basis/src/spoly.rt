@@ -1,6 +1,6 @@
 //! S-polynomials of two lines, and the lines that are made of them.
-ghost use Rattle.std.specs.Prelude.{◌≡◌, ◌≢◌, ◌<◌, [], length, get_or, IfOk, IfErr, IfSome, IfNone, OnOk, IsErrOf};
-ghost use Rattle.ffc_base.specs.Metering.{total};
+ghost use Rattle.std.specs.Prelude.{◌≡◌, ◌≢◌, ◌<◌, [], length, get_or, IfOk, IfErr, IfSome, IfNone, OnOk};
+ghost use Rattle.ffc_base.specs.Metering.{Metered};
 ghost use Rattle.ffc_ring.specs.Monomial.{degree, mono_lcm};
 ghost use Rattle.ffc_ring.specs.Polynomial.{SamePolynomial, scaled, term_product, difference};
 ghost use Rattle.ffc_basis.specs.Lines.{polys_of};
@@ -9,12 +9,10 @@ ghost use Rattle.ffc_basis.specs.Completion.{PassesSPolynomial};
 ghost use Rattle.ffc_basis.specs.PairTable.{AreBothClosed};
 ghost use Rattle.ffc_basis.specs.Outcomes.{IsOutcome, IsSum, PassesDifference, AreScaled, ArePartsOf, IsMonic};
 ghost use Rattle.ffc_basis.specs.Units.{TakesReductions, IsPairBound};
-ghost use Rattle.ffc_basis.specs.declared.stop.BasisStop.TheVariants as stops;
 
 use crate::line::{Line, LineId};
 use crate::reduction::{Reduced, Step, append, multiple_of, past_limit, record, reduce_by, term};
-use crate::stop::BasisStop;
-use ffc_base::Meter;
+use ffc_base::{Meter, Stop};
 use ffc_field::Field;
 use ffc_mono::{Mono, MonoOrder, MonoRef, MonoStop};
 use ffc_poly::{Poly, PolyStop};
@@ -136,7 +134,8 @@ fn scaled<F: Field, O: MonoOrder>(c: F, poly: &Poly<F, O>) -> Result<Poly<F, O>,
 {
     match poly.scale(c) {
         Ok(multiple) => Ok(multiple),
-        Err(_) => Err(AllocError),
+        Err(PolyStop::Memory) => Err(AllocError),
+        Err(_) => unreachable!(),
     }
 }
 
@@ -171,7 +170,8 @@ fn record_anyway<F: Field, O: MonoOrder>(
             let single = term(*parts.allocator(), step.coefficient, &step.monomial)?;
             match append(parts, step.line as u64, single) {
                 Ok(()) => Ok(()),
-                Err(_) => Err(AllocError),
+                Err(PolyStop::Memory) => Err(AllocError),
+                Err(_) => unreachable!(),
             }
         }
     }
@@ -221,11 +221,11 @@ pub(crate) fn reduce_pair<F: Field, O: MonoOrder>(
     i: usize,
     j: usize,
     meter: &mut Meter,
-) -> Result<Outcome<F, O>, BasisStop>
+) -> Result<Outcome<F, O>, Stop>
     requires first { i < length lines.now }
     requires second { j < length lines.now }
     ensures outcome { IfOk result (IsOutcome F.ORDER O.cmp (polys_of lines.now) i j) }
-    ensures spent { IsErrOf result stops.Spent → total meter.new ≡ meter.new.budget }
+    ensures metered { Metered Stop.Spent result meter.old meter.new }
     ensures takes { TakesReductions meter.old meter.new }
     ensures bound { IsPairBound F.ORDER O.cmp (polys_of lines.now) meter.old meter.new }
 {

@@ -61,7 +61,8 @@ impl Sum {
     }
 }
 
-/// Writes a sum of multiples, and answers the number of its last line, which is this line of the stack.
+/// Writes a sum of multiples of the tree's lines, in several lines of a certificate where it is long, and answers the number of
+/// the last one. Where `line` is given, that one is this line of the stack.
 pub fn write_sum(
     alloc: Global,
     tree: &mut Tree,

@@ -66,11 +66,10 @@ impl Tree {
         }
     }
 
-    /// Numbers one more line of the present branch.
+    /// Numbers one more line of the present branch. A line past the numbers of a certificate has the number of another one, and
+    /// no such tree is accepted.
     pub fn place(&mut self, line: Option<LineId>) -> Result<u32, AllocError> {
-        let Ok(number) = u32::try_from(self.placed.len()) else {
-            return Err(AllocError);
-        };
+        let number = u32::try_from(self.placed.len()).unwrap_or(u32::MAX);
         self.placed.push(line)?;
         if let Some(line) = line {
             self.give_number(line as usize, number)?;

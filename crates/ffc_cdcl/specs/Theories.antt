@@ -1,6 +1,5 @@
--- What a theory answers about a trail, and what stays of its lemmas and of a meter.
-use Rattle.std.specs.Prelude.{◌≡◌, ◌≤◌, ℕ, List, All, Contains, Some, slice_get}
-use Rattle.ffc_base.specs.Metering.{Spending, total}
+-- What a theory answers about a trail, and what stays of its lemmas.
+use Rattle.std.specs.Prelude.{◌≡◌, ℕ, List, All, Contains, Some, slice_get}
 use Rattle.ffc_clause.specs.Clauses.{Literal, Clause, negated}
 use Rattle.ffc_cdcl.specs.declared.theory.TheoryAnswer.{TheoryAnswer}
 use Rattle.ffc_cdcl.specs.declared.theory.TheoryAnswer.TheVariants.{Agreed, Conflict}
@@ -23,8 +22,3 @@ NamesLemma lemmas (Conflict clause k) = slice_get lemmas k ≡ Some clause
 abbrev pub IsFalseOn : List Literal → TheoryAnswer → Type 0
 IsFalseOn trail Agreed = Unit {0}
 IsFalseOn trail (Conflict clause k) = All (λ l. Contains trail (negated l)) clause
-
--- a meter of the same budget, of which no unit was given back
-pub record OnlyTakes (old new : Spending) : Type 0 where
-  pub same_budget : new.budget ≡ old.budget
-  pub taken : total old ≤ total new

@@ -15,7 +15,8 @@ pub struct Lesson {
     pub clause: Vec<Lit>,
     pub hints: Vec<Hint>,
     pub level: u32,
-    pub spread: u32,
+    /// Its literal block distance.
+    pub lbd: u32,
 }
 
 /// A resolution that is under way.
@@ -297,12 +298,12 @@ impl Search {
         let last = clause.len();
         clause.push(point.negated())?;
         clause.as_mut_slice().swap(0, last);
-        let (level, spread) = self.arrange(&mut clause)?;
+        let (level, lbd) = self.arrange(&mut clause)?;
         Ok(Some(Lesson {
             clause,
             hints,
             level,
-            spread,
+            lbd,
         }))
     }
 }

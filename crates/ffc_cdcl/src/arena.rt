@@ -15,8 +15,8 @@ const HEAD: usize = 2;
 pub struct Record {
     /// Where it lies in the buffer, and None where it was dropped.
     pub place: Option<u32>,
-    /// How many levels it had when it was learned.
-    pub spread: u32,
+    /// Its literal block distance when it was learned.
+    pub lbd: u32,
     /// Which clause of the solver it is.
     pub hint: Hint,
 }
@@ -118,7 +118,7 @@ impl Arena {
         &mut self,
         literals: &[Lit],
         hint: Hint,
-        spread: u32,
+        lbd: u32,
     ) -> Result<(u32, u32), AllocError> {
         let (Ok(place), Ok(number), Ok(length)) = (
             u32::try_from(self.words.len()),
@@ -134,7 +134,7 @@ impl Arena {
         }
         self.records.push(Record {
             place: Some(place),
-            spread,
+            lbd,
             hint,
         })?;
         Ok((place, number))

@@ -1,27 +1,25 @@
 //! What a solver learns from a clause that is false.
-ghost use Rattle.std.specs.Prelude.{◌≡◌, ◌++◌, ◌∷◌, ◌⊎◌, [], IfOk, IfErr, IfSome, IsErrOf};
-ghost use Rattle.ffc_base.specs.Metering.{total};
+ghost use Rattle.std.specs.Prelude.{◌≡◌, ◌++◌, ◌∷◌, ◌⊎◌, [], IfOk, IfSome, IsErrOf};
+ghost use Rattle.ffc_base.specs.Metering.{Metered};
 ghost use Rattle.ffc_cdcl.specs.State.{IsKept, SameClauses};
 ghost use Rattle.ffc_cdcl.specs.Steps.{IsRefutationBy};
-ghost use Rattle.ffc_cdcl.specs.Theories.{OnlyTakes};
 
 use crate::analysis::Lesson;
 use crate::answer::{Hint, HintedClause};
 use crate::literal::{Lit, Literals};
 use crate::search::Search;
 use crate::solver::Solver;
-use crate::theory::CdclStop;
-use ffc_base::Meter;
+use ffc_base::{Meter, SearchStop};
 
 impl Solver {
     /// Learns the clause of one literal for a literal of level 0.
-    fn derive_unit(&mut self, search: &mut Search, literal: Lit) -> Result<(), CdclStop>
+    fn derive_unit(&mut self, search: &mut Search, literal: Lit) -> Result<(), SearchStop>
         ensures same { SameClauses self.old self.new }
         ensures lemmas { self.new.lemmas ≡ self.old.lemmas }
-        ensures stop { IfErr result (λ stop. stop ≡ CdclStop.Memory) }
+        ensures unmetered { ¬ (IsErrOf result SearchStop.Spent) }
     {
         let Some(reason) = search.reason_of(literal) else {
-            return Err(CdclStop::Memory);
+            return Err(SearchStop::GaveUp);
         };
         if search.arena.literals_of(reason).len() < 2 {
             let hint = search.arena.hint(reason);
@@ -31,17 +29,17 @@ impl Solver {
         let hints = search.unit_hints(Some(literal), reason)?;
         let hint = Hint::Step(self.learned.len() as u64);
         if !self.learn(&mut search.walk, &[literal], hints, 0)? {
-            return Err(CdclStop::Memory);
+            return Err(SearchStop::GaveUp);
         }
         search.set_unit(literal.node, Some(hint));
         Ok(())
     }
 
     /// Learns the clauses of one literal for the literals of level 0 that have none yet.
-    fn derive_units(&mut self, search: &mut Search) -> Result<(), CdclStop>
+    fn derive_units(&mut self, search: &mut Search) -> Result<(), SearchStop>
         ensures same { SameClauses self.old self.new }
         ensures lemmas { self.new.lemmas ≡ self.old.lemmas }
-        ensures stop { IfErr result (λ stop. stop ≡ CdclStop.Memory) }
+        ensures unmetered { ¬ (IsErrOf result SearchStop.Spent) }
     {
         let end = search.trail.end_of(0);
         for k in search.derived..end {
@@ -59,20 +57,20 @@ impl Solver {
         &mut self,
         search: &mut Search,
         conflict: u32,
-    ) -> Result<Vec<HintedClause>, CdclStop>
+    ) -> Result<Vec<HintedClause>, SearchStop>
         ensures refuted { IfOk result (λ steps. IsRefutationBy (IsKept self.new.lemmas) self.new.added steps.items) }
         ensures same { SameClauses self.old self.new }
         ensures lemmas { self.new.lemmas ≡ self.old.lemmas }
-        ensures stop { IfErr result (λ stop. stop ≡ CdclStop.Memory) }
+        ensures unmetered { ¬ (IsErrOf result SearchStop.Spent) }
     {
         self.derive_units(search)?;
         let hints = search.unit_hints(None, conflict)?;
         if !self.learn(&mut search.walk, &[], hints, 0)? {
-            return Err(CdclStop::Memory);
+            return Err(SearchStop::GaveUp);
         }
         match self.refutation(&mut search.walk)? {
             Some(steps) => Ok(steps),
-            None => Err(CdclStop::Memory),
+            None => Err(SearchStop::GaveUp),
         }
     }
 
@@ -82,13 +80,12 @@ impl Solver {
         search: &mut Search,
         conflict: u32,
         meter: &mut Meter,
-    ) -> Result<Option<Vec<HintedClause>>, CdclStop>
+    ) -> Result<Option<Vec<HintedClause>>, SearchStop>
         ensures refuted { IfOk result
             (λ found. IfSome found (λ steps. IsRefutationBy (IsKept self.new.lemmas) self.new.added steps.items)) }
         ensures same { SameClauses self.old self.new }
         ensures lemmas { self.new.lemmas ≡ self.old.lemmas }
-        ensures spent { IsErrOf result CdclStop.Spent → total meter.new ≡ meter.new.budget }
-        ensures meter { OnlyTakes meter.old meter.new }
+        ensures metered { Metered SearchStop.Spent result meter.old meter.new }
     {
         let level = search.highest_level(conflict);
         if level == 0 {
@@ -98,19 +95,19 @@ impl Solver {
         self.derive_units(search)?;
         search.backjump(level)?;
         let Some(lesson) = search.analyze(conflict)? else {
-            return Err(CdclStop::Memory);
+            return Err(SearchStop::GaveUp);
         };
         let Lesson {
             clause,
             hints,
             level,
-            spread,
+            lbd,
         } = lesson;
         let hint = Hint::Step(self.learned.len() as u64);
-        if !self.learn(&mut search.walk, clause.as_slice(), hints, spread)? {
-            return Err(CdclStop::Memory);
+        if !self.learn(&mut search.walk, clause.as_slice(), hints, lbd)? {
+            return Err(SearchStop::GaveUp);
         }
-        search.follow(clause.as_slice(), hint, level, spread, meter)?;
+        search.follow(clause.as_slice(), hint, level, lbd, meter)?;
         Ok(None)
     }
 
@@ -121,14 +118,13 @@ impl Solver {
         lemma: &Literals,
         number: u64,
         meter: &mut Meter,
-    ) -> Result<Option<Vec<HintedClause>>, CdclStop>
+    ) -> Result<Option<Vec<HintedClause>>, SearchStop>
         ensures refuted { IfOk result
             (λ found. IfSome found (λ steps. IsRefutationBy (IsKept self.new.lemmas) self.new.added steps.items)) }
         ensures same { SameClauses self.old self.new }
         ensures lemmas { (self.new.lemmas ≡ self.old.lemmas) ⊎ (self.new.lemmas ≡ self.old.lemmas ++ (number, lemma.now)
             ∷ []) }
-        ensures spent { IsErrOf result CdclStop.Spent → total meter.new ≡ meter.new.budget }
-        ensures meter { OnlyTakes meter.old meter.new }
+        ensures metered { Metered SearchStop.Spent result meter.old meter.new }
     {
         let hint = Hint::Lemma(self.lemmas.len() as u64);
         self.keep_lemma(number, lemma.as_slice())?;

@@ -27,4 +27,4 @@ mod watches;
 pub use answer::{Hint, HintedClause, Outcome};
 pub use literal::{Lit, Literals};
 pub use solver::Solver;
-pub use theory::{CdclStop, Theory, TheoryAnswer};
+pub use theory::{Theory, TheoryAnswer};

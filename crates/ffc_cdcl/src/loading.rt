@@ -12,7 +12,7 @@ use std::alloc::AllocError;
 const MOST_LEARNED: usize = 200_000;
 
 /// Learned clauses of at most so many levels are taken into the next search.
-const RELOADED_SPREAD: u32 = 6;
+const RELOADED_LBD: u32 = 6;
 
 impl Search {
     /// The literals of a clause without repetitions, or None where it has a literal and its negation.
@@ -46,10 +46,10 @@ impl Search {
     }
 
     /// Adds a clause whose first two literals are to be watched.
-    pub fn attach(&mut self, clause: &[Lit], hint: Hint, spread: u32) -> Result<u32, AllocError>
+    pub fn attach(&mut self, clause: &[Lit], hint: Hint, lbd: u32) -> Result<u32, AllocError>
         ensures { self.new.trail ≡ self.old.trail }
     {
-        let (place, number) = self.arena.add(clause, hint, spread)?;
+        let (place, number) = self.arena.add(clause, hint, lbd)?;
         self.order.insert_all(clause)?;
         if clause.len() < 2 {
             self.short.push(number)?;
@@ -62,12 +62,12 @@ impl Search {
 
     /// Takes a clause of the solver into the search. Where it has a literal and its negation, nothing needs to watch it, but its
     /// nodes are to be decided: a model gives one of them a value.
-    fn load(&mut self, clause: &[Lit], hint: Hint, spread: u32) -> Result<(), AllocError>
+    fn load(&mut self, clause: &[Lit], hint: Hint, lbd: u32) -> Result<(), AllocError>
         ensures { self.new.trail ≡ self.old.trail }
     {
         match self.simplified(clause)? {
             Some(literals) => {
-                self.attach(literals.as_slice(), hint, spread)?;
+                self.attach(literals.as_slice(), hint, lbd)?;
                 Ok(())
             }
             None => self.order.insert_all(clause),
@@ -107,9 +107,9 @@ impl Solver {
             search.load(lemma.1.as_slice(), Hint::Lemma(k as u64), 0)?;
         }
         for (k, learned) in self.learned.as_slice().iter().enumerate() {
-            if learned.spread <= RELOADED_SPREAD {
+            if learned.lbd <= RELOADED_LBD {
                 let hint = Hint::Step(k as u64);
-                search.load(learned.clause.as_slice(), hint, learned.spread)?;
+                search.load(learned.clause.as_slice(), hint, learned.lbd)?;
             }
         }
         Ok(search)

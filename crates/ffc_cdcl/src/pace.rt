@@ -9,7 +9,7 @@ use std::alloc::AllocError;
 const SHORTEST_RUN: u64 = 100;
 
 /// Clauses of at most so many levels are never dropped (Audemard and Simon 2009).
-const KEPT_SPREAD: u32 = 2;
+const KEPT_LBD: u32 = 2;
 
 /// By how many conflicts more than before learned clauses are kept until they are dropped again.
 const PAUSE_GROWTH: u64 = 50;
@@ -59,7 +59,7 @@ impl Search {
             _ => false,
         };
         is_learned
-            && record.spread > KEPT_SPREAD
+            && record.lbd > KEPT_LBD
             && record.place.is_some()
             && self.arena.literals_of(clause).len() > 2
             && !self.is_reason(clause)
@@ -71,7 +71,7 @@ impl Search {
         for clause in 0..self.arena.count() {
             if let Some(record) = self.arena.record(clause) {
                 if self.is_candidate(clause, &record) {
-                    found.push((u32::MAX - record.spread, clause))?;
+                    found.push((u32::MAX - record.lbd, clause))?;
                 }
             }
         }

@@ -1,17 +1,16 @@
 //! The state of a search, and unit propagation.
 ghost use Rattle.std.specs.Prelude.{◌≡◌, ◌<◌, [], IfOk, IsErrOf, length};
-ghost use Rattle.ffc_base.specs.Metering.{total};
+ghost use Rattle.ffc_base.specs.Metering.{Metered};
 ghost use Rattle.ffc_cdcl.specs.Trails.{Pays};
 
 use crate::answer::Hint;
 use crate::arena::Arena;
 use crate::order::Order;
 use crate::packed::Packed;
-use crate::theory::CdclStop;
 use crate::trail::Trail;
 use crate::walk::Walk;
 use crate::watches::{Pair, Watched, Watcher, Watches, watch_another};
-use ffc_base::Meter;
+use ffc_base::{Meter, SearchStop};
 use std::alloc::{AllocError, Global};
 
 /// A search over the clauses of a solver. It is made anew by each call, and contracts speak of its trail alone: what it learns
@@ -109,10 +108,10 @@ impl Search {
         watcher: Watcher,
         falsified: Packed,
         meter: &mut Meter,
-    ) -> Result<Visit, CdclStop>
+    ) -> Result<Visit, SearchStop>
         ensures pays { Pays self.old.trail self.new.trail meter.old meter.new }
-        ensures spent { IsErrOf result CdclStop.Spent → total meter.new ≡ meter.new.budget }
-        ensures room { IsErrOf result CdclStop.Spent → length self.new.trail.literals < self.new.trail.nodes }
+        ensures metered { Metered SearchStop.Spent result meter.old meter.new }
+        ensures room { IsErrOf result SearchStop.Spent → length self.new.trail.literals < self.new.trail.nodes }
     {
         let Watcher { place, blocker } = watcher;
         if self.trail.has(blocker) {
@@ -145,10 +144,14 @@ impl Search {
     }
 
     /// Visits the clauses of two literals one of which became false. Gives one that is false, if one is.
-    fn visit_pairs(&mut self, falsified: Packed, meter: &mut Meter) -> Result<Option<u32>, CdclStop>
+    fn visit_pairs(
+        &mut self,
+        falsified: Packed,
+        meter: &mut Meter,
+    ) -> Result<Option<u32>, SearchStop>
         ensures pays { Pays self.old.trail self.new.trail meter.old meter.new }
-        ensures spent { IsErrOf result CdclStop.Spent → total meter.new ≡ meter.new.budget }
-        ensures room { IsErrOf result CdclStop.Spent → length self.new.trail.literals < self.new.trail.nodes }
+        ensures metered { Metered SearchStop.Spent result meter.old meter.new }
+        ensures room { IsErrOf result SearchStop.Spent → length self.new.trail.literals < self.new.trail.nodes }
     {
         let list = self.watches.take_pairs(falsified);
         let mut conflict = None;
@@ -167,10 +170,10 @@ impl Search {
     }
 
     /// Visits the longer clauses that watch a literal which became false. Gives one that is false, if one is.
-    fn visit_all(&mut self, falsified: Packed, meter: &mut Meter) -> Result<Option<u32>, CdclStop>
+    fn visit_all(&mut self, falsified: Packed, meter: &mut Meter) -> Result<Option<u32>, SearchStop>
         ensures pays { Pays self.old.trail self.new.trail meter.old meter.new }
-        ensures spent { IsErrOf result CdclStop.Spent → total meter.new ≡ meter.new.budget }
-        ensures room { IsErrOf result CdclStop.Spent → length self.new.trail.literals < self.new.trail.nodes }
+        ensures metered { Metered SearchStop.Spent result meter.old meter.new }
+        ensures room { IsErrOf result SearchStop.Spent → length self.new.trail.literals < self.new.trail.nodes }
     {
         let mut list = self.watches.take(falsified);
         let mut kept = 0;
@@ -196,10 +199,10 @@ impl Search {
     }
 
     /// Propagates until nothing is left to propagate. Gives a clause that is false, if one is found.
-    pub fn propagate(&mut self, meter: &mut Meter) -> Result<Option<u32>, CdclStop>
+    pub fn propagate(&mut self, meter: &mut Meter) -> Result<Option<u32>, SearchStop>
         ensures pays { Pays self.old.trail self.new.trail meter.old meter.new }
-        ensures spent { IsErrOf result CdclStop.Spent → total meter.new ≡ meter.new.budget }
-        ensures room { IsErrOf result CdclStop.Spent → length self.new.trail.literals < self.new.trail.nodes }
+        ensures metered { Metered SearchStop.Spent result meter.old meter.new }
+        ensures room { IsErrOf result SearchStop.Spent → length self.new.trail.literals < self.new.trail.nodes }
     {
         for _ in 0..self.trail.nodes() {
             let literals = self.trail.literals();
@@ -219,10 +222,10 @@ impl Search {
     }
 
     /// Gives the nodes of clauses with one literal their values. Gives a clause that is false, if one is.
-    pub fn assign_short(&mut self, meter: &mut Meter) -> Result<Option<u32>, CdclStop>
+    pub fn assign_short(&mut self, meter: &mut Meter) -> Result<Option<u32>, SearchStop>
         ensures pays { Pays self.old.trail self.new.trail meter.old meter.new }
-        ensures spent { IsErrOf result CdclStop.Spent → total meter.new ≡ meter.new.budget }
-        ensures room { IsErrOf result CdclStop.Spent → length self.new.trail.literals < self.new.trail.nodes }
+        ensures metered { Metered SearchStop.Spent result meter.old meter.new }
+        ensures room { IsErrOf result SearchStop.Spent → length self.new.trail.literals < self.new.trail.nodes }
     {
         for k in 0..self.short.len() {
             let clause = self.short[k];

@@ -1,18 +1,18 @@
 //! The search for a model or a refutation.
 ghost use Rattle.std.specs.Prelude.{◌≡◌, ◌<◌, ◌+◌, List, [], None, IfOk, IfSome, IsErrOf, IsSomeAnd, length};
-ghost use Rattle.ffc_base.specs.Metering.{total};
+ghost use Rattle.ffc_base.specs.Metering.{Metered, total};
 ghost use Rattle.ffc_clause.specs.Propagation.{IsRefutedByPropagation};
 ghost use Rattle.ffc_cdcl.specs.Outcomes.{OnModel, OnRefuted, OnSomeModel, OnSomeRefuted, IsModel};
 ghost use Rattle.ffc_cdcl.specs.State.{AreListed, IsKept, LearnedFollow, SameClauses};
 ghost use Rattle.ffc_cdcl.specs.Steps.{IsRefutation, IsRefutationBy};
-ghost use Rattle.ffc_cdcl.specs.Theories.{KeepsLemmas, OnlyTakes};
+ghost use Rattle.ffc_cdcl.specs.Theories.{KeepsLemmas};
 
 use crate::answer::{HintedClause, Outcome};
 use crate::literal::Literals;
 use crate::search::Search;
 use crate::solver::Solver;
-use crate::theory::{CdclStop, Theory, TheoryAnswer};
-use ffc_base::Meter;
+use crate::theory::{Theory, TheoryAnswer};
+use ffc_base::{Meter, SearchStop};
 
 impl Solver {
     /// Propagates, asks the theory, and learns from a conflict or decides.
@@ -21,7 +21,7 @@ impl Solver {
         search: &mut Search,
         theory: &mut T,
         meter: &mut Meter,
-    ) -> Result<Option<Outcome>, CdclStop>
+    ) -> Result<Option<Outcome>, SearchStop>
         requires { AreListed (T.lemmas theory.old) self.old.lemmas }
         ensures model { IfOk result (OnSomeModel (λ trail. IsModel self.old.added trail × T.fits theory.new trail)) }
         ensures refuted { IfOk result
@@ -29,8 +29,7 @@ impl Solver {
         ensures same { SameClauses self.old self.new }
         ensures listed { AreListed (T.lemmas theory.new) self.new.lemmas }
         ensures kept { KeepsLemmas (T.lemmas theory.old) (T.lemmas theory.new) }
-        ensures spent { IsErrOf result CdclStop.Spent → total meter.new ≡ meter.new.budget }
-        ensures meter { OnlyTakes meter.old meter.new }
+        ensures metered { Metered SearchStop.Spent result meter.old meter.new }
     {
         if let Some(conflict) = search.propagate(meter)? {
             let found = self.learn_from(search, conflict, meter)?;
@@ -58,15 +57,14 @@ impl Solver {
         search: &mut Search,
         theory: &mut T,
         meter: &mut Meter,
-    ) -> Result<Outcome, CdclStop>
+    ) -> Result<Outcome, SearchStop>
         requires { AreListed (T.lemmas theory.old) self.old.lemmas }
         ensures model { IfOk result (OnModel (λ trail. IsModel self.old.added trail × T.fits theory.new trail)) }
         ensures refuted { IfOk result (OnRefuted (λ steps. IsRefutation self.old.added (T.lemmas theory.new) steps)) }
         ensures same { SameClauses self.old self.new }
         ensures listed { AreListed (T.lemmas theory.new) self.new.lemmas }
         ensures kept { KeepsLemmas (T.lemmas theory.old) (T.lemmas theory.new) }
-        ensures spent { IsErrOf result CdclStop.Spent → total meter.new ≡ meter.new.budget }
-        ensures meter { OnlyTakes meter.old meter.new }
+        ensures metered { Metered SearchStop.Spent result meter.old meter.new }
     {
         // Each turn without an answer puts a literal on the trail, which takes a unit.
         for _ in 0..meter.budget().saturating_add(1) {
@@ -74,7 +72,7 @@ impl Solver {
                 return Ok(outcome);
             }
         }
-        Err(CdclStop::Memory)
+        Err(SearchStop::GaveUp)
     }
 
     /// Propagates before the theory is asked, and refutes where that suffices.
@@ -82,16 +80,15 @@ impl Solver {
         &mut self,
         search: &mut Search,
         meter: &mut Meter,
-    ) -> Result<Option<Vec<HintedClause>>, CdclStop>
+    ) -> Result<Option<Vec<HintedClause>>, SearchStop>
         requires { search.old.trail ≡ record { nodes = self.old.nodes; literals = [] } }
         ensures refuted { IfOk result
             (λ found. IfSome found (λ steps. IsRefutationBy (IsKept self.new.lemmas) self.new.added steps.items)) }
         ensures settled { IfOk result (λ found. found ≡ None → IsRefutedByPropagation self.old.added → ⊥) }
         ensures same { SameClauses self.old self.new }
         ensures lemmas { self.new.lemmas ≡ self.old.lemmas }
-        ensures spent { IsErrOf result CdclStop.Spent → total meter.new ≡ meter.new.budget }
-        ensures bound { IsErrOf result CdclStop.Spent → meter.old.budget < total meter.old + self.old.nodes }
-        ensures meter { OnlyTakes meter.old meter.new }
+        ensures metered { Metered SearchStop.Spent result meter.old meter.new }
+        ensures bound { IsErrOf result SearchStop.Spent → meter.old.budget < total meter.old + self.old.nodes }
     {
         match search.settle(self.added.as_slice(), meter)? {
             Some(conflict) => Ok(Some(self.refute(search, conflict)?)),
@@ -100,17 +97,20 @@ impl Solver {
     }
 
     /// `solve`, without its clause on what was learned.
-    fn answer<T: Theory>(&mut self, theory: &mut T, meter: &mut Meter) -> Result<Outcome, CdclStop>
+    fn answer<T: Theory>(
+        &mut self,
+        theory: &mut T,
+        meter: &mut Meter,
+    ) -> Result<Outcome, SearchStop>
         requires { AreListed (T.lemmas theory.old) self.old.lemmas }
         ensures model { IfOk result (OnModel (λ trail. IsModel self.old.added trail × T.fits theory.new trail)) }
         ensures refuted { IfOk result (OnRefuted (λ steps. IsRefutation self.old.added (T.lemmas theory.new) steps)) }
         ensures same { SameClauses self.old self.new }
         ensures listed { AreListed (T.lemmas theory.new) self.new.lemmas }
         ensures kept { KeepsLemmas (T.lemmas theory.old) (T.lemmas theory.new) }
-        ensures spent { IsErrOf result CdclStop.Spent → total meter.new ≡ meter.new.budget }
-        ensures bound { IsErrOf result CdclStop.Spent → IsRefutedByPropagation self.old.added → meter.old.budget
+        ensures metered { Metered SearchStop.Spent result meter.old meter.new }
+        ensures bound { IsErrOf result SearchStop.Spent → IsRefutedByPropagation self.old.added → meter.old.budget
             < total meter.old + self.old.nodes }
-        ensures meter { OnlyTakes meter.old meter.new }
     {
         self.forget();
         let mut search = self.begin()?;
@@ -126,7 +126,7 @@ impl Solver {
         &mut self,
         theory: &mut T,
         meter: &mut Meter,
-    ) -> Result<Outcome, CdclStop>
+    ) -> Result<Outcome, SearchStop>
         requires { AreListed (T.lemmas theory.old) self.old.lemmas }
         ensures model { IfOk result (OnModel (λ trail. IsModel self.old.added trail × T.fits theory.new trail)) }
         ensures refuted { IfOk result (OnRefuted (λ steps. IsRefutation self.old.added (T.lemmas theory.new) steps)) }
@@ -134,10 +134,9 @@ impl Solver {
         ensures listed { AreListed (T.lemmas theory.new) self.new.lemmas }
         ensures lemmas { KeepsLemmas (T.lemmas theory.old) (T.lemmas theory.new) }
         ensures follow { LearnedFollow self.new }
-        ensures spent { IsErrOf result CdclStop.Spent → total meter.new ≡ meter.new.budget }
-        ensures propagates { IsErrOf result CdclStop.Spent → IsRefutedByPropagation self.old.added → meter.old.budget
+        ensures metered { Metered SearchStop.Spent result meter.old meter.new }
+        ensures propagates { IsErrOf result SearchStop.Spent → IsRefutedByPropagation self.old.added → meter.old.budget
             < total meter.old + self.old.nodes }
-        ensures meter { OnlyTakes meter.old meter.new }
     {
         let answer = self.answer(theory, meter);
         self.learned_follow();

@@ -15,8 +15,8 @@ pub struct Learned {
     pub clause: Literals,
     pub base: usize,
     pub hints: Vec<Hint>,
-    /// How many decision levels its literals had (Audemard and Simon 2009).
-    pub spread: u32,
+    /// Its literal block distance: how many decision levels its literals had (Audemard and Simon 2009).
+    pub lbd: u32,
 }
 
 /// A clause-learning solver. Clauses are numbered in the order in which they were added.
@@ -209,7 +209,7 @@ impl Solver {
         walk: &mut Walk,
         clause: &[Lit],
         hints: Vec<Hint>,
-        spread: u32,
+        lbd: u32,
     ) -> Result<bool, AllocError>
         ensures learned { IfOk result (λ kept. kept ≡ true → self.new
             ≡ record self.old { learned = self.old.learned ++ clause.now ∷ [] }) }
@@ -224,7 +224,7 @@ impl Solver {
             clause,
             base,
             hints,
-            spread,
+            lbd,
         })?;
         Ok(true)
     }

@@ -1,26 +1,28 @@
 //! The steps of a search: propagation before any decision, decisions, and what follows a lesson.
 ghost use Rattle.std.specs.Prelude.{◌≡◌, ◌<◌, true, None, All, IfOk, IsErrOf, length};
-ghost use Rattle.ffc_base.specs.Metering.{total};
+ghost use Rattle.ffc_base.specs.Metering.{Metered};
 ghost use Rattle.ffc_cdcl.specs.Literals.{NamesNoNodeTwice, MakesTrue};
 ghost use Rattle.ffc_cdcl.specs.Settled.{IsSettled};
-ghost use Rattle.ffc_cdcl.specs.Theories.{OnlyTakes};
 ghost use Rattle.ffc_cdcl.specs.Trails.{Pays};
 
 use crate::answer::Hint;
 use crate::literal::{Lit, Literals};
 use crate::search::Search;
 use crate::settled::{all_settled, first_untrue, makes_true};
-use crate::theory::CdclStop;
-use ffc_base::Meter;
+use ffc_base::{Meter, SearchStop};
 use std::alloc::AllocError;
 
 impl Search {
     /// `settle`, without its clause on the trail.
-    fn settle_all(&mut self, added: &[Literals], meter: &mut Meter) -> Result<Option<u32>, CdclStop>
+    fn settle_all(
+        &mut self,
+        added: &[Literals],
+        meter: &mut Meter,
+    ) -> Result<Option<u32>, SearchStop>
         ensures settled { IfOk result (λ conflict. conflict ≡ None → All (IsSettled self.new.trail) added.now) }
         ensures pays { Pays self.old.trail self.new.trail meter.old meter.new }
-        ensures spent { IsErrOf result CdclStop.Spent → total meter.new ≡ meter.new.budget }
-        ensures room { IsErrOf result CdclStop.Spent → length self.new.trail.literals < self.new.trail.nodes }
+        ensures metered { Metered SearchStop.Spent result meter.old meter.new }
+        ensures room { IsErrOf result SearchStop.Spent → length self.new.trail.literals < self.new.trail.nodes }
     {
         if let Some(conflict) = self.assign_short(meter)? {
             return Ok(Some(conflict));
@@ -28,22 +30,26 @@ impl Search {
         if let Some(conflict) = self.propagate(meter)? {
             return Ok(Some(conflict));
         }
-        // Watches that missed a clause would be a fault of the search, which is answered as out of memory.
+        // Watches that missed a clause would be a fault of the search, which then gives up.
         if all_settled(&self.trail, added) {
             Ok(None)
         } else {
-            Err(CdclStop::Memory)
+            Err(SearchStop::GaveUp)
         }
     }
 
     /// Propagates before any decision. Gives a clause that is false, if one is; else propagation has nothing left to do with the
     /// added clauses.
-    pub fn settle(&mut self, added: &[Literals], meter: &mut Meter) -> Result<Option<u32>, CdclStop>
+    pub fn settle(
+        &mut self,
+        added: &[Literals],
+        meter: &mut Meter,
+    ) -> Result<Option<u32>, SearchStop>
         ensures settled { IfOk result (λ conflict. conflict ≡ None → All (IsSettled self.new.trail) added.now) }
         ensures distinct { NamesNoNodeTwice self.new.trail.literals }
         ensures pays { Pays self.old.trail self.new.trail meter.old meter.new }
-        ensures spent { IsErrOf result CdclStop.Spent → total meter.new ≡ meter.new.budget }
-        ensures room { IsErrOf result CdclStop.Spent → length self.new.trail.literals < self.new.trail.nodes }
+        ensures metered { Metered SearchStop.Spent result meter.old meter.new }
+        ensures room { IsErrOf result SearchStop.Spent → length self.new.trail.literals < self.new.trail.nodes }
     {
         let answer = self.settle_all(added, meter);
         self.trail.names_no_node_twice();
@@ -68,9 +74,8 @@ impl Search {
     }
 
     /// Decides a node, where one is left without a value.
-    fn decide(&mut self, meter: &mut Meter) -> Result<bool, CdclStop>
-        ensures spent { IsErrOf result CdclStop.Spent → total meter.new ≡ meter.new.budget }
-        ensures meter { OnlyTakes meter.old meter.new }
+    fn decide(&mut self, meter: &mut Meter) -> Result<bool, SearchStop>
+        ensures metered { Metered SearchStop.Spent result meter.old meter.new }
     {
         for _ in 0..self.order.len() {
             let Some(node) = self.order.pop() else {
@@ -89,9 +94,8 @@ impl Search {
     }
 
     /// Goes on after a trail on which nothing was wrong: perhaps anew, and by a decision.
-    pub fn branch(&mut self, meter: &mut Meter) -> Result<(), CdclStop>
-        ensures spent { IsErrOf result CdclStop.Spent → total meter.new ≡ meter.new.budget }
-        ensures meter { OnlyTakes meter.old meter.new }
+    pub fn branch(&mut self, meter: &mut Meter) -> Result<(), SearchStop>
+        ensures metered { Metered SearchStop.Spent result meter.old meter.new }
     {
         if self.is_run_over() {
             self.backjump(0)?;
@@ -100,7 +104,7 @@ impl Search {
         if self.decide(meter)? {
             Ok(())
         } else {
-            Err(CdclStop::Memory)
+            Err(SearchStop::GaveUp)
         }
     }
 
@@ -110,23 +114,22 @@ impl Search {
         clause: &[Lit],
         hint: Hint,
         level: u32,
-        spread: u32,
+        lbd: u32,
         meter: &mut Meter,
-    ) -> Result<(), CdclStop>
-        ensures spent { IsErrOf result CdclStop.Spent → total meter.new ≡ meter.new.budget }
-        ensures meter { OnlyTakes meter.old meter.new }
+    ) -> Result<(), SearchStop>
+        ensures metered { Metered SearchStop.Spent result meter.old meter.new }
     {
         self.backjump(level)?;
-        let number = self.attach(clause, hint, spread)?;
+        let number = self.attach(clause, hint, lbd)?;
         self.order.decay();
         self.conflicts = self.conflicts.saturating_add(1);
         let Some(literal) = clause.first().copied() else {
-            return Err(CdclStop::Memory);
+            return Err(SearchStop::GaveUp);
         };
         if self.trail.assign(literal, Some(number), meter)? {
             Ok(())
         } else {
-            Err(CdclStop::Memory)
+            Err(SearchStop::GaveUp)
         }
     }
 }

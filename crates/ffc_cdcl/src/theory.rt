@@ -1,47 +1,12 @@
 //! Theories, which are asked about trails.
-ghost use Rattle.std.specs.Prelude.{◌≡◌, List, IfOk, IsErrOf};
-ghost use Rattle.ffc_base.specs.Metering.{total};
+ghost use Rattle.std.specs.Prelude.{◌≡◌, List, IfOk};
+ghost use Rattle.ffc_base.specs.Metering.{Metered};
 ghost use Rattle.ffc_clause.specs.Clauses.{Literal, Clause};
 ghost use Rattle.ffc_cdcl.specs.Literals.{NamesNoNodeTwice};
-ghost use Rattle.ffc_cdcl.specs.Theories.{KeepsLemmas, OnAgreed, NamesLemma, IsFalseOn, OnlyTakes};
+ghost use Rattle.ffc_cdcl.specs.Theories.{KeepsLemmas, OnAgreed, NamesLemma, IsFalseOn};
 
 use crate::literal::{Lit, Literals};
-use ffc_base::{Meter, Spent};
-use std::alloc::AllocError;
-use thiserror::Error;
-
-/// Why a search stopped before it had an answer.
-#[derive(Clone, Copy, Debug, PartialEq, Eq, Error)]
-pub enum CdclStop {
-    /// The meter is full.
-    #[error("the budget is spent")]
-    Spent,
-    /// Out of memory.
-    #[error("out of memory")]
-    Memory,
-}
-
-impl From<Spent> for CdclStop {
-    ghost use Rattle.std.specs.Prelude.{◌≡◌};
-    ghost use Rattle.ffc_cdcl.specs.declared.theory.CdclStop.{CdclStop};
-
-    ghost from_gives = { λ _ stop. stop ≡ CdclStop.Spent };
-
-    fn from(_spent: Spent) -> CdclStop {
-        CdclStop::Spent
-    }
-}
-
-impl From<AllocError> for CdclStop {
-    ghost use Rattle.std.specs.Prelude.{◌≡◌};
-    ghost use Rattle.ffc_cdcl.specs.declared.theory.CdclStop.{CdclStop};
-
-    ghost from_gives = { λ _ stop. stop ≡ CdclStop.Memory };
-
-    fn from(_error: AllocError) -> CdclStop {
-        CdclStop::Memory
-    }
-}
+use ffc_base::{Meter, SearchStop};
 
 /// What a theory says of a trail.
 #[derive(Debug, Drop)]
@@ -62,12 +27,11 @@ pub trait Theory {
     ghost fits: { Self → List Literal → Type 0 };
 
     /// Judges a trail.
-    fn check(&mut self, trail: &[Lit], meter: &mut Meter) -> Result<TheoryAnswer, CdclStop>
+    fn check(&mut self, trail: &[Lit], meter: &mut Meter) -> Result<TheoryAnswer, SearchStop>
         requires { NamesNoNodeTwice trail.now }
         ensures kept { KeepsLemmas (lemmas self.old) (lemmas self.new) }
         ensures agreed { IfOk result (OnAgreed (fits self.new trail.now)) }
         ensures lemma { IfOk result (NamesLemma (lemmas self.new)) }
         ensures refuted { IfOk result (IsFalseOn trail.now) }
-        ensures spent { IsErrOf result CdclStop.Spent → total meter.new ≡ meter.new.budget }
-        ensures meter { OnlyTakes meter.old meter.new };
+        ensures metered { Metered SearchStop.Spent result meter.old meter.new };
 }

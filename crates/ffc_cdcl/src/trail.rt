@@ -1,15 +1,14 @@
 //! The trail: literals that are true together, in the order in which they were put there.
 ghost use Rattle.std.specs.Prelude.{◌≡◌, ◌<◌, ◌++◌, ◌∷◌, [], true, false, Some, None, Contains, IfOk, IfSome, IsErrOf};
 ghost use Rattle.std.specs.Prelude.{length, slice_set};
-ghost use Rattle.ffc_base.specs.Metering.{total};
+ghost use Rattle.ffc_base.specs.Metering.{Metered};
 ghost use Rattle.ffc_clause.specs.Clauses.{negated};
 ghost use Rattle.ffc_cdcl.specs.Literals.{NamesNoNodeTwice};
 ghost use Rattle.ffc_cdcl.specs.Trails.{IsOpen, Pays};
 
 use crate::literal::Lit;
 use crate::packed::Packed;
-use crate::theory::CdclStop;
-use ffc_base::{Meter, Unit};
+use ffc_base::{Meter, SearchStop, Unit};
 use ffc_term::NodeId;
 use std::alloc::{AllocError, Global};
 use std::marker::Model;
@@ -176,12 +175,12 @@ impl Trail {
         literal: Lit,
         reason: Option<u32>,
         meter: &mut Meter,
-    ) -> Result<bool, CdclStop>
+    ) -> Result<bool, SearchStop>
         ensures put { IfOk result (λ put. put ≡ true → self.new.literals ≡ self.old.literals ++ literal ∷ []) }
         ensures kept { IfOk result (λ put. put ≡ false → self.new ≡ self.old) }
         ensures pays { Pays self.old self.new meter.old meter.new }
-        ensures spent { IsErrOf result CdclStop.Spent → total meter.new ≡ meter.new.budget }
-        ensures room { IsErrOf result CdclStop.Spent → length self.new.literals < self.new.nodes }
+        ensures metered { Metered SearchStop.Spent result meter.old meter.new }
+        ensures room { IsErrOf result SearchStop.Spent → length self.new.literals < self.new.nodes }
     {
         if !self.is_open(literal.node) {
             return Ok(false);
@@ -192,11 +191,11 @@ impl Trail {
             reason,
         };
         if let Err(_) = self.literals.push(literal) {
-            return Err(CdclStop::Memory);
+            return Err(SearchStop::Memory);
         }
         if let Err(_) = meter.take(Unit::Assignment) {
             self.literals.pop();
-            return Err(CdclStop::Spent);
+            return Err(SearchStop::Spent);
         }
         write_at(&mut self.values, literal.node, Some(literal.positive));
         enter(&mut self.entries, literal.node, entry);

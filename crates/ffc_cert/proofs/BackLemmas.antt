@@ -30,7 +30,7 @@ use Rattle.ffc_cert.proofs.ReadLemmas.{after_next, through}
 use Rattle.ffc_cert.proofs.SplitLemmas.{parts_of}
 use Rattle.ffc_cert.proofs.GivenLemmas.{entry_length}
 
-split_line : (line rest : List ℕ) → IsPlain line → slice_split is_line_end (line ++ (10 ∷ rest)) ≡ line ∷ slice_split is_line_end rest
+pub split_line : (line rest : List ℕ) → IsPlain line → slice_split is_line_end (line ++ (10 ∷ rest)) ≡ line ∷ slice_split is_line_end rest
 split_line [] rest h = slice_split-cons_yes is_line_end 10 rest refl
 split_line (c ∷ line) rest h = slice_split-cons_no is_line_end c (line ++ (10 ∷ rest)) h.0 ∙ ap (onto_first c) (split_line line rest h.1)
 

@@ -31,7 +31,7 @@ use Rattle.ffc_cert.proofs.GrammarLemmas.{awaiting, Completes, clauses_shape}
 use Rattle.ffc_cert.proofs.OpeningCodes.{value_items, value_gives, IsOpeningText, opening_gives}
 use Rattle.ffc_cert.proofs.PrefixLemmas.{AreLines, first_of, body_of, entry_is}
 
-all_push : {A : Type 0} (P : A → Type 0) (xs : List A) (x : A) → AllByRecursion P xs → P x → AllByRecursion P (xs ++ x ∷ [])
+pub all_push : {A : Type 0} (P : A → Type 0) (xs : List A) (x : A) → AllByRecursion P xs → P x → AllByRecursion P (xs ++ x ∷ [])
 all_push P [] x h k = (k, tt)
 all_push P (y ∷ xs) x h k = (h.0, all_push P xs x h.1 k)
 
@@ -43,13 +43,22 @@ abbrev pub with_end : List ℕ → List ℕ
 with_end line = line ++ 10 ∷ []
 
 -- lines after a first one, and one more
-grown : {A : Type 0} (text : A → List ℕ) (items : A → List ℕ) (first : List ℕ) (xs : List A) (x : A) → text x ≡ items x ++ 10 ∷ []
+pub grown : {A : Type 0} (text : A → List ℕ) (items : A → List ℕ) (first : List ℕ) (xs : List A) (x : A) → text x ≡ items x ++ 10 ∷ []
     → first ++ (10 ∷ flat_map text (xs ++ x ∷ [])) ≡ (first ++ (10 ∷ flat_map text xs)) ++ with_end (items x)
 grown text items first xs x h =
     let parts = flat_map-append text xs (x ∷ []) in
     let last : flat_map text (x ∷ []) ≡ with_end (items x) = append-nil (text x) ∙ h in
     ap (λ (ys : List ℕ). first ++ (10 ∷ ys)) (parts ∙ ap (λ (ys : List ℕ). flat_map text xs ++ ys) last)
     ∙ sym (append_assoc first (10 ∷ flat_map text xs) (with_end (items x)))
+
+-- what is needed after lines
+abbrev pub after_lines : List CertLine → Awaited → Awaited
+after_lines [] a = a
+after_lines (l ∷ lines) a = after_lines lines (awaited_after l a)
+
+after_more : (lines : List CertLine) (l : CertLine) (a : Awaited) → after_lines (lines ++ l ∷ []) a ≡ awaited_after l (after_lines lines a)
+after_more [] l a = refl
+after_more (m ∷ lines) l a = after_more lines l (awaited_after m a)
 
 -- In an assignment, with so many values left, after this text of the entry.
 pub record InValues (wanted left : ℕ) (text : List ℕ) (p : Progress) : Type 0 where
@@ -65,6 +74,7 @@ pub record InLines (version wanted : ℕ) (a : Awaited) (text : List ℕ) (p : P
   pub count : ℕ
   pub few : IsNarrow count
   pub more : is_whole a ≡ false
+  pub reached : a ≡ after_lines p.lines (awaiting count 0 0)
   pub leads : (lines : List CertLine) → Completes a lines → Completes (awaiting count 0 0) (p.lines ++ lines)
   pub lines : AreLines version p.lines
   pub text_is : text ≡ (codes "unsat" ++ number count) ++ (10 ∷ flat_map line_text p.lines)
@@ -99,7 +109,9 @@ inside_few version wanted text p (Refutation a) h = let lt = h.0.awaited in omeg
 -- the entry goes on
 pub record IsMoved (version wanted : ℕ) (text : List ℕ) (p q : Progress) : Type 0 where
   pub complete : q.complete ≡ p.complete
+  pub line : q.line ≡ p.line + 1
   pub first_line : q.first_line ≡ p.first_line
+  pub short : q.bytes ≤ MAX_BYTES
   pub inside : IsInside version wanted text q
 
 -- the entry ends
@@ -109,6 +121,7 @@ pub record IsGiven (version wanted : ℕ) (text : List ℕ) (p : Progress) (x : 
   pub number : x.number ≡ p.complete + 1
   pub first_line : x.first_line ≡ p.first_line
   pub complete : q.complete ≡ p.complete + 1
+  pub line : q.line ≡ p.line + 1
   pub next_line : q.first_line ≡ p.first_line + line_count x.entry
   pub inside : IsInside version wanted [] q
 
@@ -178,6 +191,7 @@ module _ (version : ℕ) (known : IsVersion version) (wanted : ℕ) (text : List
         number = refl;
         first_line = refl;
         complete = refl;
+        line = refl;
         next_line = lines;
         inside = record { version_is = same; bytes = refl; at = record { text_is = refl; values = refl; lines = refl; line = refl; few = omega (arith, awaited) } };
       }
@@ -203,7 +217,9 @@ module _ (version : ℕ) (known : IsVersion version) (wanted : ℕ) (text : List
         ∙ ap (λ (xs : List (ℕ × ℕ)). (codes "sat" ++ number (length p.values + n)) ++ (10 ∷ flat_map value_line xs)) (sym start.values) in
         record {
           complete = refl;
+          line = refl;
           first_line = refl;
+          short = fits;
           inside = record {
             version_is = same;
             bytes = more_bytes text line p.bytes bytes;
@@ -231,7 +247,9 @@ module _ (version : ℕ) (known : IsVersion version) (wanted : ℕ) (text : List
         ∙ ap (λ (xs : List CertLine). (codes "unsat" ++ number n) ++ (10 ∷ flat_map line_text xs)) (sym start.lines) in
         record {
           complete = refl;
+          line = refl;
           first_line = refl;
+          short = fits;
           inside = record {
             version_is = same;
             bytes = more_bytes text line p.bytes bytes;
@@ -240,6 +258,7 @@ module _ (version : ℕ) (known : IsVersion version) (wanted : ℕ) (text : List
                 count = n;
                 few = h.1;
                 more = no_needs n e;
+                reached = ap (λ (xs : List CertLine). after_lines xs (awaiting n 0 0)) (sym start.lines);
                 leads = λ lines k. subst (λ (xs : List CertLine). Completes (awaiting n 0 0) (xs ++ lines)) (sym start.lines) k;
                 lines = subst (AreLines version) (sym start.lines) (record { ranges = tt; fits = tt });
                 text_is = text_is;
@@ -292,7 +311,9 @@ module _ (version : ℕ) (known : IsVersion version) (wanted : ℕ) (text : List
         let total : length p.values + left ≡ length (p.values ++ v ∷ []) + (left - 1) = omega (arith, count, inside.some) in
         record {
           complete = refl;
+          line = refl;
           first_line = refl;
+          short = fits;
           inside = record {
             version_is = same;
             bytes = more_bytes text line p.bytes bytes;
@@ -345,7 +366,9 @@ module _ (version : ℕ) (known : IsVersion version) (wanted : ℕ) (text : List
         let count = length_push p.lines l in
         record {
           complete = refl;
+          line = refl;
           first_line = refl;
+          short = fits;
           inside = record {
             version_is = same;
             bytes = more_bytes text line p.bytes bytes;
@@ -354,6 +377,7 @@ module _ (version : ℕ) (known : IsVersion version) (wanted : ℕ) (text : List
                 count = inside.count;
                 few = inside.few;
                 more = more;
+                reached = ap (awaited_after l) inside.reached ∙ sym (after_more p.lines l (awaiting inside.count 0 0));
                 leads = leads_on;
                 lines = pushed_lines;
                 text_is = sym (lines_text inside.count refl);

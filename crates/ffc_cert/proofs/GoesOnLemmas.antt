@@ -27,7 +27,7 @@ front_open end r h = record { rest = r.entries; entries = refl; stopped = λ f e
 front_stopped : (f : CertFault) (r : Reading) → r ≡ ending (Stopped f) → IsFront (ending (Stopped f)) r
 front_stopped f r e = subst (IsFront (ending (Stopped f))) (sym e) (front_same (ending (Stopped f)))
 
-either : (b : Bool) → (b ≡ true) ⊎ (b ≡ false)
+pub either : (b : Bool) → (b ≡ true) ⊎ (b ≡ false)
 either true = inl refl
 either false = inr refl
 
@@ -59,7 +59,7 @@ end_front wanted p bytes more alone = by_size (nat_lt MAX_BYTES (length bytes)) 
     by_size false e true f = behind_front wanted p bytes more alone f
     by_size false e false f = front_open (Open (fault_at 4 p)) _ (λ g h. cc)
 
-read_alone : (wanted : ℕ) (p : Progress) (bytes : List ℕ) → length bytes ≤ position_or_len is_line_end bytes → read_text wanted p bytes ≡ ending (end_at wanted p bytes)
+pub read_alone : (wanted : ℕ) (p : Progress) (bytes : List ℕ) → length bytes ≤ position_or_len is_line_end bytes → read_text wanted p bytes ≡ ending (end_at wanted p bytes)
 unfolding read
 read_alone wanted p bytes alone = rw (split_alone bytes alone) refl
 
@@ -70,13 +70,13 @@ step_front (Halt f) one two h = front_same (ending (Stopped f))
 step_front (Move q) one two h = h q
 step_front (Give e q) one two h = front_entry e (one q) (two q) (h q)
 
-line_here : (wanted : ℕ) (p : Progress) (bytes : List ℕ) → position_or_len is_line_end bytes < length bytes
+pub line_here : (wanted : ℕ) (p : Progress) (bytes : List ℕ) → position_or_len is_line_end bytes < length bytes
     → read_text wanted p bytes ≡ after_next (next_at wanted p (before_first is_line_end bytes)) (λ q. read_text wanted q (after_first is_line_end bytes))
 line_here wanted p bytes lt =
     ap (read_text wanted p) (sym (append-nil bytes)) ∙ read_line wanted p bytes [] (next_at wanted p (before_first is_line_end bytes)) lt refl
     ∙ ap (λ bs. after_next (next_at wanted p (before_first is_line_end bytes)) (λ q. read_text wanted q bs)) (append-nil (after_first is_line_end bytes))
 
-after_shorter : (n : ℕ) (bytes : List ℕ) → length bytes ≤ suc n → position_or_len is_line_end bytes < length bytes → length (after_first is_line_end bytes) ≤ n
+pub after_shorter : (n : ℕ) (bytes : List ℕ) → length bytes ≤ suc n → position_or_len is_line_end bytes < length bytes → length (after_first is_line_end bytes) ≤ n
 after_shorter n bytes few lt = omega (arith, length-drop (position_or_len is_line_end bytes + 1) bytes)
 
 module _ (wanted : ℕ) (p : Progress) (bytes more : List ℕ) where
@@ -92,7 +92,7 @@ module _ (wanted : ℕ) (p : Progress) (bytes more : List ℕ) where
       (subst (IsFront (after_next n (λ q. read_text wanted q (after_first is_line_end bytes)))) (sym (read_line wanted p bytes more n lt refl))
       (step_front n (λ q. read_text wanted q (after_first is_line_end bytes)) (λ q. read_text wanted q (after_first is_line_end bytes ++ more)) h))
 
-text_front : (n : ℕ) (wanted : ℕ) (p : Progress) (bytes more : List ℕ) → length bytes ≤ n → IsFront (read_text wanted p bytes) (read_text wanted p (bytes ++ more))
+pub text_front : (n : ℕ) (wanted : ℕ) (p : Progress) (bytes more : List ℕ) → length bytes ≤ n → IsFront (read_text wanted p bytes) (read_text wanted p (bytes ++ more))
 text_front zero wanted p bytes more few = alone_front wanted p bytes more (omega arith)
 text_front (suc n) wanted p bytes more few = elim (either (ltb (position_or_len is_line_end bytes) (length bytes))) [
   | inr t ↦ alone_front wanted p bytes more (ltb-false (position_or_len is_line_end bytes) (length bytes) t)

@@ -19,7 +19,7 @@ abbrev pub Completes : Awaited → List CertLine → Type 0
 Completes a [] = is_whole a ≡ true
 Completes a (l ∷ lines) = (is_whole a ≡ false) × (IsNext l a × Completes (awaited_after l a) lines)
 
-one_less : (n : ℕ) → suc n - 1 ≡ n
+pub one_less : (n : ℕ) → suc n - 1 ≡ n
 one_less n = omega arith
 
 no_more : (n : ℕ) → n + 0 ≡ n
@@ -28,14 +28,14 @@ no_more n = omega arith
 one_more : (n m : ℕ) → n + suc m ≡ suc (n + m)
 one_more n m = omega arith
 
-and_false : (b : Bool) → (b && false) ≡ false
+pub and_false : (b : Bool) → (b && false) ≡ false
 and_false true = refl
 and_false false = refl
 
-not_zero : (n : ℕ) → (suc n == 0) ≡ false
+pub not_zero : (n : ℕ) → (suc n == 0) ≡ false
 not_zero n = grind (arith, nat_tests)
 
-tree_needed : (c t s : ℕ) → is_whole (awaiting c (suc t) s) ≡ false
+pub tree_needed : (c t s : ℕ) → is_whole (awaiting c (suc t) s) ≡ false
 unfolding is_whole
 tree_needed c t s = rw (not_zero t, and_false (c == 0)) refl
 
@@ -43,7 +43,7 @@ step_needed : (s : ℕ) → is_whole (awaiting 0 0 (suc s)) ≡ false
 unfolding is_whole
 step_needed s = rw (not_zero s) refl
 
-clause_needed : (c t s : ℕ) → is_whole (awaiting (suc c) t s) ≡ false
+pub clause_needed : (c t s : ℕ) → is_whole (awaiting (suc c) t s) ≡ false
 unfolding is_whole
 clause_needed c t s = rw (not_zero c) refl
 

@@ -1,9 +1,8 @@
 -- What a reader keeps, and what follows for its answers.
-use Rattle.std.proofs.Common.{◌≡◌, ℕ, zero, suc, ◌+◌, ◌-◌, ◌^◌, ◌<◌, ◌≤◌, List, [], ◌∷◌, ◌++◌, length, take, drop, Option, Some, None, refl, sym, ap, ◌∙◌, subst, arith, length-append, append_assoc}
+use Rattle.std.proofs.Common.{◌≡◌, ℕ, zero, suc, ◌+◌, ◌^◌, ◌<◌, ◌≤◌, List, [], ◌∷◌, ◌++◌, length, drop, Option, Some, None, refl, sym, ap, ◌∙◌, subst, arith, length-append, append_assoc}
 use Rattle.std.specs.Prelude.{slice_get, if◌then◌else◌, Bool, true, false, MatchOption}
-use Rattle.std.specs.List.{position_or_len, copy_within}
-use Rattle.std.proofs.lemmas.List.{append-nil, drop-append-le, length-drop, take_all}
-use Rattle.std.proofs.lemmas.List.Edits.{take-paste}
+use Rattle.std.specs.List.{position_or_len}
+use Rattle.std.proofs.lemmas.List.{append-nil, drop-append-le}
 use Rattle.ffc_cert.specs.Kept.{IsKept}
 use Rattle.ffc_cert.specs.declared.entries.CertFault.{CertFault}
 use Rattle.ffc_cert.specs.declared.entries.Numbered.{Numbered}
@@ -12,7 +11,6 @@ use Rattle.ffc_cert.specs.declared.scanning.Scanner.{Scanner}
 use Rattle.ffc_cert.specs.Reading.{Reading, Complete, Open, Stopped, ending, fault_at, is_complete, read_text, reading_of, stop_fault, is_line_end}
 use Rattle.ffc_cert.specs.Scan.{IsWindow, IsReady, IsStopped, IsEntry, IsDone, ahead, without, end_here}
 use Rattle.ffc_cert.specs.Certificate.{Certificate, IsRead, next_entry_of, fault_behind, due_fault, version_of}
-use Rattle.ffc_cert.proofs.ScanLemmas.{window_rest}
 use Rattle.ffc_cert.proofs.TextLemmas.{version_stays}
 
 longer : (xs ys : List ℕ) → position_or_len is_line_end xs ≤ position_or_len is_line_end (xs ++ ys)

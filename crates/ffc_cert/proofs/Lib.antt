@@ -21,4 +21,16 @@ pub mod GivenLemmas
 pub mod BackLemmas
 pub mod TextLemmas
 pub mod GoesOnLemmas
+pub mod Gradual
+pub mod GradualItems
+pub mod GradualLists
+pub mod WordLemmas
+pub mod LineGradual
+pub mod ItemTexts
+pub mod FillLemmas
+pub mod NextLines
+pub mod ItemFaults
+pub mod FaultLemmas
+pub mod FirstFaults
+pub mod DecidedLemmas
 pub mod CallerLemmas

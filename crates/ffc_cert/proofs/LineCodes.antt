@@ -36,7 +36,7 @@ IsNext (Values variable trees) a = (a.steps ≡ 0) × (0 < a.trees)
 IsNext Close a = (a.steps ≡ 0) × (0 < a.trees)
 
 -- The order of a lemma.
-abbrev OrderFits : ℕ → Option ℕ → Type 0
+abbrev pub OrderFits : ℕ → Option ℕ → Type 0
 OrderFits version None = version ≡ 1
 OrderFits version (Some order) = version ≡ 2
 
@@ -83,10 +83,10 @@ module _ (version : ℕ) (known : IsVersion version) where
 pub whole : {A : Type 0} (at : List ℕ → Result (A × List ℕ) Flaw) (text : List ℕ) (x : A) → Is (at (text ++ [])) (x, []) → Is (at text) (x, [])
 whole at text x h = rw (append-nil text) at h
 
-zero_steps : (n : ℕ) → n ≡ 0 → nat_lt 0 n ≡ false
+pub zero_steps : (n : ℕ) → n ≡ 0 → nat_lt 0 n ≡ false
 zero_steps n h = grind (arith, nat_tests, h)
 
-some_steps : (n : ℕ) → 0 < n → nat_lt 0 n ≡ true
+pub some_steps : (n : ℕ) → 0 < n → nat_lt 0 n ≡ true
 some_steps n h = grind (arith, nat_tests, h)
 
 front : {A : Type 0} (text : A → List ℕ) (xs : List A) → IsCut (counted text xs)
@@ -113,18 +113,18 @@ pub record IsLineText (version : ℕ) (a : Awaited) (bytes : List ℕ) (l : Cert
   pub line : IsLine l
   pub fits : LineFitsVersion version l
 
-lemma_fits : (version : ℕ) (order : Option ℕ) (lits : List (Bool × ℕ)) → LineFitsVersion version (Lemma order lits) → OrderFits version order
+pub lemma_fits : (version : ℕ) (order : Option ℕ) (lits : List (Bool × ℕ)) → LineFitsVersion version (Lemma order lits) → OrderFits version order
 lemma_fits version None lits h = h
 lemma_fits version (Some order) lits h = h
 
-fits_lemma : (version : ℕ) (order : Option ℕ) (lits : List (Bool × ℕ)) → OrderFits version order → LineFitsVersion version (Lemma order lits)
+pub fits_lemma : (version : ℕ) (order : Option ℕ) (lits : List (Bool × ℕ)) → OrderFits version order → LineFitsVersion version (Lemma order lits)
 fits_lemma version None lits h = h
 fits_lemma version (Some order) lits h = h
 
-above_zero : (n : ℕ) → nat_lt 0 n ≡ true → 0 < n
+pub above_zero : (n : ℕ) → nat_lt 0 n ≡ true → 0 < n
 above_zero n h = grind (arith, nat_tests, h)
 
-is_zero : (n : ℕ) → nat_lt 0 n ≡ false → n ≡ 0
+pub is_zero : (n : ℕ) → nat_lt 0 n ≡ false → n ≡ 0
 is_zero n h = grind (arith, nat_tests, h)
 
 pub ended_gives : {A : Type 0} (x y : A) (rest : List ℕ) → Is (ended (x, rest)) y → (x ≡ y) × (rest ≡ [])

@@ -197,7 +197,7 @@ narrow_code = number_code (2 ^ 32) (omega arith)
 pub wide_code : IsCode wide_at number IsWide
 wide_code = number_code (2 ^ 64) (omega arith)
 
-sign_reads : (sign : Bool) → sign_of (if sign then 43 else 45) ≡ Ok sign
+pub sign_reads : (sign : Bool) → sign_of (if sign then 43 else 45) ≡ Ok sign
 unfolding sign_of
 sign_reads true = refl
 sign_reads false = refl
@@ -210,15 +210,15 @@ sign_is false true c true p m h = absurd (cc)
 sign_is false true c false p m h = is_same c 45 m
 sign_is false false c sign p m h = absurd (cc)
 
-sign_gives : (c : ℕ) (sign : Bool) → sign_of c ≡ Ok sign → c ≡ (if sign then 43 else 45)
+pub sign_gives : (c : ℕ) (sign : Bool) → sign_of c ≡ Ok sign → c ≡ (if sign then 43 else 45)
 unfolding sign_of
 sign_gives c sign h = sign_is (c == 43) (c == 45) c sign refl refl h
 
-sign_item : (sign : Bool) → (is_blank (if sign then 43 else 45) ≡ false) × (((if sign then 43 else 45) == 10) ≡ false)
+pub sign_item : (sign : Bool) → (is_blank (if sign then 43 else 45) ≡ false) × (((if sign then 43 else 45) == 10) ≡ false)
 sign_item true = (refl, refl)
 sign_item false = (refl, refl)
 
-literal_in_gives : (item : List ℕ) (l : Bool × ℕ) → literal_in item ≡ Ok l → IsText item ((if l.0 then 43 else 45) ∷ decimal l.1) [] (IsLiteral l)
+pub literal_in_gives : (item : List ℕ) (l : Bool × ℕ) → literal_in item ≡ Ok l → IsText item ((if l.0 then 43 else 45) ∷ decimal l.1) [] (IsLiteral l)
 unfolding literal_in
 literal_in_gives [] l h = absurd (cc)
 literal_in_gives (c ∷ item) l h =

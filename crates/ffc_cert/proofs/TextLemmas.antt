@@ -85,7 +85,7 @@ end_complete : (wanted : ℕ) (p : Progress) (rest : List ℕ) → end_at wanted
 unfolding end_at
 end_complete wanted p rest h = end_by (nat_lt MAX_BYTES (length rest)) (is_complete p.place p.complete wanted) wanted p rest h
 
-behind_inside : (version wanted : ℕ) (text : List ℕ) (p : Progress) (place : Place) → At version wanted place text p → is_complete place p.complete wanted ≡ true → (text ≡ []) × (p.complete ≡ wanted)
+pub behind_inside : (version wanted : ℕ) (text : List ℕ) (p : Progress) (place : Place) → At version wanted place text p → is_complete place p.complete wanted ≡ true → (text ≡ []) × (p.complete ≡ wanted)
 unfolding is_complete
 behind_inside version wanted text p Header h e = absurd h
 behind_inside version wanted text p Between h e = (h.text_is, is_same p.complete wanted e)
@@ -179,10 +179,10 @@ behind_header version known wanted rest =
     subst (λ (xs : List ℕ). IsSource version wanted [] (between version 0 2) xs (read_text wanted (between version 0 2) rest)) (sym (split_joined rest parts.first parts.others parts.split)) r
 
 -- a text with line 1
-record HasHeader (version : ℕ) (text : List ℕ) : Type 0 where
-  known : IsVersion version
-  rest : List ℕ
-  text_is : text ≡ header version ++ rest
+pub record HasHeader (version : ℕ) (text : List ℕ) : Type 0 where
+  pub known : IsVersion version
+  pub rest : List ℕ
+  pub text_is : text ≡ header version ++ rest
 
 of_header : (wanted version : ℕ) (text : List ℕ) → HasHeader version text → IsOfText wanted version text (reading_of wanted text)
 unfolding text_of
@@ -238,7 +238,7 @@ version_by text version false true e f h =
     }
 version_by text version false false e f h = absurd (cc)
 
-has_header : (text : List ℕ) (version : ℕ) → version_of text ≡ Some version → HasHeader version text
+pub has_header : (text : List ℕ) (version : ℕ) → version_of text ≡ Some version → HasHeader version text
 has_header text version h = version_by text version (starts_with nat_eq text (codes "ffcert 1\n")) (starts_with nat_eq text (codes "ffcert 2\n")) refl refl h
 
 one_named : (text rest : List ℕ) → text ≡ codes "ffcert 1\n" ++ rest → version_of text ≡ Some 1
@@ -260,7 +260,7 @@ version_stays text more version h =
 pub reads_its_text : ReadsItsText
 reads_its_text wanted version text h = of_header wanted version text (has_header text version h)
 
-abbrev NoVersion : List ℕ → Type 0
+abbrev pub NoVersion : List ℕ → Type 0
 NoVersion text = (starts_with nat_eq text (codes "ffcert 1\n") ≡ false) × (starts_with nat_eq text (codes "ffcert 2\n") ≡ false)
 
 no_version_by : (one two : Bool) → named_by one two ≡ None → (one ≡ false) × (two ≡ false)
@@ -268,7 +268,7 @@ no_version_by true two h = absurd (cc)
 no_version_by false true h = absurd (cc)
 no_version_by false false h = (refl, refl)
 
-no_version : (text : List ℕ) → version_of text ≡ None → NoVersion text
+pub no_version : (text : List ℕ) → version_of text ≡ None → NoVersion text
 no_version text h = no_version_by (starts_with nat_eq text (codes "ffcert 1\n")) (starts_with nat_eq text (codes "ffcert 2\n")) h
 
 -- nothing was read, and something is wanted
@@ -276,7 +276,7 @@ abbrev IsBare : Reading → Type 0
 IsBare r = (r.entries ≡ []) × (r.end ≡ Complete → ⊥)
 
 -- a line that names a version is the front of a text that does
-never_named : (line seen part rest text : List ℕ) → text ≡ part ++ (10 ∷ rest) → seen ≡ take (MAX_BYTES + 1) part → length line ≤ MAX_BYTES → seen ≡ line
+pub never_named : (line seen part rest text : List ℕ) → text ≡ part ++ (10 ∷ rest) → seen ≡ take (MAX_BYTES + 1) part → length line ≤ MAX_BYTES → seen ≡ line
     → starts_with nat_eq text (line ++ (10 ∷ [])) ≡ false → ⊥
 never_named line seen part rest text h cut short same none =
     let size : length (take (MAX_BYTES + 1) part) ≡ min (MAX_BYTES + 1) (length part) = length-take (MAX_BYTES + 1) part in
@@ -385,7 +385,7 @@ given_number wanted text n x h = numbered_by wanted text n x (version_of text) r
 
 -- each line has a byte
 
-lines_size : {A : Type 0} (text items : A → List ℕ) → ((x : A) → text x ≡ items x ++ 10 ∷ []) → (xs : List A) → length xs ≤ length (flat_map text xs)
+pub lines_size : {A : Type 0} (text items : A → List ℕ) → ((x : A) → text x ≡ items x ++ 10 ∷ []) → (xs : List A) → length xs ≤ length (flat_map text xs)
 lines_size text items h [] = omega arith
 lines_size text items h (x ∷ xs) =
     let size : length (text x ++ flat_map text xs) ≡ length (text x) + length (flat_map text xs) = length-append (text x) (flat_map text xs) in

@@ -2,11 +2,14 @@ pub mod Bounds
 pub mod Certificate
 pub mod Cuts
 pub mod Extending
+pub mod FirstFault
+pub mod FirstItem
 pub mod Grammar
 pub mod Items
 pub mod Kept
 pub mod Laws
 pub mod Limits
+pub mod LineItems
 pub mod Lines
 pub mod Ranges
 pub mod Reading

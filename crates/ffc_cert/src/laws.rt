@@ -1,5 +1,7 @@
 //! What holds of the text of certificates, from its definitions alone.
 ghost use Rattle.ffc_cert.specs.Laws.{IsWritten, ReadsBack, ReadsBackFirst, ReadsItsText, ReadsNoOther, AcceptsTexts};
+ghost use Rattle.ffc_cert.specs.FirstFault.{FaultsAreFirst, LinesDecide};
+ghost use Rattle.ffc_cert.specs.LineItems.{LinesAreItems, ValuesAreItems, FirstLinesAreItems};
 ghost use Rattle.ffc_cert.specs.Laws.{LinesAreInside, BeginsNoOther, GoesOn};
 
 /// An entry that is well formed may be written, as the writer and its measure of length require.
@@ -39,4 +41,22 @@ pub fn lines_are_inside()
 /// The entries of a text are the first ones of each longer text, and a fault stays the fault.
 pub fn reading_goes_on()
     ensures { GoesOn }
+{}
+
+/// A text's fault is that of its first line at fault. The lines before that one are line 1, entries, and a part of one more
+/// that some well-formed entry goes on from. With the line no well-formed entry does, or the entry is too long; or the line
+/// is not ended, or stands after the last entry. Where none does, the code is that of the first item at fault: with the items
+/// before it a line that may come there can begin, and with it none.
+pub fn faults_are_first()
+    ensures first { FaultsAreFirst }
+    // Whatever follows its line, the fault is the same.
+    ensures decided { LinesDecide }
+{}
+
+/// A line is its items, each after a space, and it is in range exactly where each of them may stand in its place: so items
+/// say what the text of lines and their ranges say.
+pub fn lines_are_items()
+    ensures lines { LinesAreItems }
+    ensures values { ValuesAreItems }
+    ensures first { FirstLinesAreItems }
 {}

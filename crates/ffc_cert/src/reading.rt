@@ -7,7 +7,7 @@ ghost use Rattle.ffc_cert.specs.WellFormed.{IsReadableIn};
 
 use crate::entries::{CertFault, CertStop, Numbered};
 use crate::scanning::Scanner;
-use ffc_ghost::GhostText;
+use ffc_base::GhostText;
 use std::alloc::Global;
 use std::marker::Model;
 

@@ -9,7 +9,7 @@ use crate::MAX_BYTES;
 use crate::entries::{CertFault, CertStop, Numbered};
 use crate::items::place_of;
 use crate::progress::Progress;
-use ffc_ghost::GhostText;
+use ffc_base::GhostText;
 use std::alloc::Global;
 
 /// What a step found.

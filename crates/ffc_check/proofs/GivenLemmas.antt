@@ -16,16 +16,16 @@ use Rattle.ffc_trees.specs.FirstLines.{first_lines}
 use Rattle.ffc_rules.specs.Entries.{NodeCheck, Broken, Given, limits, breaks, is_boolean, is_equality_over, is_equality_at, is_within, order_or, tree_given, lemma_given, clause_given}
 use Rattle.ffc_check.specs.declared.stop.CheckStop.{CheckStop}
 use Rattle.ffc_check.specs.Answers.{Refuses}
-use Rattle.ffc_check.specs.Giving.{IsTaken, IsTakenWith, IsGiven}
+use Rattle.ffc_check.specs.Giving.{HasTreeLines, IsTakenWith, IsGiven}
 
 -- a clause without a tree
-pub IsTaken-none : (rest : List CertLine) (clause : Clause) → IsTaken rest 0 (record { clause = clause; rest = rest })
-IsTaken-none rest clause = record { left = refl; few = omega arith }
+pub HasTreeLines-none : (rest : List CertLine) (clause : Clause) → HasTreeLines rest 0 (record { clause = clause; rest = rest })
+HasTreeLines-none rest clause = record { left = refl; few = omega arith }
 
 -- it is given, and is one more
 pub given_alone : (old new : List Clause) (rest : List CertLine) (clause : Clause) (given : Result Given Broken) → given ≡ Ok (record { clause = clause; rest = rest }) → new ≡ old ++ clause ∷ []
     → (x : Given) × (given ≡ Ok x) × IsGiven old new rest 0 x
-given_alone old new rest clause given e grown = (record { clause = clause; rest = rest }, e, record { taken = IsTaken-none rest clause; grown = grown })
+given_alone old new rest clause given e grown = (record { clause = clause; rest = rest }, e, record { taken = HasTreeLines-none rest clause; grown = grown })
 
 module _ (c : NodeCheck) (clauses : List Clause) (line : ℕ) (rest : List CertLine) where
   pub no_number : (k : ℕ) → slice_get c.in_force k ≡ None → clause_given limits c clauses line (Assume k) rest ≡ Err (breaks 2 line)

@@ -5,16 +5,16 @@ use Rattle.ffc_clause.specs.Clauses.{Clause}
 use Rattle.ffc_rules.specs.Entries.{Given}
 
 -- so many of the lines after it belong to its tree
-pub record IsTaken (rest : List CertLine) (used : ℕ) (given : Given) : Type 0 where
+pub record HasTreeLines (rest : List CertLine) (used : ℕ) (given : Given) : Type 0 where
   pub left : given.rest ≡ drop used rest
   pub few : used ≤ length rest
 
 -- and the clause is this one
 pub record IsTakenWith (clause : Clause) (rest : List CertLine) (used : ℕ) (given : Given) : Type 0 where
-  pub taken : IsTaken rest used given
+  pub taken : HasTreeLines rest used given
   pub clause_is : given.clause ≡ clause
 
 -- and the clause is one more
 pub record IsGiven (old new : List Clause) (rest : List CertLine) (used : ℕ) (given : Given) : Type 0 where
-  pub taken : IsTaken rest used given
+  pub taken : HasTreeLines rest used given
   pub grown : new ≡ old ++ given.clause ∷ []

@@ -9,7 +9,7 @@ ghost use Rattle.ffc_rules.specs.Entries.{limits, cases_fault};
 ghost use Rattle.ffc_rules.specs.Cones.{span};
 ghost use Rattle.ffc_rules.specs.Laws.{IsValid};
 ghost use Rattle.ffc_check.specs.Answers.{Answers};
-ghost use Rattle.ffc_check.specs.Judged.{node_check};
+ghost use Rattle.ffc_check.specs.Judged.{judged_check};
 
 use crate::assigning::{default_values, give_digits, is_model};
 use crate::stop::{CheckStop, breaks};
@@ -31,7 +31,7 @@ fn search(
     values: Vec<Value>,
     out: &mut [Value],
 ) -> bool
-    requires valid { IsValid (node_check check.now) }
+    requires valid { IsValid (judged_check check.now) }
     requires nodes { AreNodesOf check.now.table.now check.now.in_force.now nodes.now }
     requires closed { IsClosed check.now.table.now nodes.now }
     requires increasing { IsStrictlyIncreasing asserted.now }
@@ -55,7 +55,7 @@ fn search(
 
 /// The same, with memory for the values of constants and nodes, which is taken before the first assignment.
 fn has_model(alloc: Global, check: &Check, count: u64) -> Result<bool, AllocError>
-    requires valid { IsValid (node_check check.now) }
+    requires valid { IsValid (judged_check check.now) }
     ensures { IfOk result (λ found. found ≡ has_model_below check.now.table.now check.now.in_force.now count) }
 {
     let nodes = check.table.nodes_of(check.in_force)?;
@@ -77,8 +77,8 @@ fn has_model(alloc: Global, check: &Check, count: u64) -> Result<bool, AllocErro
 /// Judges an entry by cases. It costs for each assignment of the check's constants the evaluation of its nodes up to the first
 /// assertion that is false.
 pub fn check_cases(alloc: Global, check: &Check, line: u64) -> Result<(), CheckStop>
-    requires valid { IsValid (node_check check.now) }
-    ensures { Answers result (cases_fault limits (node_check check.now) line) }
+    requires valid { IsValid (judged_check check.now) }
+    ensures { Answers result (cases_fault limits (judged_check check.now) line) }
 {
     let measures = check.table.measures(check.in_force)?;
     if measures.work > MOST_WORK {

@@ -5,7 +5,7 @@ ghost use Rattle.ffc_rules.specs.Laws.{IsValid, IsTrueOf};
 ghost use Rattle.ffc_check.specs.declared.stop.Broken.{Broken as BrokenRule};
 ghost use Rattle.ffc_check.specs.declared.stop.CheckStop.TheVariants as stops;
 ghost use Rattle.ffc_check.specs.Answers.{Answers};
-ghost use Rattle.ffc_check.specs.Judged.{node_check, IsReadableEntry};
+ghost use Rattle.ffc_check.specs.Judged.{judged_check, IsReadableEntry};
 
 use crate::cases::check_cases;
 use crate::stop::CheckStop;
@@ -24,27 +24,27 @@ pub fn check_entry(
     entry: &Entry,
     first_line: u64,
 ) -> Result<(), CheckStop>
-    requires valid { IsValid (node_check check.now) }
+    requires valid { IsValid (judged_check check.now) }
     requires readable { IsReadableEntry entry.now }
     requires line { first_line < 2 ^ 63 }
 
     // With enough memory the answer is Ok exactly where no line breaks a rule.
-    ensures ok { OnOk result (entry_fault (node_check check.now) entry.now first_line ≡ None) }
+    ensures ok { OnOk result (entry_fault (judged_check check.now) entry.now first_line ≡ None) }
     ensures broken { (b : BrokenRule) → result ≡ Err (stops.Broken b)
-        → entry_fault (node_check check.now) entry.now first_line ≡ Some (breaks b.rule b.line) }
+        → entry_fault (judged_check check.now) entry.now first_line ≡ Some (breaks b.rule b.line) }
 
     // An accepted refutation says that no assignment makes all that is active true, accepted values that they do.
-    ensures meaning { OnOk result (IsTrueOf (node_check check.now) entry.now) }
+    ensures meaning { OnOk result (IsTrueOf (judged_check check.now) entry.now) }
 {
     judge(alloc, check, entry, first_line)
 }
 
 /// The same answer, in one clause.
 fn judge(alloc: Global, check: &Check, entry: &Entry, first_line: u64) -> Result<(), CheckStop>
-    requires valid { IsValid (node_check check.now) }
+    requires valid { IsValid (judged_check check.now) }
     requires readable { IsReadableEntry entry.now }
     requires line { first_line < 2 ^ 63 }
-    ensures { Answers result (entry_fault (node_check check.now) entry.now first_line) }
+    ensures { Answers result (entry_fault (judged_check check.now) entry.now first_line) }
 {
     match entry {
         Entry::Sat(pairs) => check_values(alloc, check, pairs.as_slice(), first_line),

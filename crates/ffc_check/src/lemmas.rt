@@ -11,7 +11,7 @@ ghost use Rattle.ffc_rules.specs.Entries.{limits, is_equality_at, is_within, ord
 ghost use Rattle.ffc_rules.specs.Laws.{IsValid};
 ghost use Rattle.ffc_check.specs.Answers.{Gives};
 ghost use Rattle.ffc_check.specs.Giving.{IsTakenWith};
-ghost use Rattle.ffc_check.specs.Judged.{node_check};
+ghost use Rattle.ffc_check.specs.Judged.{judged_check};
 
 use crate::stop::{CheckStop, breaks};
 use ffc_cert::{CertLine, Literal};
@@ -128,12 +128,12 @@ pub fn check_lemma(
     line: u64,
     rest: &[CertLine],
 ) -> Result<usize, CheckStop>
-    requires valid { IsValid (node_check check.now) }
+    requires valid { IsValid (judged_check check.now) }
     requires kept { kept.old ≡ check.now.table.now }
     requires ranges { AllByRecursion IsLine rest.now }
     requires few { length literals.now < 2 ^ 31 }
     requires line { line + length rest.now + 1 < 2 ^ 64 }
-    ensures given { Gives result (lemma_given limits (node_check check.now) (order_or check.now.first_order order)
+    ensures given { Gives result (lemma_given limits (judged_check check.now) (order_or check.now.first_order order)
         literals.now line rest.now) (IsTakenWith literals.now rest.now) }
     ensures kept { kept.new ≡ kept.old }
 {

@@ -5,7 +5,7 @@ ghost use Rattle.ffc_rules.specs.Assignments.{are_true, listed_assignment};
 ghost use Rattle.ffc_rules.specs.Entries.{first_misfit, sat_fault};
 ghost use Rattle.ffc_rules.specs.Laws.{IsValid, AreValues};
 ghost use Rattle.ffc_check.specs.Answers.{Answers};
-ghost use Rattle.ffc_check.specs.Judged.{node_check};
+ghost use Rattle.ffc_check.specs.Judged.{judged_check};
 
 use crate::assigning::{default_values, give_listed, is_model};
 use crate::stop::{CheckStop, breaks};
@@ -35,7 +35,7 @@ fn first_misfit(table: &NodeTable, declared: &[NodeId], pairs: &[(u32, u64)]) ->
 
 /// Whether all that is active is true, where the constants have the listed values.
 fn makes_true(alloc: Global, check: &Check, pairs: &[(u32, u64)]) -> Result<bool, AllocError>
-    requires valid { IsValid (node_check check.now) }
+    requires valid { IsValid (judged_check check.now) }
     requires values { AreValues check.now.table.now check.now.declared.now pairs.now }
     ensures { IfOk result (λ good. good ≡ are_true check.now.table.now check.now.in_force.now
         (listed_assignment check.now.table.now pairs.now)) }
@@ -62,9 +62,9 @@ pub fn check_values(
     pairs: &[(u32, u64)],
     line: u64,
 ) -> Result<(), CheckStop>
-    requires valid { IsValid (node_check check.now) }
+    requires valid { IsValid (judged_check check.now) }
     requires line { line + length pairs.now + 1 < 2 ^ 64 }
-    ensures { Answers result (sat_fault (node_check check.now) pairs.now line) }
+    ensures { Answers result (sat_fault (judged_check check.now) pairs.now line) }
 {
     if pairs.len() != check.declared.len() {
         return Err(breaks(rules::VALUES, line));

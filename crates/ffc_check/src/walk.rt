@@ -7,7 +7,7 @@ ghost use Rattle.ffc_rules.specs.Entries.{limits, is_boolean, clause_given, line
 ghost use Rattle.ffc_rules.specs.Laws.{IsValid};
 ghost use Rattle.ffc_check.specs.Answers.{Answers, Gives};
 ghost use Rattle.ffc_check.specs.Giving.{IsGiven};
-ghost use Rattle.ffc_check.specs.Judged.{node_check};
+ghost use Rattle.ffc_check.specs.Judged.{judged_check};
 ghost use Rattle.ffc_check.specs.Lengths.{FewLiterals};
 
 use crate::arena::ClauseList;
@@ -68,7 +68,7 @@ fn take_assumed(
     k: u32,
     rest: &[CertLine],
 ) -> Result<usize, CheckStop>
-    ensures { Gives result (clause_given limits (node_check check.now) clauses.old line (lines.Assume k) rest.now)
+    ensures { Gives result (clause_given limits (judged_check check.now) clauses.old line (lines.Assume k) rest.now)
         (IsGiven clauses.old clauses.new rest.now) }
 {
     if k as usize >= check.in_force.len() {
@@ -87,7 +87,7 @@ fn take_scheme(
     at: (u32, u32, u32),
     rest: &[CertLine],
 ) -> Result<usize, CheckStop>
-    ensures { Gives result (clause_given limits (node_check check.now) clauses.old line (lines.Scheme at.0 at.1 at.2)
+    ensures { Gives result (clause_given limits (judged_check check.now) clauses.old line (lines.Scheme at.0 at.1 at.2)
         rest.now) (IsGiven clauses.old clauses.new rest.now) }
 {
     let (node, scheme, index) = at;
@@ -113,7 +113,7 @@ fn take_hinted(
     rest: &[CertLine],
 ) -> Result<usize, CheckStop>
     requires nothing { state.old.assumed ≡ [] }
-    ensures given { Gives result (clause_given limits (node_check check.now) state.old.clauses line
+    ensures given { Gives result (clause_given limits (judged_check check.now) state.old.clauses line
         (lines.Hinted literals.now hints.now) rest.now) (IsGiven state.old.clauses state.new.clauses rest.now) }
     ensures nothing { OnOk result (state.new.assumed ≡ []) }
     ensures kept { state.new.kept ≡ state.old.kept }
@@ -142,13 +142,13 @@ fn take_clause(
     here: &CertLine,
     rest: &[CertLine],
 ) -> Result<usize, CheckStop>
-    requires valid { IsValid (node_check check.now) }
+    requires valid { IsValid (judged_check check.now) }
     requires nothing { state.old.assumed ≡ [] }
     requires kept { state.old.kept ≡ check.now.table.now }
     requires ranges { AllByRecursion IsLine rest.now }
     requires short { FewLiterals here.now }
     requires line { line + length rest.now + 1 < 2 ^ 64 }
-    ensures given { Gives result (clause_given limits (node_check check.now) state.old.clauses line here.now rest.now)
+    ensures given { Gives result (clause_given limits (judged_check check.now) state.old.clauses line here.now rest.now)
         (IsGiven state.old.clauses state.new.clauses rest.now) }
     ensures nothing { OnOk result (state.new.assumed ≡ []) }
     ensures kept { state.new.kept ≡ state.old.kept }
@@ -178,12 +178,12 @@ pub fn check_lines(
     lines: &[CertLine],
     line: u64,
 ) -> Result<(), CheckStop>
-    requires valid { IsValid (node_check check.now) }
+    requires valid { IsValid (judged_check check.now) }
     requires ranges { AllByRecursion IsLine lines.now }
     requires short { AllByRecursion FewLiterals lines.now }
     requires first { 0 < line }
     requires line { line + length lines.now + 1 < 2 ^ 64 }
-    ensures { Answers result (lines_fault limits (node_check check.now) [] line 0 lines.now) }
+    ensures { Answers result (lines_fault limits (judged_check check.now) [] line 0 lines.now) }
 {
     let mut state = Refutation {
         clauses: ClauseList::new(alloc),

@@ -251,12 +251,14 @@ impl<'a, F: Field> Evaluation<'a, F> {
 /// In which order variables are guessed.
 #[derive(Clone, Copy)]
 pub enum Inputs {
+    /// From the variable of the lowest number on, as a circuit is written.
     First,
+    /// From the one of the highest number on.
     Last,
 }
 
-/// Values with which some polynomials are 0 and others are not, if going forward finds them. It is tried where so many
-/// equalities, of which the first polynomials come, are fewer than the variables and the bits. Each try is one Trial.
+/// Values at which each of `equal` is 0 and none of `unequal` is, if they follow from guessed inputs. It is tried only where the
+/// equalities that these come from, so many, are fewer than variables and bits. Each guess of all inputs is one Trial.
 pub fn values_forward<F: Field>(
     alloc: Global,
     equal: &[&Generator<F>],

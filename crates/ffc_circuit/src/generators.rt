@@ -2,7 +2,7 @@
 ghost use Rattle.std.specs.Prelude.{◌≡◌};
 
 use crate::equalities::{is_of_order, sides};
-use ffc_base::Spent;
+use ffc_base::{SearchStop, Spent};
 use ffc_cdcl::Lit;
 use ffc_encode::{EncodeStop, Polynomials};
 use ffc_field::Field;
@@ -15,12 +15,12 @@ use thiserror::Error;
 /// A polynomial that is zero where an equality holds.
 pub type Generator<F> = Poly<F, GradedReverseLex>;
 
-/// Why polynomials are not made, or not evaluated.
+/// Why polynomials are not made, or not evaluated: a stop of a search, with the errors of polynomials that become one.
 #[derive(Clone, Copy, Debug, PartialEq, Eq, Error)]
 pub enum GeneratorStop {
-    /// A limit of polynomials was passed.
-    #[error("a limit of polynomials is passed")]
-    Over,
+    /// A limit of polynomials is passed, or sides are not of the field.
+    #[error("no polynomials for these equalities")]
+    GaveUp,
     /// The meter is full.
     #[error("the budget is spent")]
     Spent,
@@ -44,7 +44,7 @@ impl<T: Drop> From<AllocFailed<T>> for GeneratorStop {
 impl From<EncodeStop> for GeneratorStop {
     fn from(stop: EncodeStop) -> GeneratorStop {
         match stop {
-            EncodeStop::TooHigh | EncodeStop::TooLong => GeneratorStop::Over,
+            EncodeStop::TooHigh | EncodeStop::TooLong => GeneratorStop::GaveUp,
             EncodeStop::Memory => GeneratorStop::Memory,
         }
     }
@@ -53,7 +53,7 @@ impl From<EncodeStop> for GeneratorStop {
 impl From<PolyStop> for GeneratorStop {
     fn from(stop: PolyStop) -> GeneratorStop {
         match stop {
-            PolyStop::DegreeOver | PolyStop::TermsOver => GeneratorStop::Over,
+            PolyStop::DegreeOver | PolyStop::TermsOver => GeneratorStop::GaveUp,
             PolyStop::Memory => GeneratorStop::Memory,
         }
     }
@@ -62,7 +62,7 @@ impl From<PolyStop> for GeneratorStop {
 impl From<MonoStop> for GeneratorStop {
     fn from(stop: MonoStop) -> GeneratorStop {
         match stop {
-            MonoStop::DegreeOver => GeneratorStop::Over,
+            MonoStop::DegreeOver => GeneratorStop::GaveUp,
             MonoStop::Memory => GeneratorStop::Memory,
         }
     }
@@ -71,6 +71,16 @@ impl From<MonoStop> for GeneratorStop {
 impl From<Spent> for GeneratorStop {
     fn from(_: Spent) -> GeneratorStop {
         GeneratorStop::Spent
+    }
+}
+
+impl From<GeneratorStop> for SearchStop {
+    fn from(stop: GeneratorStop) -> SearchStop {
+        match stop {
+            GeneratorStop::GaveUp => SearchStop::GaveUp,
+            GeneratorStop::Spent => SearchStop::Spent,
+            GeneratorStop::Memory => SearchStop::Memory,
+        }
     }
 }
 
@@ -84,16 +94,16 @@ fn difference<F: Field>(
     ensures of_table { polys.new ≡ polys.old }
 {
     let Some((left, right)) = sides(table, id) else {
-        return Err(GeneratorStop::Over);
+        return Err(GeneratorStop::GaveUp);
     };
     if !is_of_order(table, F::ORDER, left) || !is_of_order(table, F::ORDER, right) {
-        return Err(GeneratorStop::Over);
+        return Err(GeneratorStop::GaveUp);
     }
     polys.learn(left)?;
     polys.learn(right)?;
     match (polys.known(left), polys.known(right)) {
         (Some(left), Some(right)) => Ok(left.sub(right)?),
-        _ => Err(GeneratorStop::Memory),
+        _ => Err(GeneratorStop::GaveUp),
     }
 }
 

@@ -11,3 +11,5 @@ pub mod UnivariateLemmas
 pub mod DegreeLemmas
 pub mod PartLemmas
 pub mod OpeningLemmas
+pub mod UseLemmas
+pub mod SideLemmas

@@ -1,19 +1,28 @@
 -- Sums that are opened: what waits is worth the same after a node has given way to its parts.
-use Rattle.std.proofs.Common.{◌≡◌, ℕ, zero, suc, ◌+◌, ◌-◌, ◌*◌, ◌%◌, ◌<◌, cond, Bool, true, false, List, [], ◌∷◌, ◌++◌, length, take, All, refl, sym, ap, ap₂, ◌∙◌, subst, arith, append_assoc, append-nil, mul_assoc}
+use Rattle.std.proofs.Common.{◌≡◌, ℕ, zero, suc, ◌+◌, ◌-◌, ◌*◌, ◌%◌, ◌<◌, cond, Bool, true, false, List, [], ◌∷◌, ◌++◌, length, take, get_or, get_or-take, sum_by, All, refl, sym, ap, ap₂, ◌∙◌, subst, arith, append_assoc, append-nil, mul_assoc}
 use Rattle.std.proofs.Math.Nat.{mod-mod}
-use Rattle.std.proofs.lemmas.List.Elements.{All-append}
+use Rattle.std.proofs.lemmas.List.Sums.{sum_by-append, sum_by-cons}
+use Rattle.std.proofs.lemmas.Option.{same_Some, slice_get-get_or}
 use Rattle.ffc_ring.specs.Monomial.{Monomial, same_monomial}
 use Rattle.ffc_ring.specs.Polynomial.{Terms, SamePolynomial, written, scaled}
 use Rattle.ffc_ring.proofs.PolynomialLemmas.{written-append, written-scaled, times_alike, same_sums, same_term_products}
 use Rattle.ffc_term.specs.declared.node.Node.{Node}
-use Rattle.ffc_term.specs.declared.node.Node.TheVariants.{Add, Neg, Bitsum}
-use Rattle.ffc_term.specs.Nodes.{IsNodeAt, order_at, order_of_sort}
-use Rattle.ffc_term.specs.Tables.{IsFieldAt}
+use Rattle.ffc_term.specs.declared.node.Node.TheVariants.{True, FieldConst, Num, IteField, Add, Mul, Neg, Bitsum}
+use Rattle.ffc_term.specs.declared.node.Sort.TheVariants as sort
+use Rattle.ffc_term.specs.Nodes.{IsNodeAt, sorts, sort_of_node, order_at, order_of_sort}
+use Rattle.ffc_term.proofs.TableLemmas.{sort_at-is}
+use Rattle.ffc_term.specs.Tables.{IsFieldAt, IsTable}
+use Rattle.ffc_term.specs.Measuring.{number_in}
+use Rattle.ffc_term.proofs.InTurn.{get_or-in_turn}
 use Rattle.ffc_trees.specs.NodePolynomials.{poly_in, expanded, poly_of_node, node_polys, poly_at}
 use Rattle.ffc_trees.proofs.NormalLemmas.{normal_same}
-use Rattle.ffc_trees.proofs.NodePolyLemmas.{poly_at-is}
-use Rattle.ffc_ckpoly.specs.Parts.{weighted, owed, AreOwed}
-use Rattle.ffc_ckpoly.proofs.PartLemmas.{weights_alike, as_sum, as_bits, as_negation, reduced}
+use Rattle.ffc_trees.proofs.NodePolyLemmas.{poly_at-is, boolean_field}
+use Rattle.ffc_trees.specs.Parts.{parts_of}
+use Rattle.ffc_trees.proofs.PartLemmas.{parts_are}
+use Rattle.ffc_ckpoly.specs.Parts.{weighted, owed}
+use Rattle.ffc_ckpoly.specs.Opening.{is_product, waiting_ids, size_of_node, sizes, size_at, CanOpen, CanMake, IsOpenable}
+use Rattle.ffc_ckpoly.specs.Opening.CanOpen.{There, Opened}
+use Rattle.ffc_ckpoly.proofs.PartLemmas.{weights_alike, as_sum, as_bits, as_negation, reduced, sums_alike}
 
 -- a node's polynomial is the one that is written from those of its parts
 pub node_expands : (ns : List Node) (p id : ℕ) (n : Node) → IsFieldAt ns p id → IsNodeAt ns id n → SamePolynomial p (poly_at ns id) (expanded p id (take id (node_polys ns)) n)
@@ -72,15 +81,13 @@ term_added p sum old added part same m =
     ∙ same_sums p (sum ++ old) (sum ++ old) added part (λ k. refl) same m
     ∙ ap (λ ts. written ts m % p) (append_assoc sum old part)
 
--- one field node more waits
-pub owed_fields : {F : Type 0} (ns : List Node) (p : ℕ) (old new : List (F × ℕ)) (w : F) (id : ℕ) → new ≡ old ++ (w, id) ∷ [] → AreOwed ns p old → IsFieldAt ns p id → AreOwed ns p new
-owed_fields {F} ns p old new w id e are is =
-    let Has : F × ℕ → Type 0 = λ x. IsFieldAt ns p x.1 in
-    subst (All Has) (sym e) (All-append Has old ((w, id) ∷ []) are (all_of_one Has (w, id) is))
-  where
-    all_of_one : {X : Type 0} (P : X → Type 0) (x : X) → P x → All P (x ∷ [])
-    all_of_one P x h zero d inside = h
-    all_of_one P x h (suc i) d inside = absurd (omega arith)
+-- the nodes that wait
+waiting_ids-append : {F : Type 0} (xs ys : List (F × ℕ)) → waiting_ids (xs ++ ys) ≡ waiting_ids xs ++ waiting_ids ys
+waiting_ids-append [] ys = refl
+waiting_ids-append (x ∷ xs) ys = ap (λ ids. x.1 ∷ ids) (waiting_ids-append xs ys)
+
+pub waiting_ids-push : {F : Type 0} (old new : List (F × ℕ)) (x : F × ℕ) → new ≡ old ++ x ∷ [] → waiting_ids new ≡ waiting_ids old ++ x.1 ∷ []
+waiting_ids-push old new x e = ap waiting_ids e ∙ waiting_ids-append old (x ∷ [])
 
 -- ---- kinds of nodes
 
@@ -112,27 +119,54 @@ module _ (ns : List Node) (p id : ℕ) (is : IsFieldAt ns p id) where
       node_expands ns p id (Neg c) is at m
       ∙ sym (as_negation ns id p a r c (weighted a r (node_polys ns) (c ∷ [])) before e (λ k. refl) m)
 
-all_front : {X : Type 0} (P : X → Type 0) (xs : List X) (x : X) → All P (xs ++ x ∷ []) → All P xs
+pub all_front : {X : Type 0} (P : X → Type 0) (xs : List X) (x : X) → All P (xs ++ x ∷ []) → All P xs
 all_front P [] x h k d inside = absurd (omega arith)
 all_front P (y ∷ ys) x h zero d inside = h 0 d (omega arith)
 all_front P (y ∷ ys) x h (suc k) d inside = all_front P ys x (λ i e j. h (suc i) e (omega (arith, j))) k d (omega (arith, inside))
 
-all_last : {X : Type 0} (P : X → Type 0) (xs : List X) (x : X) → All P (xs ++ x ∷ []) → P x
+pub all_last : {X : Type 0} (P : X → Type 0) (xs : List X) (x : X) → All P (xs ++ x ∷ []) → P x
 all_last P [] x h = h 0 x (omega arith)
 all_last P (y ∷ ys) x h = all_last P ys x (λ i e j. h (suc i) e (omega (arith, j)))
 
-module _ {F : Type 0} (ns : List Node) (p : ℕ) (old rest : List (F × ℕ)) (item : F × ℕ) (e : old ≡ rest ++ item ∷ []) (are : AreOwed ns p old) where
-  abbrev Has : F × ℕ → Type 0
-  Has x = IsFieldAt ns p x.1
+-- ---- what opens
 
-  both : AreOwed ns p (rest ++ item ∷ [])
-  both = subst (All Has) e are
+-- a node that is not there is no product, and its parts can be opened
+pub opened : (ns : List Node) (has : ℕ → Type 0) (id : ℕ) (n : Node) → IsNodeAt ns id n → (has id → ⊥) → CanOpen ns has id → (is_product n ≡ false) × All (CanOpen ns has) (parts_of n)
+opened ns has _ n at none (There id h) = absurd (none h)
+opened ns has _ n at none (Opened id m there plain parts) =
+    subst (λ k. (is_product k ≡ false) × All (CanOpen ns has) (parts_of k)) (same_Some m n (sym there ∙ at)) (plain, parts)
 
-  pub rest_fields : AreOwed ns p rest
-  rest_fields = all_front Has rest item both
+pub parts_openable : (ns : List Node) (p : ℕ) (has : ℕ → Type 0) (id : ℕ) (n : Node) → IsTable ns → IsNodeAt ns id n → (has id → ⊥) → IsOpenable ns p has id → All (IsOpenable ns p has) (parts_of n)
+parts_openable ns p has id n table at none is = λ k d inside. record {
+  field = (parts_are ns p id table is.field n at k d inside).0;
+  opens = (opened ns has id n at none is.opens).1 k d inside;
+}
 
-  pub last_field : IsFieldAt ns p item.1
-  last_field = all_last Has rest item both
+pub no_product : (n : Node) → ((ids : List ℕ) → n ≡ Mul ids → ⊥) → is_product n ≡ false
+no_product (Mul ids) h = absurd (h ids refl)
+no_product _ h = refl
+
+-- a node that is no product can be opened, where its parts can
+pub openable : (ns : List Node) (p : ℕ) (has : ℕ → Type 0) (id : ℕ) (n : Node) → IsFieldAt ns p id → IsNodeAt ns id n → is_product n ≡ false → CanMake ns has has id → IsOpenable ns p has id
+openable ns p has id n is at plain can = record { field = is; opens = Opened id n at plain (can.parts n at plain) }
+
+-- ---- sizes
+
+size_at-is : (ns : List Node) (id : ℕ) (n : Node) → IsNodeAt ns id n → size_at ns id ≡ size_of_node (take id (sizes ns)) n
+unfolding sizes
+size_at-is ns id n at = get_or-in_turn size_of_node ns id n 0 at
+
+-- a node is one more than its parts together
+pub size_at-parts : (ns : List Node) (p id : ℕ) (n : Node) → IsTable ns → IsFieldAt ns p id → IsNodeAt ns id n → size_at ns id ≡ suc (sum_by (size_at ns) (parts_of n))
+size_at-parts ns p id n table is at =
+    size_at-is ns id n at
+    ∙ ap suc (sums_alike (number_in (take id (sizes ns))) (size_at ns) (parts_of n) (λ i d inside. get_or-take id (sizes ns) (get_or (parts_of n) i d) 0 (parts_are ns p id table is n at i d inside).1))
+
+pub some_size : (ns : List Node) (p id : ℕ) → IsFieldAt ns p id → 0 < size_at ns id
+some_size ns p id is = omega (arith, size_at-is ns id (get_or ns id True) (slice_get-get_or ns id True is.0))
+
+pub sum_by-push : {X : Type 0} (f : X → ℕ) (xs : List X) (x : X) → sum_by f (xs ++ x ∷ []) ≡ sum_by f xs + f x
+sum_by-push f xs x = omega (arith, sum_by-append f xs (x ∷ []), sum_by-cons f x [])
 
 -- a sum is begun with one node that waits
 pub owed_first : {F : Type 0} (value : F → ℕ) (p : ℕ) (polys : List Terms) (items : List (F × ℕ)) (one : F) (id : ℕ) (sum : Terms) → sum ≡ [] → items ≡ (one, id) ∷ [] → value one ≡ 1 % p
@@ -147,3 +181,21 @@ owed_first value p polys items one id sum none is unit m =
 pub nothing_waits : {X : Type 0} (xs : List X) → length xs ≡ 0 → xs ≡ []
 nothing_waits [] h = refl
 nothing_waits (x ∷ xs) h = absurd (omega arith)
+
+-- a field node that is no product is opened
+pub nothing_else : (ns : List Node) (p id : ℕ) (n : Node) → IsFieldAt ns p id → IsNodeAt ns id n
+    → ((k q : ℕ) → n ≡ FieldConst k q → ⊥) → ((k q : ℕ) → n ≡ Num k q → ⊥) → ((c a b : ℕ) → n ≡ IteField c a b → ⊥)
+    → ((ids : List ℕ) → n ≡ Add ids → ⊥) → ((ids : List ℕ) → n ≡ Mul ids → ⊥) → ((a : ℕ) → n ≡ Neg a → ⊥) → ((ids : List ℕ) → n ≡ Bitsum ids → ⊥) → ⊥
+nothing_else ns p id n is at = by_kind n (sym (sort_at-is ns id n at) ∙ is.1)
+  where
+    by_kind : (m : Node) → sort_of_node (sorts (take id ns)) m ≡ sort.Field p
+        → ((k q : ℕ) → m ≡ FieldConst k q → ⊥) → ((k q : ℕ) → m ≡ Num k q → ⊥) → ((c a b : ℕ) → m ≡ IteField c a b → ⊥)
+        → ((ids : List ℕ) → m ≡ Add ids → ⊥) → ((ids : List ℕ) → m ≡ Mul ids → ⊥) → ((a : ℕ) → m ≡ Neg a → ⊥) → ((ids : List ℕ) → m ≡ Bitsum ids → ⊥) → ⊥
+    by_kind (FieldConst k q) s a b c d e f g = a k q refl
+    by_kind (Num k q) s a b c d e f g = b k q refl
+    by_kind (IteField k x y) s a b c d e f g = c k x y refl
+    by_kind (Add ids) s a b c d e f g = d ids refl
+    by_kind (Mul ids) s a b c d e f g = e ids refl
+    by_kind (Neg x) s a b c d e f g = f x refl
+    by_kind (Bitsum ids) s a b c d e f g = g ids refl
+    by_kind _ s a b c d e f g = boolean_field p s

@@ -1,15 +1,16 @@
 -- Polynomials of nodes from those of their parts.
-use Rattle.std.proofs.Common.{◌≡◌, ℕ, zero, suc, ◌+◌, ◌-◌, ◌*◌, ◌^◌, ◌%◌, ◌<◌, ◌≤◌, List, [], ◌∷◌, ◌++◌, length, take, get_or, sum_by, All, Option, Some, None, IfSome, Result, Ok, Err, IfOk, refl, sym, ap, ap₂, ◌∙◌, subst, arith, length-take, get_or-take, append_assoc, append-nil, one-mul}
+use Rattle.std.proofs.Common.{◌≡◌, ℕ, zero, suc, ◌+◌, ◌-◌, ◌*◌, ◌^◌, ◌%◌, ◌<◌, ◌≤◌, List, [], ◌∷◌, ◌++◌, length, take, get_or, sum_by, All, Option, Some, None, IfSome, Result, Ok, Err, IfOk, OnOk, refl, sym, ap, ap₂, ◌∙◌, subst, arith, length-take, get_or-take, append_assoc, append-nil, one-mul}
 use Rattle.std.proofs.Math.Nat.{pow-suc, pow-zero, mod-mod}
 use Rattle.std.proofs.lemmas.List.Elements.{All-head, All-tail}
 use Rattle.std.proofs.lemmas.List.Sums.{sum_by-cons}
+use Rattle.std.specs.Ordering.{nat_cmp}
+use Rattle.std.specs.BTreeMap.{BTreeMap, get}
 use Rattle.ffc_ring.specs.Monomial.{Monomial, degree}
 use Rattle.ffc_ring.specs.Polynomial.{Terms, SamePolynomial, written, term_product, product, scaled, difference}
 use Rattle.ffc_ring.proofs.MonomialLemmas.{degree-mono_mul}
 use Rattle.ffc_ring.proofs.PolynomialLemmas.{written-scaled, times_alike, same_sums, same_term_products}
 use Rattle.ffc_term.specs.declared.node.Node.{Node}
-use Rattle.ffc_term.specs.declared.node.Node.TheVariants.{FieldConst, Num, IteField, Eq, Add, Mul, Neg, Bitsum}
-use Rattle.ffc_term.specs.declared.node.Sort.TheVariants as sort
+use Rattle.ffc_term.specs.declared.node.Node.TheVariants.{Eq, Mul}
 use Rattle.ffc_term.specs.Nodes.{IsNodeAt, order_at, order_of_sort}
 use Rattle.ffc_term.specs.Tables.{AreOfOneField, IsFieldAt, IsTable}
 use Rattle.ffc_term.specs.Measuring.{number_in, degrees, degree_at}
@@ -25,7 +26,8 @@ use Rattle.ffc_trees.proofs.SameLemmas.{one_degree}
 use Rattle.ffc_trees.specs.Parts.{parts_of}
 use Rattle.ffc_trees.proofs.PartLemmas.{parts_are, degree_at-is, part_low}
 use Rattle.ffc_trees.proofs.ProductLemmas.{poly_before, product_before}
-use Rattle.ffc_ckpoly.specs.Parts.{weighted, IsWithin}
+use Rattle.ffc_ckpoly.specs.Parts.{weighted, IsWithin, AreKnown}
+use Rattle.ffc_ckpoly.specs.Opening.{this_or, part_at}
 use Rattle.ffc_ckpoly.proofs.DegreeLemmas.{AreWithin, within-append}
 
 -- ---- weights
@@ -112,7 +114,7 @@ parts_within ns p id n table at within = λ k d inside.
     let same : number_in (take id (degrees ns)) c ≡ degree_at ns c = get_or-take id (degrees ns) c 0 there.1 in
     record { field = there.0; low = omega (arith, within.low, degree_at-is ns id n at, part_low (take id (degrees ns)) n k d inside, same) }
 
-sums_alike : {X : Type 0} (f g : X → ℕ) (xs : List X) → ((i : ℕ) (d : X) → i < length xs → f (get_or xs i d) ≡ g (get_or xs i d)) → sum_by f xs ≡ sum_by g xs
+pub sums_alike : {X : Type 0} (f g : X → ℕ) (xs : List X) → ((i : ℕ) (d : X) → i < length xs → f (get_or xs i d) ≡ g (get_or xs i d)) → sum_by f xs ≡ sum_by g xs
 sums_alike f g [] h = refl
 sums_alike f g (x ∷ xs) h =
     sum_by-cons f x xs ∙ ap₂ (λ a b. a + b) (h 0 x (omega arith)) (sums_alike f g xs (λ i d inside. h (suc i) d (omega (arith, inside)))) ∙ sym (sum_by-cons g x xs)
@@ -139,25 +141,6 @@ within-product d e (t ∷ a) b w v = within-append (d + e) (term_product t.0 t.1
 pub at_some : {A : Type 0} (P : A → Type 0) (o : Option A) (x : A) → o ≡ Some x → IfSome o P → P x
 at_some P o x e h = subst (λ q. IfSome q P) e h
 
--- ---- kinds of nodes
-
-module _ (p id : ℕ) (polys : List Terms) where
-  pub other_is : (n : Node) → ((k q : ℕ) → n ≡ FieldConst k q → ⊥) → ((k q : ℕ) → n ≡ Num k q → ⊥) → ((c a b : ℕ) → n ≡ IteField c a b → ⊥) → ((ids : List ℕ) → n ≡ Add ids → ⊥) → ((ids : List ℕ) → n ≡ Mul ids → ⊥) → ((a : ℕ) → n ≡ Neg a → ⊥) → ((ids : List ℕ) → n ≡ Bitsum ids → ⊥) → expanded p id polys n ≡ []
-  other_is (FieldConst k q) a b c d e f g = absurd (a k q refl)
-  other_is (Num k q) a b c d e f g = absurd (b k q refl)
-  other_is (IteField k x y) a b c d e f g = absurd (c k x y refl)
-  other_is (Add ids) a b c d e f g = absurd (d ids refl)
-  other_is (Mul ids) a b c d e f g = absurd (e ids refl)
-  other_is (Neg x) a b c d e f g = absurd (f x refl)
-  other_is (Bitsum ids) a b c d e f g = absurd (g ids refl)
-  other_is _ a b c d e f g = refl
-
--- what holds of an answer, if there is one
-pub if_some : {A E : Type 0} (P Q R : A → Type 0) (r : Result (Option A) E) → ((x : A) → P x → Q x → R x) → IfOk r (λ o. IfSome o P) → IfOk r (λ o. IfSome o Q) → IfOk r (λ o. IfSome o R)
-if_some P Q R (Ok None) f p q = tt
-if_some P Q R (Ok (Some x)) f p q = f x p q
-if_some P Q R (Err e) f p q = tt
-
 pub reduced : (p c k : ℕ) → k ≡ c % p → k % p ≡ c % p
 reduced p c k e = ap (λ j. j % p) e ∙ mod-mod c p
 
@@ -174,6 +157,23 @@ known_low ns p id f some table within line = omega (arith, one_degree p f (poly_
 pub if_both : {T E : Type 0} (P Q R : T → Type 0) (r : Result T E) → ((x : T) → P x → Q x → R x) → IfOk r P → IfOk r Q → IfOk r R
 if_both P Q R (Ok x) f p q = f x p q
 if_both P Q R (Err e) f p q = tt
+
+pub on_ok_always : {T E : Type 0} (r : Result T E) (P : Type 0) → P → OnOk r P
+on_ok_always (Ok x) P h = h
+on_ok_always (Err e) P h = tt
+
+-- ---- polynomials that are kept, or were made besides
+
+pub part_is : (p : ℕ) (ns : List Node) (known made : BTreeMap ℕ Terms) (id : ℕ) → AreKnown p ns known → AreKnown p ns made → IfSome (part_at known made id) (λ f. IsSameLine p f (poly_at ns id))
+part_is p ns known made id are are_made = by_case (get nat_cmp known id) (are id)
+  where
+    by_case : (o : Option Terms) → IfSome o (λ f. IsSameLine p f (poly_at ns id)) → IfSome (this_or o (get nat_cmp made id)) (λ f. IsSameLine p f (poly_at ns id))
+    by_case None h = are_made id
+    by_case (Some f) h = h
+
+-- the polynomial that was found is that of the node
+pub found_line : (p : ℕ) (ns : List Node) (known made : BTreeMap ℕ Terms) (id : ℕ) (f : Terms) → AreKnown p ns known → AreKnown p ns made → Some f ≡ part_at known made id → IsSameLine p f (poly_at ns id)
+found_line p ns known made id f are are_made e = at_some (λ k. IsSameLine p k (poly_at ns id)) (part_at known made id) f (sym e) (part_is p ns known made id are are_made)
 
 -- ---- the sides of an equality
 

@@ -1,5 +1,5 @@
 -- Polynomials of nodes from those of their parts: the nodes whose polynomials are added or multiplied.
-use Rattle.std.specs.Prelude.{ℕ, ◌*◌, ◌≤◌, List, [], ◌∷◌, ◌++◌, All, IfSome}
+use Rattle.std.specs.Prelude.{ℕ, ◌*◌, ◌≤◌, List, [], ◌∷◌, ◌++◌, IfSome}
 use Rattle.std.specs.Ordering.{nat_cmp}
 use Rattle.std.specs.BTreeMap.{BTreeMap, get}
 use Rattle.ffc_ring.specs.Polynomial.{Terms, scaled}
@@ -18,10 +18,6 @@ weighted w r polys (id ∷ ids) = scaled w (poly_in polys id) ++ weighted (w * r
 abbrev pub owed : {F : Type 0} → (F → ℕ) → List Terms → List (F × ℕ) → Terms
 owed value polys [] = []
 owed value polys (x ∷ xs) = scaled (value x.0) (poly_in polys x.1) ++ owed value polys xs
-
--- all of them are field nodes
-abbrev pub AreOwed : {F : Type 0} → List Node → ℕ → List (F × ℕ) → Type 0
-AreOwed nodes p xs = All (λ x. IsFieldAt nodes p x.1) xs
 
 -- a field node whose polynomial is within the limit on degrees
 pub record IsWithin (nodes : List Node) (p id : ℕ) : Type 0 where

@@ -1,6 +1,8 @@
 //! Polynomials of nodes.
-ghost use Rattle.std.specs.Prelude.{◌≡◌, ◌+◌, ◌^◌, ◌<◌, ◌≤◌, ◌++◌, ◌∷◌, [], ◌⊎◌, ◌↔◌, length, All, sum_by, IfOk, OnOk};
-ghost use Rattle.std.specs.Prelude.{IfSome, IsErrOf};
+ghost use Rattle.std.specs.Prelude.{◌≡◌, ◌+◌, ◌^◌, ◌<◌, ◌≤◌, ◌++◌, ◌∷◌, [], ◌⊎◌, ◌↔◌, ℕ, length, All, sum_by, IfOk, OnOk};
+ghost use Rattle.std.specs.Prelude.{IsSome, IsErrOf, OnErr, Some};
+ghost use Rattle.std.specs.Ordering.{nat_cmp};
+ghost use Rattle.std.specs.BTreeMap.{get, IsUnchanged, Updates};
 ghost use Rattle.ffc_ring.specs.Monomial.{IsMonomial, degree};
 ghost use Rattle.ffc_ring.specs.Polynomial.{SamePolynomial, difference};
 ghost use Rattle.ffc_term.specs.Tables.{IsFieldAt, IsTable};
@@ -9,12 +11,13 @@ ghost use Rattle.ffc_trees.specs.Normal.{IsNormal, degree_of};
 ghost use Rattle.ffc_trees.specs.NodePolynomials.{product_of, node_polys, poly_at};
 ghost use Rattle.ffc_trees.specs.Same.{IsSameLine};
 ghost use Rattle.ffc_ckpoly.specs.Parts.{IsWithin, AreKnown};
+ghost use Rattle.ffc_ckpoly.specs.Opening.{IsThere, CanMake};
 
 use crate::buffer::Buffer;
-use crate::opening::opened_sum;
+use crate::opening::{opened_sum, part_of};
 use crate::poly::CkPoly;
 use crate::powers::Power;
-use crate::uses::Uses;
+use crate::uses::nodes_to_make;
 use ffc_field::Field;
 use ffc_term::{Node, NodeId, NodeTable};
 use std::alloc::{AllocError, Global};
@@ -43,254 +46,122 @@ fn term<F: Field>(alloc: Global, c: F, m: &[Power]) -> Result<CkPoly<F>, AllocEr
     CkPoly::sum_in(alloc, &buffer)
 }
 
-/// The product of the parts' polynomials, by halves. `None` where one is not known yet.
+/// The product of the parts' polynomials, by halves.
 fn product<F: Field>(
     alloc: Global,
     table: &NodeTable,
     known: &BTreeMap<NodeId, CkPoly<F>>,
+    made: &BTreeMap<NodeId, CkPoly<F>>,
     ids: &[NodeId],
-) -> Result<Option<CkPoly<F>>, AllocError>
+) -> Result<CkPoly<F>, AllocError>
     requires valid { IsTable table.now }
     requires known { AreKnown F.ORDER table.now known.now }
+    requires made { AreKnown F.ORDER table.now made.now }
     requires fields { All (IsFieldAt table.now F.ORDER) ids.now }
+    requires parts { All (IsThere known.now made.now) ids.now }
     requires low { sum_by (degree_at table.now) ids.now ≤ 255 }
-    ensures same { IfOk result
-        (λ o. IfSome o (λ r. SamePolynomial F.ORDER r (product_of (node_polys table.now) ids.now))) }
-    ensures normal { IfOk result (λ o. IfSome o (λ r. IsNormal F.ORDER r)) }
-    ensures degree { IfOk result (λ o. IfSome o (λ r. degree_of r ≤ sum_by (degree_at table.now) ids.now)) }
+    ensures same { IfOk result (λ r. SamePolynomial F.ORDER r (product_of (node_polys table.now) ids.now)) }
+    ensures normal { IfOk result (λ r. IsNormal F.ORDER r) }
+    ensures degree { IfOk result (λ r. degree_of r ≤ sum_by (degree_at table.now) ids.now) }
 {
     match ids {
-        [] => Ok(Some(term(alloc, F::of(1), &[])?)),
-        [id] => match known.get(id) {
-            Some(part) => Ok(Some(part.copied(alloc)?)),
-            None => Ok(None),
+        [] => term(alloc, F::of(1), &[]),
+        [id] => match part_of(known, made, *id) {
+            Some(part) => part.copied(alloc),
+            None => unreachable!(),
         },
         _ => {
             let (front, back) = ids.split_at(ids.len() / 2);
-            let Some(left) = product(alloc, table, known, front)? else {
-                return Ok(None);
-            };
-            let Some(right) = product(alloc, table, known, back)? else {
-                return Ok(None);
-            };
-            Ok(Some(left.mul(&right)?))
+            let left = product(alloc, table, known, made, front)?;
+            let right = product(alloc, table, known, made, back)?;
+            left.mul(&right)
         }
     }
 }
 
-/// The polynomial of a node, or `None` where that of a part is not known that is not made in place. The known nodes that it is
-/// made of are listed as used.
+/// The polynomial of a node, from those that are kept and those that were made besides.
 fn polynomial_of<F: Field>(
     alloc: Global,
     table: &NodeTable,
     known: &BTreeMap<NodeId, CkPoly<F>>,
-    used: &mut Vec<NodeId>,
+    made: &BTreeMap<NodeId, CkPoly<F>>,
     id: NodeId,
-) -> Result<Option<CkPoly<F>>, AllocError>
+) -> Result<CkPoly<F>, AllocError>
     requires within { IsWithin table.now F.ORDER id }
     requires known { AreKnown F.ORDER table.now known.now }
-    ensures { IfOk result (λ o. IfSome o (λ r. IsSameLine F.ORDER r (poly_at table.now id))) }
+    requires made { AreKnown F.ORDER table.now made.now }
+    requires parts { CanMake table.now (IsThere known.now made.now) (IsThere known.now made.now) id }
+    ensures { IfOk result (λ r. IsSameLine F.ORDER r (poly_at table.now id)) }
 {
     match table.node(id) {
-        Node::Mul(ids) => {
-            used.extend_from_slice(ids.as_slice())?;
-            product(alloc, table, known, ids.as_slice())
-        }
-        _ => opened_sum(alloc, table, known, used, id),
+        Node::Mul(ids) => product(alloc, table, known, made, ids.as_slice()),
+        _ => opened_sum(alloc, table, known, made, id),
     }
 }
 
-/// Counts a use of a node that is not known, and lists it where it was not used before.
-fn push_one<F: Field>(
-    table: &NodeTable,
-    known: &BTreeMap<NodeId, CkPoly<F>>,
-    uses: &mut Uses,
-    found: &mut Vec<NodeId>,
+/// Keeps the polynomial of a node.
+fn keep<F: Field>(
+    known: &mut BTreeMap<NodeId, CkPoly<F>>,
     id: NodeId,
-    factor: bool,
+    part: CkPoly<F>,
 ) -> Result<(), AllocError>
-    requires within { IsWithin table.now F.ORDER id }
-    requires found { All (IsWithin table.now F.ORDER) found.old.items }
-    ensures { OnOk result (All (IsWithin table.now F.ORDER) found.new.items) }
+    ensures ok { OnOk result (Updates nat_cmp known.old known.new id (Some part)) }
+    ensures err { OnErr result (IsUnchanged known.old known.new) }
 {
-    if known.contains_key(&id) {
-        return Ok(());
-    }
-    if !uses.count(id, factor)? {
-        return Ok(());
-    }
-    found.push(id)?;
+    known.insert(id, part)?;
     Ok(())
 }
 
-/// The same for each of these nodes.
-fn push_new<F: Field>(
-    table: &NodeTable,
-    known: &BTreeMap<NodeId, CkPoly<F>>,
-    uses: &mut Uses,
-    found: &mut Vec<NodeId>,
-    ids: &[NodeId],
-    factors: bool,
-) -> Result<(), AllocError>
-    requires ids { All (IsWithin table.now F.ORDER) ids.now }
-    requires found { All (IsWithin table.now F.ORDER) found.old.items }
-    ensures { OnOk result (All (IsWithin table.now F.ORDER) found.new.items) }
-{
-    for id in ids {
-        push_one(table, known, uses, found, *id, factors)?;
-    }
-    Ok(())
-}
-
-/// The same for the parts of a node.
-fn push_parts<F: Field>(
-    table: &NodeTable,
-    known: &BTreeMap<NodeId, CkPoly<F>>,
-    uses: &mut Uses,
-    found: &mut Vec<NodeId>,
-    id: NodeId,
-) -> Result<(), AllocError>
-    requires within { IsWithin table.now F.ORDER id }
-    requires found { All (IsWithin table.now F.ORDER) found.old.items }
-    ensures { OnOk result (All (IsWithin table.now F.ORDER) found.new.items) }
-{
-    match table.node(id) {
-        Node::Add(ids) => push_new(table, known, uses, found, ids.as_slice(), false),
-        Node::Bitsum(ids) => push_new(table, known, uses, found, ids.as_slice(), false),
-        Node::Mul(ids) => push_new(table, known, uses, found, ids.as_slice(), true),
-        Node::Neg(a) => push_new(table, known, uses, found, &[*a], false),
-        _ => Ok(()),
-    }
-}
-
-/// A node and all nodes under it that it is made of and that are not known, in increasing order, so that parts come first.
-fn cone<F: Field>(
+/// The polynomial of a node. Each node under it is looked at once; sums under it are opened in place, and the polynomials
+/// of products, of their factors and of sums that are used more than once are kept until it is made.
+fn side_of<F: Field>(
     alloc: Global,
     table: &NodeTable,
     known: &BTreeMap<NodeId, CkPoly<F>>,
-    uses: &mut Uses,
     id: NodeId,
-) -> Result<Vec<NodeId>, AllocError>
-    requires { IsWithin table.now F.ORDER id }
-    ensures { IfOk result (λ v. All (IsWithin table.now F.ORDER) v.items) }
-{
-    let mut found = Vec::new(alloc);
-    found.push(id)?;
-    for place in 0..table.len() as usize {
-        if place >= found.len() {
-            break;
-        }
-        let next = found[place];
-        push_parts(table, known, uses, &mut found, next)?;
-    }
-    found.sort_unstable();
-    Ok(found)
-}
-
-/// Drops the polynomial of a node that was used for the last time.
-fn forget_one<F: Field>(
-    table: &NodeTable,
-    known: &mut BTreeMap<NodeId, CkPoly<F>>,
-    uses: &mut Uses,
-    id: NodeId,
-)
-    requires { AreKnown F.ORDER table.now known.old }
-    ensures { AreKnown F.ORDER table.now known.new }
-{
-    if !uses.release(id) {
-        return;
-    }
-    let _ = known.remove(&id);
-}
-
-/// The same for each use of a node.
-fn forget<F: Field>(
-    table: &NodeTable,
-    known: &mut BTreeMap<NodeId, CkPoly<F>>,
-    uses: &mut Uses,
-    used: &[NodeId],
-)
-    requires { AreKnown F.ORDER table.now known.old }
-    ensures { AreKnown F.ORDER table.now known.new }
-{
-    for id in used {
-        forget_one(table, known, uses, *id);
-    }
-}
-
-/// Keeps a polynomial, if there is one.
-fn keep<F: Field>(
-    table: &NodeTable,
-    known: &mut BTreeMap<NodeId, CkPoly<F>>,
-    id: NodeId,
-    made: Option<CkPoly<F>>,
-) -> Result<(), AllocError>
-    requires known { AreKnown F.ORDER table.now known.old }
-    requires made { IfSome made (λ f. IsSameLine F.ORDER f (poly_at table.now id)) }
-    ensures { AreKnown F.ORDER table.now known.new }
+) -> Result<CkPoly<F>, AllocError>
+    requires within { IsWithin table.now F.ORDER id }
+    requires known { AreKnown F.ORDER table.now known.now }
+    ensures { IfOk result (λ r. IsSameLine F.ORDER r (poly_at table.now id)) }
 {
     let _nodes = table.len();
-    if let Some(f) = made {
-        known.insert(id, f)?;
+    let mut to_make = nodes_to_make(alloc, table, known, id)?;
+    let mut made = BTreeMap::new(alloc);
+    while let Some(next) = to_make.pop_first() {
+        let part = polynomial_of(alloc, table, known, &made, next)?;
+        keep(&mut made, next, part)?;
     }
-    Ok(())
+    match made.remove(&id) {
+        Some(side) => Ok(side),
+        None => unreachable!(),
+    }
 }
 
-/// Keeps the polynomial of a node, if it is one that is made by itself.
-fn make<F: Field>(
-    alloc: Global,
-    table: &NodeTable,
-    known: &mut BTreeMap<NodeId, CkPoly<F>>,
-    uses: &mut Uses,
-    id: NodeId,
-) -> Result<(), AllocError>
-    requires within { IsWithin table.now F.ORDER id }
-    requires known { AreKnown F.ORDER table.now known.old }
-    ensures { AreKnown F.ORDER table.now known.new }
-{
-    if !uses.is_made(table.node(id), id) {
-        return Ok(());
-    }
-    let mut used = Vec::new(alloc);
-    let made = polynomial_of(alloc, table, known, &mut used, id)?;
-    keep(table, known, id, made)?;
-    forget(table, known, uses, used.as_slice());
-    Ok(())
-}
-
-/// Keeps the polynomial of a node. Each node under it is looked at once; sums under it are opened in place, and the
-/// polynomials of products, of their factors and of sums that are used more than once are dropped after their last use.
+/// Keeps the polynomial of a node, and counts its terms.
 fn learn<F: Field>(
     alloc: Global,
     table: &NodeTable,
     known: &mut BTreeMap<NodeId, CkPoly<F>>,
+    kept: &mut usize,
     id: NodeId,
 ) -> Result<(), AllocError>
     requires within { IsWithin table.now F.ORDER id }
     requires known { AreKnown F.ORDER table.now known.old }
-    ensures { AreKnown F.ORDER table.now known.new }
+    ensures known { AreKnown F.ORDER table.now known.new }
+    ensures learnt { OnOk result (IsSome (get nat_cmp known.new id)) }
+    ensures others { OnOk result ((q : ℕ) → IsSome (get nat_cmp known.old q) → IsSome (get nat_cmp known.new q)) }
 {
     if known.contains_key(&id) {
         return Ok(());
     }
-    let mut uses = Uses::new(alloc);
-    let order = cone(alloc, table, known, &mut uses, id)?;
-    for next in order.as_slice() {
-        make(alloc, table, known, &mut uses, *next)?;
-    }
+    let side = side_of(alloc, table, known, id)?;
+    let terms = side.terms();
+    keep(known, id, side)?;
+    *kept = kept.saturating_add(terms);
     Ok(())
 }
 
-/// How many terms the polynomial of a node has, if it is known.
-fn terms_of<F: Field>(known: &BTreeMap<NodeId, CkPoly<F>>, id: NodeId) -> usize {
-    match known.get(&id) {
-        Some(f) => f.terms(),
-        None => 0,
-    }
-}
-
-/// The difference of two polynomials that are known. That one of them is not never comes up, since both were just made; no
-/// clause says so, and the answer would be that of out of memory.
+/// The difference of two polynomials that are known.
 fn known_difference<F: Field>(
     table: &NodeTable,
     known: &BTreeMap<NodeId, CkPoly<F>>,
@@ -300,26 +171,45 @@ fn known_difference<F: Field>(
     requires left { IsWithin table.now F.ORDER s }
     requires right { IsWithin table.now F.ORDER t }
     requires known { AreKnown F.ORDER table.now known.now }
+    requires has_left { IsSome (get nat_cmp known.now s) }
+    requires has_right { IsSome (get nat_cmp known.now t) }
     ensures difference { IfOk result
         (λ r. SamePolynomial F.ORDER r (difference F.ORDER (poly_at table.now s) (poly_at table.now t))) }
     ensures normal { IfOk result (λ r. IsNormal F.ORDER r) }
     ensures low { IfOk result (λ r. degree_of r ≤ 255) }
 {
     let _nodes = table.len();
-    let Some(left) = known.get(&s) else {
-        return Err(AllocError);
-    };
-    let Some(right) = known.get(&t) else {
-        return Err(AllocError);
-    };
-    left.sub(right)
+    known[&s].sub(&known[&t])
+}
+
+/// The difference of the polynomials of two nodes, which are kept.
+fn difference_of<F: Field>(
+    alloc: Global,
+    table: &NodeTable,
+    known: &mut BTreeMap<NodeId, CkPoly<F>>,
+    kept: &mut usize,
+    s: NodeId,
+    t: NodeId,
+) -> Result<CkPoly<F>, AllocError>
+    requires left { IsWithin table.now F.ORDER s }
+    requires right { IsWithin table.now F.ORDER t }
+    requires known { AreKnown F.ORDER table.now known.old }
+    ensures known { AreKnown F.ORDER table.now known.new }
+    ensures difference { IfOk result
+        (λ r. SamePolynomial F.ORDER r (difference F.ORDER (poly_at table.now s) (poly_at table.now t))) }
+    ensures normal { IfOk result (λ r. IsNormal F.ORDER r) }
+    ensures low { IfOk result (λ r. degree_of r ≤ 255) }
+{
+    learn(alloc, table, known, kept, s)?;
+    learn(alloc, table, known, kept, t)?;
+    known_difference(table, known, s, t)
 }
 
 /// The polynomials of nodes that differences were asked of, over one field. Clauses see the nodes of the table.
 ///
 /// The sides of differences are kept, until they have 4,194,304 terms together: then they are dropped, before the next
-/// difference. While a side is made, the polynomials of products, of their factors and of sums that are used more than once
-/// are kept until their last use, at most 65,536 terms each; of other sums none is made.
+/// difference. While a side is made, the polynomials of the products under it, of their factors and of sums that are used
+/// more than once are kept too, at most 65,536 terms each; of other sums none is made.
 pub struct NodePolys<'a, F: Field> {
     table: &'a NodeTable,
     known: BTreeMap<NodeId, CkPoly<F>>,
@@ -378,19 +268,6 @@ impl<'a, F: Field> NodePolys<'a, F> {
         }
     }
 
-    /// Keeps the polynomial of a node.
-    fn learn_side(&mut self, alloc: Global, side: NodeId) -> Result<(), AllocError>
-        requires { IsWithin self.old F.ORDER side }
-        ensures { self.new ≡ self.old }
-    {
-        if self.known.contains_key(&side) {
-            return Ok(());
-        }
-        learn(alloc, self.table, &mut self.known, side)?;
-        self.kept = self.kept.saturating_add(terms_of(&self.known, side));
-        Ok(())
-    }
-
     /// The difference of the polynomials of two nodes, which are kept for later ones.
     pub fn difference(
         &mut self,
@@ -407,9 +284,7 @@ impl<'a, F: Field> NodePolys<'a, F> {
         ensures low { IfOk result (λ r. degree_of r ≤ 255) }
     {
         self.make_room(alloc);
-        self.learn_side(alloc, s)?;
-        self.learn_side(alloc, t)?;
-        known_difference(self.table, &self.known, s, t)
+        difference_of(alloc, self.table, &mut self.known, &mut self.kept, s, t)
     }
 }
 
@@ -451,10 +326,6 @@ pub fn ck_poly_of<F: Field>(
     if table.length(id) > MOST_TERMS {
         return Err(CkStop::Over);
     }
-    let mut known = BTreeMap::new(alloc);
-    learn::<F>(alloc, table, &mut known, id)?;
-    match known.remove(&id) {
-        Some(found) => Ok(found),
-        None => Err(CkStop::Memory),
-    }
+    let known = BTreeMap::new(alloc);
+    Ok(side_of(alloc, table, &known, id)?)
 }

@@ -1,64 +1,151 @@
-//! How long polynomials are kept. What is decided here bears on time and memory alone: where a polynomial is not kept, it is
-//! made anew or not at all.
-use ffc_term::{Node, NodeId};
-use std::alloc::{AllocError, Global};
-use std::collections::BTreeMap;
+//! Which nodes under a node have polynomials made by themselves.
+ghost use Rattle.std.specs.Prelude.{◌≡◌, ◌∷◌, [], ◌<◌, true, false, length, IfSome, IfOk, OnOk};
+ghost use Rattle.ffc_term.specs.Nodes.{IsNodeAt};
+ghost use Rattle.ffc_term.specs.Tables.{IsTable};
+ghost use Rattle.ffc_term.specs.declared.node.Node.{Node as TableNode};
+ghost use Rattle.ffc_trees.specs.Parts.{parts_of};
+ghost use Rattle.ffc_ckpoly.specs.Parts.{IsWithin};
+ghost use Rattle.ffc_ckpoly.specs.Opening.{is_product};
+ghost use Rattle.ffc_ckpoly.specs.Uses.{HasId, AreNoted, IsNowListed, CanBeMadeInOrder};
 
-/// How often a node is used by nodes whose polynomials are still to be made, and whether one of these is a product.
+use crate::poly::CkPoly;
+use ffc_field::Field;
+use ffc_term::{Node, NodeId, NodeTable};
+use std::alloc::{AllocError, Global};
+use std::collections::{BTreeMap, BTreeSet};
+
+/// How a node is used by those that were looked at: by more than one, and by a product.
 #[derive(Clone, Copy)]
-struct Use {
-    left: u64,
+pub struct Use {
+    many: bool,
     factor: bool,
 }
 
-/// The uses of nodes under one node.
-#[derive(Drop)]
-pub struct Uses {
-    by_node: BTreeMap<NodeId, Use>,
-}
-
-impl Uses {
-    /// Nothing is used. It takes no memory.
-    pub fn new(alloc: Global) -> Self {
-        Uses {
-            by_node: BTreeMap::new(alloc),
-        }
-    }
-
-    /// Counts a use, and answers whether it is the node's first.
-    pub fn count(&mut self, id: NodeId, factor: bool) -> Result<bool, AllocError> {
-        let mut counted = Use { left: 1, factor };
-        if let Some(before) = self.by_node.get(&id) {
-            counted.left = before.left.saturating_add(1);
-            counted.factor = factor || before.factor;
-        }
-        self.by_node.insert(id, counted)?;
-        Ok(counted.left == 1)
-    }
-
-    /// Whether the polynomial of a node is made by itself: that of a product, of a factor, of a sum that is used more than
-    /// once, and of the node that is not used, for which the others are made.
-    pub fn is_made(&self, node: &Node, id: NodeId) -> bool {
-        let Some(uses) = self.by_node.get(&id) else {
-            return true;
-        };
+impl Use {
+    /// Whether the polynomial of a node is made by itself: that of a product, of a factor, and of a sum that is used more
+    /// than once.
+    fn is_made(self, node: &Node) -> bool
+        ensures { result ≡ false → (self.factor ≡ false) × (is_product node.now ≡ false) }
+    {
         match node {
             Node::Mul(_) => true,
-            Node::Add(_) => uses.factor || uses.left > 1,
-            Node::Bitsum(_) => uses.factor || uses.left > 1,
-            Node::Neg(_) => uses.factor || uses.left > 1,
-            _ => uses.factor,
+            Node::Add(_) => self.factor || self.many,
+            Node::Bitsum(_) => self.factor || self.many,
+            Node::Neg(_) => self.factor || self.many,
+            _ => self.factor,
         }
     }
+}
 
-    /// Takes a use away, and answers whether it was the node's last.
-    pub fn release(&mut self, id: NodeId) -> bool {
-        match self.by_node.get_mut(&id) {
-            Some(uses) => {
-                uses.left = uses.left.saturating_sub(1);
-                uses.left == 0
-            }
-            None => false,
-        }
+/// A use more, where a node was used in this way before, or was not.
+fn one_more(before: Option<Use>, factor: bool) -> Use
+    ensures factor { factor ≡ true → result.factor ≡ true }
+    ensures before { IfSome before (λ uses. uses.factor ≡ true → result.factor ≡ true) }
+{
+    match before {
+        Some(uses) => Use {
+            many: true,
+            factor: factor || uses.factor,
+        },
+        None => Use {
+            many: false,
+            factor,
+        },
     }
+}
+
+/// Notes a use of a node that is not known.
+fn note_one<F: Field>(
+    known: &BTreeMap<NodeId, CkPoly<F>>,
+    waiting: &mut BTreeMap<NodeId, Use>,
+    id: NodeId,
+    factor: bool,
+) -> Result<(), AllocError>
+    ensures { OnOk result (AreNoted known.now waiting.old waiting.new factor (id ∷ [])) }
+{
+    if known.contains_key(&id) {
+        return Ok(());
+    }
+    let noted = one_more(waiting.get(&id).copied(), factor);
+    waiting.insert(id, noted)?;
+    Ok(())
+}
+
+/// The same for each of these nodes.
+fn note_all<F: Field>(
+    known: &BTreeMap<NodeId, CkPoly<F>>,
+    waiting: &mut BTreeMap<NodeId, Use>,
+    ids: &[NodeId],
+    factors: bool,
+) -> Result<(), AllocError>
+    ensures { OnOk result (AreNoted known.now waiting.old waiting.new factors ids.now) }
+{
+    for id in ids {
+        note_one(known, waiting, *id, factors)?;
+    }
+    Ok(())
+}
+
+/// The same for the parts of a node.
+fn note_parts<F: Field>(
+    table: &NodeTable,
+    known: &BTreeMap<NodeId, CkPoly<F>>,
+    waiting: &mut BTreeMap<NodeId, Use>,
+    id: NodeId,
+) -> Result<(), AllocError>
+    requires { id < length table.now }
+    ensures { OnOk result ((n : TableNode) → IsNodeAt table.now id n → AreNoted known.now waiting.old waiting.new (is_product n) (parts_of n)) }
+{
+    match table.node(id) {
+        Node::Add(ids) => note_all(known, waiting, ids.as_slice(), false),
+        Node::Bitsum(ids) => note_all(known, waiting, ids.as_slice(), false),
+        Node::Mul(ids) => note_all(known, waiting, ids.as_slice(), true),
+        Node::Neg(a) => note_one(known, waiting, *a, false),
+        _ => Ok(()),
+    }
+}
+
+/// Lists a node, if its polynomial is made by itself.
+fn list_made(
+    table: &NodeTable,
+    to_make: &mut BTreeSet<NodeId>,
+    id: NodeId,
+    uses: Use,
+) -> Result<(), AllocError>
+    requires { id < length table.now }
+    ensures listed { OnOk result (IsNowListed table.now to_make.old to_make.new id uses) }
+    ensures valid { IsTable table.now }
+{
+    if uses.is_made(table.node(id)) {
+        to_make.insert(id)?;
+    }
+    Ok(())
+}
+
+/// A node and those nodes under it that are not known and whose polynomials are made by themselves. Each node under it is
+/// looked at once, the greatest number first, since parts have smaller numbers.
+pub fn nodes_to_make<F: Field>(
+    alloc: Global,
+    table: &NodeTable,
+    known: &BTreeMap<NodeId, CkPoly<F>>,
+    id: NodeId,
+) -> Result<BTreeSet<NodeId>, AllocError>
+    requires { IsWithin table.now F.ORDER id }
+    ensures made { IfOk result (CanBeMadeInOrder table.now F.ORDER known.now) }
+    ensures itself { IfOk result (λ ids. HasId ids id) }
+{
+    let mut to_make = BTreeSet::new(alloc);
+    let mut waiting = BTreeMap::new(alloc);
+    waiting.insert(
+        id,
+        Use {
+            many: false,
+            factor: true,
+        },
+    )?;
+    while let Some((next, uses)) = waiting.pop_last() {
+        list_made(table, &mut to_make, next, uses)?;
+        note_parts(table, known, &mut waiting, next)?;
+    }
+    Ok(to_make)
 }

@@ -7,7 +7,7 @@ ghost use Rattle.ffc_rules.specs.Cores.{core};
 ghost use Rattle.ffc_rules.specs.Entries.{breaks, entry_fault};
 ghost use Rattle.ffc_rules.specs.Laws.{IsValid, IsUnsat, AreTrueAt};
 ghost use Rattle.ffc_check.specs.declared.stop.Broken.{Broken as BrokenRule};
-ghost use Rattle.ffc_check.specs.Judged.{node_check, IsReadableEntry};
+ghost use Rattle.ffc_check.specs.Judged.{judged_check, IsReadableEntry};
 ghost use Rattle.ffc_core.specs.declared.checking.CoreStop.TheVariants as stops;
 ghost use Rattle.ffc_core.specs.Outside.{IsLeastOutside, AreListed};
 
@@ -125,20 +125,20 @@ pub fn check_core(
     first_line: u64,
     listed: &[u64],
 ) -> Result<(), CoreStop>
-    requires valid { IsValid (node_check check.now) }
+    requires valid { IsValid (judged_check check.now) }
     requires readable { IsReadableEntry entry.now }
     requires line { first_line < 2 ^ 63 }
     requires unsat { IsUnsat entry.now }
-    ensures ok { OnOk result ((entry_fault (node_check check.now) entry.now first_line ≡ None)
+    ensures ok { OnOk result ((entry_fault (judged_check check.now) entry.now first_line ≡ None)
         × AreListed (core entry.now (length check.now.in_force.now)) listed.now) }
     ensures broken { (b : BrokenRule) → result ≡ Err (stops.Broken b)
-        → entry_fault (node_check check.now) entry.now first_line ≡ Some (breaks b.rule b.line) }
+        → entry_fault (judged_check check.now) entry.now first_line ≡ Some (breaks b.rule b.line) }
     ensures outside { (k : ℕ) → result ≡ Err (stops.Outside k)
-        → (entry_fault (node_check check.now) entry.now first_line ≡ None)
+        → (entry_fault (judged_check check.now) entry.now first_line ≡ None)
         × IsLeastOutside (core entry.now (length check.now.in_force.now)) listed.now k }
 
     // No assignment makes all true that is listed.
-    ensures meaning { OnOk result ((assignment : List NodeValue) → AreTrueAt (node_check check.now) listed.now
+    ensures meaning { OnOk result ((assignment : List NodeValue) → AreTrueAt (judged_check check.now) listed.now
         assignment → ⊥) }
 {
     check_entry(alloc, check, entry, first_line)?;

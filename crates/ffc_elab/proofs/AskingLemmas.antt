@@ -31,7 +31,7 @@ use Rattle.ffc_elab.specs.Kept.{IsKept, IsKnown}
 use Rattle.ffc_elab.specs.Changes.{in_state, with_state, with_nodes, with_orders, assuming}
 use Rattle.ffc_elab.specs.Orders.{orders_of}
 use Rattle.ffc_elab.specs.Reading.{IsFormOf, IsCommandForm, and_then, read_by_head}
-use Rattle.ffc_elab.specs.Taking.{IsTaken, TakesKept}
+use Rattle.ffc_elab.specs.Taking.{IsCommandTaken, TakesKept}
 use Rattle.ffc_elab.specs.AskedLists.{AreReadAs, IsListRead, ReadsList, list_alone, listed_command, listed_head, total_weight}
 use Rattle.ffc_elab.specs.AskedNodes.{AreToMake, AreMade}
 use Rattle.ffc_elab.specs.Asking.{IsLightList, ReadsLight, IsListMade, MakesListed}
@@ -173,7 +173,7 @@ module _ (k : Known) (tree : Tree) (words : List Word) (x y : Store) (known : Is
         ap (λ ps. with_orders ps (with_nodes y.table k.state)) (sym (form_orders words tree whole))
         ∙ ap (λ ns. with_orders (orders_in tree) (with_nodes ns k.state)) (nodes_now k tree listed.Values x y known kept same r.items made)
 
-    pub value_taken : (z : Store) → IsKept (in_state (with_orders (orders_of words) (with_nodes y.table k.state))) z → IsTaken k tree z (Rattle.ffc_elab.specs.declared.answers.Command.TheVariants.GetValue r)
+    pub value_taken : (z : Store) → IsKept (in_state (with_orders (orders_of words) (with_nodes y.table k.state))) z → IsCommandTaken k tree z (Rattle.ffc_elab.specs.declared.answers.Command.TheVariants.GetValue r)
     value_taken z after_it = record {
       command = smt.GetValue made.asked;
       read = made.read;
@@ -188,7 +188,7 @@ module _ (k : Known) (tree : Tree) (words : List Word) (x y : Store) (known : Is
         ap (λ ns. with_nodes ns k.state) (nodes_now k tree listed.Assumptions x y known kept same r.items made)
         ∙ ap (λ o. record (with_nodes (asked_made k.state.nodes made.asked) k.state) { first_order = o }) (sym (none_named k.state.first_order))
 
-    pub assuming_taken : (z : Store) → IsKept (assuming made.asked (with_nodes y.table k.state)) z → IsTaken k tree z (Rattle.ffc_elab.specs.declared.answers.Command.TheVariants.CheckAssuming r)
+    pub assuming_taken : (z : Store) → IsKept (assuming made.asked (with_nodes y.table k.state)) z → IsCommandTaken k tree z (Rattle.ffc_elab.specs.declared.answers.Command.TheVariants.CheckAssuming r)
     assuming_taken z after_it = record {
       command = smt.CheckSatAssuming made.asked;
       read = made.read;

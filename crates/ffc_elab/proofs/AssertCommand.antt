@@ -36,7 +36,7 @@ use Rattle.ffc_elab.specs.Changes.{HasGlobalNames, in_state, with_nodes, with_or
 use Rattle.ffc_elab.specs.Making.{FitsOrNot, IsSoundRead, IsTooMuch}
 use Rattle.ffc_elab.specs.Orders.{orders_of}
 use Rattle.ffc_elab.specs.Reading.{IsFormOf, IsCommandForm, read_by_head}
-use Rattle.ffc_elab.specs.Taking.{IsTaken, TakesKept}
+use Rattle.ffc_elab.specs.Taking.{IsCommandTaken, TakesKept}
 use Rattle.ffc_elab.proofs.ChangeLemmas.{plain_fault, room_read, full_read, heavy_read, sound_of}
 use Rattle.ffc_elab.proofs.DeclareLemmas.{form_fine, front_is}
 use Rattle.ffc_elab.proofs.GrowthLemmas.{kept_grown}
@@ -152,7 +152,7 @@ module _ (k : Known) (tree : Tree) (words : List Word) (known : IsKnown k) (h : 
       Leaves z = (j : Known) (u : Term) → HasGlobalNames j.state → IsKnownNode j.state.nodes u id → id ≡ node_of j.state.nodes u → All IsOrder (orders_of words) → IsKept j y
           → IsKept (in_state (with_orders (orders_of words) (labelled label u (with_assertion (an_assertion label u) j.state)))) z
 
-      pub assert_taken : (z : Store) → Leaves z → IsTaken k tree z (command.Quiet effect.EndsModel)
+      pub assert_taken : (z : Store) → Leaves z → IsCommandTaken k tree z (command.Quiet effect.EndsModel)
       assert_taken z leaves =
           let after_it : IsKept (in_state (with_orders (orders_of words) (asserted y.table))) z =
           leaves (with_state k (with_nodes y.table s)) t known.scoped.global (just_known s.nodes y.table t id made_so) (just_made s.nodes y.table t id made_so) orders

@@ -19,7 +19,7 @@ use Rattle.ffc_elab.specs.Answers.{IsAnswered}
 use Rattle.ffc_elab.specs.Kept.{IsKept, IsKnown}
 use Rattle.ffc_elab.specs.Reading.{and_then, plain_of, read_by_head, IsCommandForm}
 use Rattle.ffc_elab.specs.Changes.{in_state, opened, settled, quietly_after}
-use Rattle.ffc_elab.specs.Taking.{IsTaken}
+use Rattle.ffc_elab.specs.Taking.{IsCommandTaken}
 use Rattle.ffc_elab.proofs.OutcomeLemmas.{outcome_behind}
 
 pub settled_opened : (p : Plain) (s : State) → settled p (opened p s) ≡ quietly_after (plain_of p) s
@@ -145,7 +145,7 @@ module _ (k : Known) (tree : Tree) (words : List Word) (head : Head) (known : Is
   plain_fault f e = fault_read k.state tree f (form.read ∙ sym e)
 
   pub plain_taken : (p : Plain) (x : Store) (r : Command) → Ok (plain_of p) ≡ outcome (read_by_head limits k.state head form.closing (items_of form.items))
-      → IsKept (in_state (quietly_after (plain_of p) k.state)) x → IsAnswered (quietly_after (plain_of p) k.state) (plain_of p) r → IsTaken k tree x r
+      → IsKept (in_state (quietly_after (plain_of p) k.state)) x → IsAnswered (quietly_after (plain_of p) k.state) (plain_of p) r → IsCommandTaken k tree x r
   plain_taken p x r e kept answered = record {
     command = plain_of p;
     read = light_read k.state tree p known.sound.nodes.table.well_formed.within (sound_of (form_read limits k.state tree) (plain_of p) (form.read ∙ sym e));

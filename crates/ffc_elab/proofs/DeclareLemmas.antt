@@ -29,7 +29,7 @@ use Rattle.ffc_elab.specs.Kept.{IsKept, IsKnown}
 use Rattle.ffc_elab.specs.Changes.{in_state, with_nodes, with_orders, declared_in}
 use Rattle.ffc_elab.specs.Orders.{orders_of}
 use Rattle.ffc_elab.specs.Reading.{IsFormOf, IsCommandForm, read_by_head}
-use Rattle.ffc_elab.specs.Taking.{IsTaken}
+use Rattle.ffc_elab.specs.Taking.{IsCommandTaken}
 use Rattle.ffc_elab.proofs.OutcomeLemmas.{word_is}
 use Rattle.ffc_elab.proofs.ChangeLemmas.{fits_read, full_read, sound_of}
 use Rattle.ffc_elab.proofs.ConstantLemmas.{interned_so}
@@ -95,7 +95,7 @@ module _ (k : Known) (name : Name) (sort : Sort) (x : Store) (known : IsKnown k)
     unfolding named_orders
     declare_orders room = subst (All IsOrder) (form_orders words tree whole) (named_are_orders limits s tree (smt.Declare name sort) (read_so room))
 
-    pub declare_taken : (y : Store) → length s.nodes + 1 ≤ most_nodes → IsKept (in_state (with_orders (orders_of words) (declared_in name sort s))) y → IsTaken k tree y (command.Quiet effect.EndsModel)
+    pub declare_taken : (y : Store) → length s.nodes + 1 ≤ most_nodes → IsKept (in_state (with_orders (orders_of words) (declared_in name sort s))) y → IsCommandTaken k tree y (command.Quiet effect.EndsModel)
     declare_taken y room after_it = record {
       command = smt.Declare name sort;
       read = read_so room;

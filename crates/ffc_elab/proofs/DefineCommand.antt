@@ -35,7 +35,7 @@ use Rattle.ffc_elab.specs.Changes.{HasGlobalNames, IsDefinition, in_state, with_
 use Rattle.ffc_elab.specs.Making.{FitsOrNot, IsSoundRead, IsTooMuch}
 use Rattle.ffc_elab.specs.Orders.{orders_of}
 use Rattle.ffc_elab.specs.Reading.{IsFormOf, IsCommandForm, read_by_head}
-use Rattle.ffc_elab.specs.Taking.{IsTaken, TakesKept}
+use Rattle.ffc_elab.specs.Taking.{IsCommandTaken, TakesKept}
 use Rattle.ffc_elab.proofs.ChangeLemmas.{plain_fault, room_read, full_read, heavy_read, sound_of}
 use Rattle.ffc_elab.proofs.DeclareLemmas.{form_fine, front_is}
 use Rattle.ffc_elab.proofs.SortNameLemmas.{form_orders}
@@ -105,7 +105,7 @@ module _ (k : Known) (tree : Tree) (words : List Word) (known : IsKnown k) (h : 
       unfolding named_orders
       orders = subst (All IsOrder) (form_orders words tree whole) (named_are_orders limits s tree c read_so)
 
-      pub define_taken : (y z : Store) (v : Meaning) → IsKept (with_state k (with_nodes nodes s)) y → IsMeaning nodes y.symbols.terms v (meant_by ps sort t) → Leaves words name v y z → IsTaken k tree z (command.Quiet effect.EndsModel)
+      pub define_taken : (y z : Store) (v : Meaning) → IsKept (with_state k (with_nodes nodes s)) y → IsMeaning nodes y.symbols.terms v (meant_by ps sort t) → Leaves words name v y z → IsCommandTaken k tree z (command.Quiet effect.EndsModel)
       define_taken y z v kept meant leaves =
           let m = meant_by ps sort t in
           let after_it = leaves (with_state k (with_nodes nodes s)) m known.scoped.global (is_definition ps sort t) meant orders kept in
@@ -173,7 +173,7 @@ module _ (k : Known) (x : Store) (tree : Tree) (words : List Word) (known : IsKn
         unfolding nodes_after
         nodes_so = ap (λ (m : Made). m.nodes) made_so
 
-        pub term_taken : (z : Store) → Leaves words name (meaning.Defined d.sort id) y z → IsTaken k tree z (command.Quiet effect.EndsModel)
+        pub term_taken : (z : Store) → Leaves words name (meaning.Defined d.sort id) y z → IsCommandTaken k tree z (command.Quiet effect.EndsModel)
         term_taken z leaves =
             define_taken k tree words known h form name [] d.sort it.term sound_so whole fits.0 y.table nodes_so fits.1.grows.table.well_formed.within y z (meaning.Defined d.sort id)
             (grown_by k x y it.term id known kept same fits.1) (refl, just_known k.state.nodes y.table it.term id made_so) leaves
@@ -201,7 +201,7 @@ module _ (k : Known) (x : Store) (tree : Tree) (words : List Word) (known : IsKn
     as_macro (p ∷ ps) n sorts code = record { parameters_are = sorts; sort_is = refl; code = code; height_is = it.height_is; weight_is = it.weight_is }
 
     module _ (light : d.body.weight ≤ limits.weight) where
-      pub macro_taken : (z : Store) → Leaves words name (meaning.Macro the_macro) x z → IsTaken k tree z (command.Quiet effect.EndsModel)
+      pub macro_taken : (z : Store) → Leaves words name (meaning.Macro the_macro) x z → IsCommandTaken k tree z (command.Quiet effect.EndsModel)
       macro_taken z leaves =
           define_taken k tree words known h form name it.parameters d.sort it.term it.sound whole (light_weight it.term d.body.weight it.weight_is light) k.state.nodes (no_nodes it.parameters parameters_some)
           known.sound.nodes.table.well_formed.within x z (meaning.Macro the_macro) kept (as_macro it.parameters parameters_some it.sorts_are it.code) leaves

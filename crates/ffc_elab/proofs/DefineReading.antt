@@ -17,7 +17,7 @@ use Rattle.ffc_smt.proofs.TermWalk.{reads_sort}
 use Rattle.ffc_smt.proofs.WalkLemmas.{EachToken, EachIn, each_in, MayFail, one_fault}
 use Rattle.ffc_terms.proofs.FirstLemmas as first
 use Rattle.ffc_terms.proofs.FirstLemmas.{Each, IsAt, NoneBefore, each_append, none_later, outcome_faulty, contains_first, first_is}
-use Rattle.ffc_words.specs.declared.faults.ScriptFault.{ScriptFault}
+use Rattle.ffc_lex.specs.declared.faults.ScriptFault.{ScriptFault}
 use Rattle.ffc_words.specs.declared.faults.TakeStop.{TakeStop}
 use Rattle.ffc_words.specs.declared.faults.TakeStop.TheVariants as stop
 use Rattle.ffc_words.specs.Words.{IsTreeAt, AreItemsAt, word_at, fault_of}

@@ -15,7 +15,7 @@ use Rattle.ffc_smt.proofs.CommandWalk.{reads_form}
 use Rattle.ffc_smt.proofs.WalkLemmas.{EachToken, MayFail}
 use Rattle.ffc_parts.specs.declared.heads.Head.{Head}
 use Rattle.ffc_parts.specs.Heads.{head_name, MayComeAs, may_come_at}
-use Rattle.ffc_words.specs.declared.faults.ScriptFault.{ScriptFault}
+use Rattle.ffc_lex.specs.declared.faults.ScriptFault.{ScriptFault}
 use Rattle.ffc_words.specs.Words.{AreItemsAt, word_at}
 use Rattle.ffc_words.specs.Outcomes.{outcome}
 use Rattle.ffc_elab.specs.Reading.{AreInOrder, IsFormOf, IsHeadOf, TimelyAs, read_by_head}

@@ -25,6 +25,7 @@ pub mod PlainLemmas
 pub mod DispatchLemmas
 pub mod HeadLemmas
 pub mod LevelLemmas
+pub mod ContextLemmas
 pub mod ChangeLemmas
 pub mod ItemLemmas
 pub mod NamingLemmas

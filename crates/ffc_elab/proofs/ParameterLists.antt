@@ -13,7 +13,7 @@ use Rattle.ffc_smt.specs.Faults.{Fault, word_fault, Read}
 use Rattle.ffc_smt.specs.Scopes.{State, scope_of}
 use Rattle.ffc_smt.specs.TermReading.{Named}
 use Rattle.ffc_smt.specs.CommandReading.{parameters_of, parameters_read}
-use Rattle.ffc_words.specs.declared.faults.ScriptFault.{ScriptFault}
+use Rattle.ffc_lex.specs.declared.faults.ScriptFault.{ScriptFault}
 use Rattle.ffc_words.specs.declared.faults.TakeStop.{TakeStop}
 use Rattle.ffc_words.specs.declared.faults.TakeStop.TheVariants as stop
 use Rattle.ffc_words.specs.Words.{IsTreeAt, AreItemsAt, word_at, fault_of}

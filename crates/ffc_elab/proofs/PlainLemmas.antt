@@ -118,7 +118,7 @@ mapped_leaf f read leaf = record {
 }
 
 -- a keyword, and what it means
-pub keyword_outcome : {A : Type 0} (f : List ℕ → A) (w : Word) → outcome (read_map (λ v. f v.bytes) (keyword_read (Leaf w))) ≡ and_then (keyword_of w) (λ key. Ok (f key))
+keyword_outcome : {A : Type 0} (f : List ℕ → A) (w : Word) → outcome (read_map (λ v. f v.bytes) (keyword_read (Leaf w))) ≡ and_then (keyword_of w) (λ key. Ok (f key))
 keyword_outcome f w = by_kind w.kind
   where
     by_kind : (k : TokenKind) → outcome (read_map (λ v. f v.bytes) (elim k as (λ x. Read Word) [ kinds.Keyword ↦ Sound w | _ ↦ faulty 5 w ])) ≡ and_then (keyword_of_kind k w) (λ key. Ok (f key))
@@ -148,6 +148,11 @@ then_with a (Err x) f = refl
 
 with_same : {A B C : Type 0} (a : A) (r q : Result B Fault) (f : A × B → C) → r ≡ q → and_then (with_ok a r) (λ p. Ok (f p)) ≡ and_then q (λ b. Ok (f (a, b)))
 with_same a r q f e = ap (λ x. and_then (with_ok a x) (λ p. Ok (f p))) e ∙ then_with a q f
+
+-- a keyword, what it means, and the end of the form
+pub keyword_ended : {A : Type 0} (f : List ℕ → A) (w end : Word) → and_then (outcome (read_map (λ v. f v.bytes) (keyword_read (Leaf w)))) (λ a. and_then (end_at end) (λ u. Ok a)) ≡ and_then (keyword_of w) (λ key. and_then (end_at end) (λ u. Ok (f key)))
+keyword_ended f w end =
+    ap (λ r. and_then r (λ a. and_then (end_at end) (λ u. Ok a))) (keyword_outcome f w) ∙ and_then_twice (keyword_of w) (λ key. Ok (f key)) (λ a. and_then (end_at end) (λ u. Ok a))
 
 pub one_outcome : (read : Tree → Read Command) (words : List Word) (i : ℕ) (items : Trees) (closing : Word) (rest : List Word)
     → IsLeafRead read → AreItemsAt words i items closing rest → AreInOrder (drop i words)

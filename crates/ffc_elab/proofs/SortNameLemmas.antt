@@ -30,7 +30,7 @@ use Rattle.ffc_elab.specs.declared.answers.Command.TheVariants as command
 use Rattle.ffc_elab.specs.declared.answers.Effect.TheVariants as effect
 use Rattle.ffc_elab.specs.Orders.{orders_of}
 use Rattle.ffc_elab.specs.Reading.{IsFormOf, IsCommandForm, read_by_head}
-use Rattle.ffc_elab.specs.Taking.{IsTaken}
+use Rattle.ffc_elab.specs.Taking.{IsCommandTaken}
 use Rattle.ffc_elab.proofs.ChangeLemmas.{quiet_read, sound_of}
 use Rattle.ffc_elab.proofs.OrderLemmas.{tree_orders}
 use Rattle.ffc_elab.proofs.LevelLemmas.{reverse_cons}
@@ -149,7 +149,7 @@ module _ (k : Known) (tree : Tree) (words : List Word) (known : IsKnown k) (whol
   unfolding named_orders
   sort_orders = subst (All IsOrder) (form_orders words tree whole) (named_are_orders limits k.state tree (smt.DefineSort name sort) read_so)
 
-  pub sort_taken : (x : Store) → IsKept (in_state (with_orders (orders_of words) (with_sort name sort k.state))) x → IsTaken k tree x (command.Quiet effect.EndsModel)
+  pub sort_taken : (x : Store) → IsKept (in_state (with_orders (orders_of words) (with_sort name sort k.state))) x → IsCommandTaken k tree x (command.Quiet effect.EndsModel)
   sort_taken x kept = record {
     command = smt.DefineSort name sort;
     read = read_so;

@@ -4,7 +4,7 @@ use Rattle.ffc_smt.specs.Trees.{Word, Tree, tree_of}
 use Rattle.ffc_smt.specs.Faults.{Read, Sound, Faulty, first_fault}
 use Rattle.ffc_smt.specs.Terms as smt
 use Rattle.ffc_smt.specs.CommandReading.{limits, command_read}
-use Rattle.ffc_words.specs.declared.faults.ScriptFault.{ScriptFault}
+use Rattle.ffc_lex.specs.declared.faults.ScriptFault.{ScriptFault}
 use Rattle.ffc_words.specs.declared.faults.TakeStop.{TakeStop}
 use Rattle.ffc_words.specs.declared.faults.TakeStop.TheVariants as stop
 use Rattle.ffc_words.specs.Words.{fault_of}
@@ -14,7 +14,7 @@ use Rattle.ffc_elab.specs.declared.store.Store.{Store}
 use Rattle.ffc_elab.specs.Histories.{Known, known_by, known_of}
 use Rattle.ffc_elab.specs.Answers.{TakesAs, IsAnswered}
 use Rattle.ffc_elab.specs.Kept.{IsKept, IsKnown}
-use Rattle.ffc_elab.specs.Taking.{IsTaken, TakesKept}
+use Rattle.ffc_elab.specs.Taking.{IsCommandTaken, TakesKept}
 use Rattle.ffc_elab.proofs.HistoryLemmas.{known_further, known_by_form, next_is_known}
 
 fault_as : (k : Known) (tree : Tree) (r : Read smt.Command) (f : ScriptFault) → outcome r ≡ Err (fault_of f) → TakesAs k tree r (Err (stop.Fault f)) k
@@ -37,7 +37,7 @@ module _ (k : Known) (tree : Tree) where
   stopped_keeps (stop.Fault f) new h = h.1
   stopped_keeps stop.Memory new h = h
 
-module _ (forms : List (List Word)) (form : List Word) (tree : Tree) (new : Store) (r : Command) (is : tree_of form ≡ Some tree) (h : IsTaken (known_of forms) tree new r) where
+module _ (forms : List (List Word)) (form : List Word) (tree : Tree) (new : Store) (r : Command) (is : tree_of form ≡ Some tree) (h : IsCommandTaken (known_of forms) tree new r) where
   abbrev k : Known
   k = known_of forms
 

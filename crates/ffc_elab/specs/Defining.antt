@@ -11,7 +11,7 @@ use Rattle.ffc_smt.specs.Terms as smt
 use Rattle.ffc_smt.specs.Terms.{Name, Term, Parameter, height, weight}
 use Rattle.ffc_smt.specs.TermReading.{sort_read}
 use Rattle.ffc_smt.specs.CommandReading.{fresh_read, limits, parameter_read, parameters_of, parameters_read, term_of_sort}
-use Rattle.ffc_words.specs.declared.faults.ScriptFault.{ScriptFault}
+use Rattle.ffc_lex.specs.declared.faults.ScriptFault.{ScriptFault}
 use Rattle.ffc_words.specs.declared.faults.TakeStop.{TakeStop}
 use Rattle.ffc_words.specs.declared.faults.TakeStop.TheVariants as stop
 use Rattle.ffc_words.specs.Outcomes.{outcome}

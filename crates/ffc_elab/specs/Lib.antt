@@ -1,5 +1,6 @@
 pub mod Histories
 pub mod Answers
+pub mod Contexts
 pub mod Kept
 pub mod Reading
 pub mod Changes

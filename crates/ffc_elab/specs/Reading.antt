@@ -19,7 +19,7 @@ use Rattle.ffc_elab.specs.declared.plain.Info.{Info}
 use Rattle.ffc_elab.specs.declared.plain.Info.TheVariants as info
 use Rattle.ffc_elab.specs.declared.plain.Plain.{Plain}
 use Rattle.ffc_elab.specs.declared.plain.Plain.TheVariants as plain
-use Rattle.ffc_words.specs.declared.faults.ScriptFault.{ScriptFault}
+use Rattle.ffc_lex.specs.declared.faults.ScriptFault.{ScriptFault}
 use Rattle.ffc_words.specs.Words.{AreItemsAt, word_at, fault_of}
 use Rattle.ffc_words.specs.Outcomes.{outcome}
 

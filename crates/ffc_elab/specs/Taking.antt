@@ -17,14 +17,14 @@ use Rattle.ffc_elab.specs.Kept.{IsKept, IsKnown}
 use Rattle.ffc_elab.specs.Reading.{IsCommandForm}
 
 -- the command that was read, what is kept after it, and its answer
-pub record IsTaken (k : Known) (tree : Tree) (new : Store) (r : Command) : Type 0 where
+pub record IsCommandTaken (k : Known) (tree : Tree) (new : Store) (r : Command) : Type 0 where
   pub command : smt.Command
   pub read : command_read limits k.state tree ≡ Sound command
   pub kept : IsKept (known_by k tree command) new
   pub answered : IsAnswered (known_by k tree command).state command r
 
 abbrev pub TakesKept : Known → Tree → Store → Result Command TakeStop → Type 0
-TakesKept k tree new (Ok r) = IsTaken k tree new r
+TakesKept k tree new (Ok r) = IsCommandTaken k tree new r
 TakesKept k tree new (Err (stop.Fault f)) = (outcome (command_read limits k.state tree) ≡ Err (fault_of f)) × IsKept k new
 TakesKept k tree new (Err stop.Memory) = IsKept k new
 

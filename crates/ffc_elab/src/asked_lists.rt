@@ -15,7 +15,7 @@ use crate::items::end_at;
 use crate::plain::FIRST;
 use ffc_lex::TokenKind;
 use ffc_terms::Symbols;
-use ffc_words::{FormWords, TakeStop};
+use ffc_words::{FaultCode, FormWords, TakeStop};
 use std::alloc::Global;
 
 /// What a list is of.
@@ -140,7 +140,7 @@ fn inner_list(
         → ReadsList nodes symbols.now words.now listed s (First (Group opening inner last) items) closing result }
 {
     if listed.is_missing(words.kind(FIRST + 1)) {
-        return Err(TakeStop::Fault(words.fault(5, FIRST + 1)));
+        return Err(TakeStop::Fault(words.fault(FaultCode::Shape, FIRST + 1)));
     }
     match read_items(alloc, words, symbols, listed, FIRST + 1) {
         Err(stop) => Err(stop),
@@ -167,6 +167,6 @@ pub(crate) fn read_list(
 {
     match words.kind(FIRST) {
         TokenKind::LeftParen => inner_list(alloc, words, symbols, listed),
-        _ => Err(TakeStop::Fault(words.fault(5, FIRST))),
+        _ => Err(TakeStop::Fault(words.fault(FaultCode::Shape, FIRST))),
     }
 }

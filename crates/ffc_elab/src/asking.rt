@@ -6,10 +6,10 @@ ghost use Rattle.ffc_elab.specs.Histories.{Known};
 use crate::answers::{Asked, Command};
 use crate::asked_lists::{AskedList, Listed, read_list};
 use crate::asked_nodes::make_all;
-use crate::making::{MOST_WEIGHT, TOO_MUCH};
+use crate::making::MOST_WEIGHT;
 use crate::store::Store;
 use ffc_term::TermStop;
-use ffc_words::{FormWords, TakeStop};
+use ffc_words::{FaultCode, FormWords, TakeStop};
 
 impl Store {
     ghost use Rattle.ffc_parts.specs.declared.heads.Head.TheVariants as head;
@@ -29,7 +29,7 @@ impl Store {
             Err(stop) => Err(stop),
             Ok(list) => {
                 if list.weight > MOST_WEIGHT {
-                    return Err(TakeStop::Fault(words.fault(TOO_MUCH, 0)));
+                    return Err(TakeStop::Fault(words.fault(FaultCode::Nodes, 0)));
                 }
                 Ok(list)
             }
@@ -51,7 +51,7 @@ impl Store {
                 match make_all(self.alloc, words, &mut self.table, &self.symbols, &terms) {
                     Ok(asked) => Ok(asked),
                     Err(TermStop::Memory) => Err(TakeStop::Memory),
-                    Err(TermStop::Nodes) => Err(TakeStop::Fault(words.fault(TOO_MUCH, 0))),
+                    Err(TermStop::Nodes) => Err(TakeStop::Fault(words.fault(FaultCode::Nodes, 0))),
                 }
             }
         }

@@ -24,7 +24,7 @@ use crate::sorted_terms::sorted_term;
 use ffc_lex::TokenKind;
 use ffc_term::Sort;
 use ffc_terms::{Meaning, Names, Symbols, TermRead, is_word};
-use ffc_words::{FormWords, ScriptFault, TakeStop};
+use ffc_words::{FaultCode, FormWords, ScriptFault, TakeStop};
 use std::alloc::Global;
 
 /// The place of the term in `(! T :named N)`.
@@ -54,7 +54,7 @@ pub(crate) fn last_term(
         (read_map (λ p. p.0) (item closing (term_of_sort limits s parameters wanted) last (items_of items))) result }
 {
     match words.kind(at) {
-        TokenKind::RightParen => Err(TakeStop::Fault(words.fault(5, at))),
+        TokenKind::RightParen => Err(TakeStop::Fault(words.fault(FaultCode::Shape, at))),
         _ => match sorted_term(alloc, words, symbols, locals, wanted, at) {
             Err(stop) => Err(stop),
             Ok(term) => match end_at(words, term.next) {
@@ -73,9 +73,9 @@ fn named_word(words: &FormWords, at: usize) -> Result<(), ScriptFault>
         TokenKind::Keyword => if words.bytes(at) == b":named".as_slice() {
             Ok(())
         } else {
-            Err(words.fault(5, at))
+            Err(words.fault(FaultCode::Shape, at))
         },
-        _ => Err(words.fault(5, at)),
+        _ => Err(words.fault(FaultCode::Shape, at)),
     }
 }
 
@@ -126,7 +126,7 @@ fn named_assertion<'a>(
         → ReadsAssertion s.nodes symbols.now (read_by_head limits s head.Assert closing (items_of items)) result }
 {
     match words.kind(LABELLED) {
-        TokenKind::RightParen => Err(TakeStop::Fault(words.fault(5, LABELLED))),
+        TokenKind::RightParen => Err(TakeStop::Fault(words.fault(FaultCode::Shape, LABELLED))),
         _ => match sorted_term(
             alloc,
             words,

@@ -16,10 +16,10 @@ use ffc_lex::TokenKind;
 use ffc_parts::Operator;
 use ffc_term::Sort;
 use ffc_terms::{Names, Op, Symbols, TermRead, is_named, name_at};
-use ffc_words::{FormWords, TakeStop};
+use ffc_words::{FaultCode, FormWords, TakeStop};
 use std::alloc::{AllocError, Global};
 
-/// The name of Boolean sort at a place: code 5 where the assumption begins, where it is no name.
+/// The name of Boolean sort at a place. Where it is no name, the fault is one of shape, where the assumption begins.
 fn boolean_name(
     alloc: Global,
     words: &FormWords,
@@ -33,7 +33,7 @@ fn boolean_name(
         (Leaf w) at result }
 {
     match name_at(words, at) {
-        None => Err(TakeStop::Fault(words.fault(5, opening))),
+        None => Err(TakeStop::Fault(words.fault(FaultCode::Shape, opening))),
         Some(_) => sorted_term(alloc, words, symbols, Names::new(alloc), Sort::Bool, at),
     }
 }
@@ -88,7 +88,7 @@ fn negation_at(
         (Group opening items closing) at result }
 {
     if !is_negation(words, at) {
-        return Err(TakeStop::Fault(words.fault(5, at)));
+        return Err(TakeStop::Fault(words.fault(FaultCode::Shape, at)));
     }
     match boolean_name(alloc, words, symbols, at + 2, at) {
         Err(stop) => Err(stop),

@@ -15,7 +15,7 @@ use crate::store::Store;
 use ffc_lex::Text;
 use ffc_term::{Node, NodeId, NodeTable, Sort, TermStop};
 use ffc_terms::Meaning;
-use ffc_words::{FormWords, TakeStop};
+use ffc_words::{FaultCode, FormWords, TakeStop};
 
 /// The node of the constant of this number.
 fn constant_node(number: u32, sort: Sort) -> Node
@@ -130,7 +130,7 @@ impl Store {
         match self.name_constant(words, name, sort) {
             Ok(()) => Ok(Command::Quiet(Effect::EndsModel)),
             Err(TermStop::Memory) => Err(TakeStop::Memory),
-            Err(TermStop::Nodes) => Err(TakeStop::Fault(words.fault(15, 0))),
+            Err(TermStop::Nodes) => Err(TakeStop::Fault(words.fault(FaultCode::Nodes, 0))),
         }
     }
 

@@ -19,7 +19,7 @@ use crate::plain::FIRST;
 use ffc_lex::{TokenKind, is_theory_symbol};
 use ffc_term::Sort;
 use ffc_terms::{Meaning, Names, Symbols, name_at, sort_at};
-use ffc_words::{FormWords, ScriptFault};
+use ffc_words::{FaultCode, FormWords, ScriptFault};
 
 /// A name, unless it is taken.
 pub(crate) fn free_name<'a>(
@@ -31,7 +31,7 @@ pub(crate) fn free_name<'a>(
     ensures { result_as (λ b. b.now) result ≡ outcome (fresh taken (word_at words.now at) name.now) }
 {
     if taken || is_theory_symbol(name) {
-        return Err(words.fault(9, at));
+        return Err(words.fault(FaultCode::Twice, at));
     }
     Ok(name)
 }
@@ -46,7 +46,7 @@ pub(crate) fn fresh_name<'a>(
         ≡ outcome (fresh_read (λ name. is_some (found terms.now name)) (Leaf (word_at words.now at))) }
 {
     match name_at(words, at) {
-        None => Err(words.fault(5, at)),
+        None => Err(words.fault(FaultCode::Shape, at)),
         Some(name) => {
             let taken = terms.get(name).is_some();
             free_name(words, at, name, taken)
@@ -65,7 +65,7 @@ pub(crate) fn fresh_sort_name<'a>(
         (Leaf (word_at words.now at))) }
 {
     match name_at(words, at) {
-        None => Err(words.fault(5, at)),
+        None => Err(words.fault(FaultCode::Shape, at)),
         Some(name) => {
             let taken = name == b"Bool".as_slice() || sorts.get(name).is_some();
             free_name(words, at, name, taken)
@@ -93,7 +93,7 @@ pub(crate) fn last_sort(
         ≡ outcome (read_map (λ p. p.0) (item closing (sort_read sorts.now) last (items_of items))) }
 {
     match words.kind(at) {
-        TokenKind::RightParen => Err(words.fault(5, at)),
+        TokenKind::RightParen => Err(words.fault(FaultCode::Shape, at)),
         _ => match sort_at(sorts, words, at) {
             Err(fault) => Err(fault),
             Ok((sort, next)) => ended_sort(words, sort, next),
@@ -111,9 +111,9 @@ pub(crate) fn constant_sort(words: &FormWords, sorts: &Names<Sort>) -> Result<So
     match words.kind(FIRST + 1) {
         TokenKind::LeftParen => match words.kind(FIRST + 2) {
             TokenKind::RightParen => last_sort(words, sorts, FIRST + 3),
-            _ => Err(words.fault(5, FIRST + 2)),
+            _ => Err(words.fault(FaultCode::Shape, FIRST + 2)),
         },
-        _ => Err(words.fault(5, FIRST + 1)),
+        _ => Err(words.fault(FaultCode::Shape, FIRST + 1)),
     }
 }
 

@@ -9,10 +9,10 @@ ghost use Rattle.ffc_elab.specs.Orders.{orders_of};
 
 use crate::answers::{Command, Effect};
 use crate::defining::{Definition, read_definition};
-use crate::making::{MOST_WEIGHT, TOO_MUCH};
+use crate::making::MOST_WEIGHT;
 use crate::store::Store;
 use ffc_terms::{Macro, Meaning, TermRead};
-use ffc_words::{FormWords, TakeStop};
+use ffc_words::{FaultCode, FormWords, TakeStop};
 use std::alloc::AllocError;
 
 impl Store {
@@ -98,7 +98,7 @@ impl Store {
             body,
         } = definition;
         if body.weight > MOST_WEIGHT {
-            return Err(TakeStop::Fault(words.fault(TOO_MUCH, 0)));
+            return Err(TakeStop::Fault(words.fault(FaultCode::Nodes, 0)));
         }
         let TermRead {
             code,

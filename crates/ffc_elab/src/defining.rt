@@ -17,7 +17,7 @@ use crate::plain::FIRST;
 use ffc_lex::TokenKind;
 use ffc_term::Sort;
 use ffc_terms::{Names, Symbols, TermRead, sort_at};
-use ffc_words::{FormWords, ScriptFault, TakeStop};
+use ffc_words::{FaultCode, FormWords, ScriptFault, TakeStop};
 use std::alloc::Global;
 
 /// A name that is defined, the sorts of its parameters, the sort of its body, and the body.
@@ -39,7 +39,7 @@ fn sort_item(
         → ReadsSortItem sorts.now items closing at result }
 {
     match words.kind(at) {
-        TokenKind::RightParen => Err(words.fault(5, at)),
+        TokenKind::RightParen => Err(words.fault(FaultCode::Shape, at)),
         _ => sort_at(sorts, words, at),
     }
 }

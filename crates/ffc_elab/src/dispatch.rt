@@ -7,7 +7,7 @@ ghost use Rattle.ffc_elab.specs.Reading.{IsFormOf, IsHeadOf, TimelyAs};
 
 use ffc_lex::TokenKind;
 use ffc_parts::{Head, head_named};
-use ffc_words::{FormWords, ScriptFault};
+use ffc_words::{FaultCode, FormWords, ScriptFault};
 
 /// The place of a command's name.
 const NAME: usize = 1;
@@ -17,12 +17,12 @@ fn timely(words: &FormWords, logic: bool) -> Result<Head, ScriptFault>
     ensures { TimelyAs (word_at words.now 1) logic result }
 {
     match head_named(words.bytes(NAME)) {
-        None => Err(words.fault(4, NAME)),
+        None => Err(words.fault(FaultCode::Command, NAME)),
         Some(head) => {
             if head.may_come(logic) {
                 Ok(head)
             } else {
-                Err(words.fault(7, NAME))
+                Err(words.fault(FaultCode::Order, NAME))
             }
         }
     }
@@ -34,7 +34,7 @@ pub(crate) fn head_of(words: &FormWords, logic: bool) -> Result<Head, ScriptFaul
 {
     match words.kind(NAME) {
         TokenKind::Symbol => timely(words, logic),
-        TokenKind::Quoted => Err(words.fault(4, NAME)),
-        _ => Err(words.fault(5, NAME)),
+        TokenKind::Quoted => Err(words.fault(FaultCode::Command, NAME)),
+        _ => Err(words.fault(FaultCode::Shape, NAME)),
     }
 }

@@ -11,7 +11,7 @@ ghost use Rattle.ffc_elab.specs.Reading.{end_at, info_of, keyword_of, later_item
 use crate::plain::Info;
 use ffc_lex::TokenKind;
 use ffc_parts::{name_of, number_of};
-use ffc_words::{FormWords, ScriptFault};
+use ffc_words::{FaultCode, FormWords, ScriptFault};
 
 /// The parenthesis that closes the form.
 pub(crate) fn end_at(words: &FormWords, at: usize) -> Result<(), ScriptFault>
@@ -19,7 +19,7 @@ pub(crate) fn end_at(words: &FormWords, at: usize) -> Result<(), ScriptFault>
 {
     match words.kind(at) {
         TokenKind::RightParen => Ok(()),
-        _ => Err(words.fault(5, at)),
+        _ => Err(words.fault(FaultCode::Shape, at)),
     }
 }
 
@@ -29,7 +29,7 @@ pub(crate) fn keyword_at<'a>(words: &FormWords<'a>, at: usize) -> Result<&'a [u8
 {
     match words.kind(at) {
         TokenKind::Keyword => Ok(words.bytes(at)),
-        _ => Err(words.fault(5, at)),
+        _ => Err(words.fault(FaultCode::Shape, at)),
     }
 }
 
@@ -39,7 +39,7 @@ pub(crate) fn string_at<'a>(words: &FormWords<'a>, at: usize) -> Result<&'a [u8]
 {
     match words.kind(at) {
         TokenKind::Str => Ok(words.bytes(at)),
-        _ => Err(words.fault(5, at)),
+        _ => Err(words.fault(FaultCode::Shape, at)),
     }
 }
 
@@ -48,14 +48,14 @@ pub(crate) fn truth_at(words: &FormWords, at: usize) -> Result<bool, ScriptFault
     ensures { result_as (λ b. b) result ≡ outcome (truth_read (Leaf (word_at words.now at))) }
 {
     match name_of(words.kind(at), words.bytes(at)) {
-        None => Err(words.fault(5, at)),
+        None => Err(words.fault(FaultCode::Shape, at)),
         Some(name) => {
             if name == b"true".as_slice() {
                 Ok(true)
             } else if name == b"false".as_slice() {
                 Ok(false)
             } else {
-                Err(words.fault(5, at))
+                Err(words.fault(FaultCode::Shape, at))
             }
         }
     }
@@ -66,12 +66,12 @@ pub(crate) fn logic_at(words: &FormWords, at: usize) -> Result<(), ScriptFault>
     ensures { result_as (λ u. smt.SetLogic) result ≡ outcome (logic_read (Leaf (word_at words.now at))) }
 {
     match name_of(words.kind(at), words.bytes(at)) {
-        None => Err(words.fault(5, at)),
+        None => Err(words.fault(FaultCode::Shape, at)),
         Some(name) => {
             if name == b"QF_FF".as_slice() {
                 Ok(())
             } else {
-                Err(words.fault(6, at))
+                Err(words.fault(FaultCode::Logic, at))
             }
         }
     }
@@ -88,10 +88,10 @@ pub(crate) fn count_at(words: &FormWords, at: usize, most: u32) -> Result<u32, S
             if n <= u64::from(most) {
                 Ok(n as u32)
             } else {
-                Err(words.fault(16, at))
+                Err(words.fault(FaultCode::Levels, at))
             }
         }
-        _ => Err(words.fault(5, at)),
+        _ => Err(words.fault(FaultCode::Shape, at)),
     }
 }
 

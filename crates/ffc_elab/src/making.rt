@@ -12,14 +12,11 @@ use crate::store::Store;
 use ffc_making::make;
 use ffc_term::{NodeId, NodeTable, TermStop};
 use ffc_terms::{Op, Symbols, TermRead};
-use ffc_words::{FormWords, TakeStop};
+use ffc_words::{FaultCode, FormWords, TakeStop};
 use std::alloc::Global;
 
 /// How much the terms of a command may weigh.
 pub(crate) const MOST_WEIGHT: u32 = 16_777_216;
-
-/// The code of a command that is too heavy, or makes too many nodes.
-pub(crate) const TOO_MUCH: u8 = 15;
 
 /// Makes the node of a term that is no heavier than this. Where it does not fit, or memory is out, the table is as before.
 fn make_or_keep(
@@ -78,12 +75,12 @@ impl Store {
         ensures others { self.new ≡ record self.old { table = self.new.table } }
     {
         if term.weight > MOST_WEIGHT {
-            return Err(TakeStop::Fault(words.fault(TOO_MUCH, 0)));
+            return Err(TakeStop::Fault(words.fault(FaultCode::Nodes, 0)));
         }
         match self.make_term(&term.code, term.weight) {
             Ok(id) => Ok(id),
             Err(TermStop::Memory) => Err(TakeStop::Memory),
-            Err(TermStop::Nodes) => Err(TakeStop::Fault(words.fault(TOO_MUCH, 0))),
+            Err(TermStop::Nodes) => Err(TakeStop::Fault(words.fault(FaultCode::Nodes, 0))),
         }
     }
 }

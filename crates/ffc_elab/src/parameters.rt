@@ -13,7 +13,7 @@ use crate::items::end_at;
 use ffc_lex::TokenKind;
 use ffc_term::Sort;
 use ffc_terms::{Names, name_at, sort_at};
-use ffc_words::{FormWords, ScriptFault, TakeStop};
+use ffc_words::{FaultCode, FormWords, ScriptFault, TakeStop};
 use std::alloc::{AllocError, Global};
 
 /// Parameters that were read: their names, and their sorts in order.
@@ -32,7 +32,7 @@ fn new_name<'a>(
     ensures { result_as (λ b. b.now) result ≡ outcome (new_among names.now (Leaf (word_at words.now at))) }
 {
     match name_at(words, at) {
-        None => Err(words.fault(5, at)),
+        None => Err(words.fault(FaultCode::Shape, at)),
         Some(name) => {
             let taken = names.get(name).is_some();
             free_name(words, at, name, taken)
@@ -51,7 +51,7 @@ fn closed_sort(
 {
     let _count = words.len();
     match words.kind(at) {
-        TokenKind::RightParen => Err(words.fault(5, at)),
+        TokenKind::RightParen => Err(words.fault(FaultCode::Shape, at)),
         _ => match sort_at(sorts, words, at) {
             Err(fault) => Err(fault),
             Ok((sort, next)) => match end_at(words, next) {
@@ -81,7 +81,7 @@ fn parameter_at<'a>(
                 Ok((sort, next)) => Ok((name, sort, next)),
             },
         },
-        _ => Err(words.fault(5, at)),
+        _ => Err(words.fault(FaultCode::Shape, at)),
     }
 }
 
@@ -142,7 +142,7 @@ fn parameters_from(
             },
         }
     }
-    Err(TakeStop::Fault(words.fault(5, count)))
+    Err(TakeStop::Fault(words.fault(FaultCode::Shape, count)))
 }
 
 /// The list of parameters at a place, and the place after it.
@@ -159,7 +159,7 @@ pub(crate) fn parameters_at(
     let _count = words.len();
     match words.kind(at) {
         TokenKind::LeftParen => parameters_from(alloc, words, sorts, at.saturating_add(1)),
-        _ => Err(TakeStop::Fault(words.fault(5, at))),
+        _ => Err(TakeStop::Fault(words.fault(FaultCode::Shape, at))),
     }
 }
 

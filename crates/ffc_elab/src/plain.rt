@@ -20,7 +20,7 @@ use crate::items::{
 };
 use ffc_lex::TokenKind;
 use ffc_parts::{Head, Setting, setting_named};
-use ffc_words::{FormWords, ScriptFault};
+use ffc_words::{FaultCode, FormWords, ScriptFault};
 
 /// The place of a command's first item.
 pub(crate) const FIRST: usize = 2;
@@ -60,21 +60,35 @@ pub(crate) enum Plain<'a> {
     Exit,
 }
 
+/// A command that was read, and then the end of its form.
+fn ended<'a>(words: &FormWords<'a>, at: usize, command: Plain<'a>) -> Result<Plain<'a>, ScriptFault>
+    ensures reads { result_as plain_of result
+        ≡ and_then (end_at (word_at words.now at)) (λ u. Ok (plain_of command.entry)) }
+    ensures within { (level : ℕ) → IsWithin level command.entry → IfOk result (IsWithin level) }
+{
+    end_at(words, at)?;
+    Ok(command)
+}
+
 /// `set-logic`.
-fn set_logic<'a>(words: &FormWords<'a>, at: usize) -> Result<Plain<'a>, ScriptFault>
-    ensures reads { result_as plain_of result ≡ outcome (logic_read (Leaf (word_at words.now at))) }
+fn set_logic<'a>(words: &FormWords<'a>) -> Result<Plain<'a>, ScriptFault>
+    ensures reads { result_as plain_of result ≡ and_then (outcome (logic_read (Leaf (word_at words.now 2))))
+        (λ c. and_then (end_at (word_at words.now 3)) (λ u. Ok c)) }
     ensures within { (level : ℕ) → IfOk result (IsWithin level) }
 {
-    logic_at(words, at)?;
+    logic_at(words, FIRST)?;
+    end_at(words, FIRST + 1)?;
     Ok(Plain::SetLogic)
 }
 
 /// `echo`.
-fn echo<'a>(words: &FormWords<'a>, at: usize) -> Result<Plain<'a>, ScriptFault>
-    ensures reads { result_as plain_of result ≡ outcome (string_read (Leaf (word_at words.now at))) }
+fn echo<'a>(words: &FormWords<'a>) -> Result<Plain<'a>, ScriptFault>
+    ensures reads { result_as plain_of result ≡ and_then (outcome (string_read (Leaf (word_at words.now 2))))
+        (λ c. and_then (end_at (word_at words.now 3)) (λ u. Ok c)) }
     ensures within { (level : ℕ) → IfOk result (IsWithin level) }
 {
-    let text = string_at(words, at)?;
+    let text = string_at(words, FIRST)?;
+    end_at(words, FIRST + 1)?;
     Ok(Plain::Echo(text))
 }
 
@@ -90,12 +104,13 @@ fn option_named<'a>(keyword: &[u8]) -> Plain<'a>
 }
 
 /// `get-option`.
-fn get_option<'a>(words: &FormWords<'a>, at: usize) -> Result<Plain<'a>, ScriptFault>
-    ensures reads { result_as plain_of result ≡ and_then (keyword_of (word_at words.now at))
-        (λ key. Ok (get_option (found options key))) }
+fn get_option<'a>(words: &FormWords<'a>) -> Result<Plain<'a>, ScriptFault>
+    ensures reads { result_as plain_of result ≡ and_then (keyword_of (word_at words.now 2))
+        (λ key. and_then (end_at (word_at words.now 3)) (λ u. Ok (get_option (found options key)))) }
     ensures within { (level : ℕ) → IfOk result (IsWithin level) }
 {
-    let key = keyword_at(words, at)?;
+    let key = keyword_at(words, FIRST)?;
+    end_at(words, FIRST + 1)?;
     Ok(option_named(key))
 }
 
@@ -111,28 +126,14 @@ fn information_named<'a>(keyword: &[u8]) -> Plain<'a>
 }
 
 /// `get-info`.
-fn get_info<'a>(words: &FormWords<'a>, at: usize) -> Result<Plain<'a>, ScriptFault>
-    ensures reads { result_as plain_of result ≡ and_then (keyword_of (word_at words.now at))
-        (λ key. Ok (get_info (found infos key))) }
+fn get_info<'a>(words: &FormWords<'a>) -> Result<Plain<'a>, ScriptFault>
+    ensures reads { result_as plain_of result ≡ and_then (keyword_of (word_at words.now 2))
+        (λ key. and_then (end_at (word_at words.now 3)) (λ u. Ok (get_info (found infos key)))) }
     ensures within { (level : ℕ) → IfOk result (IsWithin level) }
 {
-    let key = keyword_at(words, at)?;
+    let key = keyword_at(words, FIRST)?;
+    end_at(words, FIRST + 1)?;
     Ok(information_named(key))
-}
-
-/// A command that was read, and then the end of its form.
-fn ended<'a>(
-    words: &FormWords<'a>,
-    at: usize,
-    command: Result<Plain<'a>, ScriptFault>,
-) -> Result<Plain<'a>, ScriptFault>
-    ensures reads { result_as plain_of result ≡ and_then (result_as plain_of command.entry)
-        (λ c. and_then (end_at (word_at words.now at)) (λ u. Ok c)) }
-    ensures within { (level : ℕ) → IfOk command.entry (IsWithin level) → IfOk result (IsWithin level) }
-{
-    let command = command?;
-    end_at(words, at)?;
-    Ok(command)
 }
 
 /// An option that is known, with its value.
@@ -148,7 +149,7 @@ fn set_known<'a>(
     ensures within { (level : ℕ) → IfOk result (IsWithin level) }
 {
     if logic && setting == Setting::GlobalDeclarations {
-        return Err(words.fault(7, FIRST));
+        return Err(words.fault(FaultCode::Order, FIRST));
     }
     let value = truth_at(words, FIRST + 1)?;
     end_at(words, FIRST + 2)?;
@@ -190,7 +191,7 @@ fn set_option<'a>(words: &FormWords<'a>, logic: bool) -> Result<Plain<'a>, Scrip
         Ok(key) => match setting_named(key) {
             None => {
                 let end = after_item(words, FIRST + 1);
-                ended(words, end, Ok(Plain::Unsupported))
+                ended(words, end, Plain::Unsupported)
             }
             Some(setting) => set_known(words, setting, logic),
         },
@@ -203,7 +204,7 @@ fn one_level(words: &FormWords, most: u32) -> Result<u32, ScriptFault>
     ensures within { IfOk result (λ n. n ≤ most) }
 {
     if most == 0 {
-        return Err(words.fault(16, FIRST));
+        return Err(words.fault(FaultCode::Levels, FIRST));
     }
     Ok(1)
 }
@@ -266,7 +267,7 @@ fn alone<'a>(words: &FormWords<'a>, command: Plain<'a>) -> Result<Plain<'a>, Scr
         → result_as plain_of result ≡ outcome (alone (plain_of command.entry) closing (items_of items)) }
     ensures within { (level : ℕ) → IsWithin level command.entry → IfOk result (IsWithin level) }
 {
-    ended(words, FIRST, Ok(command))
+    ended(words, FIRST, command)
 }
 
 /// A command without names, sorts and terms, where so many levels are open.
@@ -284,12 +285,12 @@ pub(crate) fn read_plain<'a>(
     ensures within { IfOk result (IsWithin level) }
 {
     match head {
-        Head::SetLogic => ended(words, FIRST + 1, set_logic(words, FIRST)),
+        Head::SetLogic => set_logic(words),
         Head::SetOption => set_option(words, logic),
-        Head::GetOption => ended(words, FIRST + 1, get_option(words, FIRST)),
+        Head::GetOption => get_option(words),
         Head::SetInfo => set_info(words),
-        Head::GetInfo => ended(words, FIRST + 1, get_info(words, FIRST)),
-        Head::Echo => ended(words, FIRST + 1, echo(words, FIRST)),
+        Head::GetInfo => get_info(words),
+        Head::Echo => echo(words),
         Head::CheckSat => alone(words, Plain::CheckSat),
         Head::GetUnsatCore => alone(words, Plain::GetUnsatCore),
         Head::GetUnsatAssumptions => alone(words, Plain::GetUnsatAssumptions),

@@ -1,4 +1,4 @@
-//! Terms of a sort that is known before they are read.
+//! Terms of a given sort.
 ghost use Rattle.std.specs.Prelude.{◌≡◌, List, map};
 ghost use Rattle.ffc_term.specs.declared.node.Node.{Node};
 ghost use Rattle.ffc_smt.specs.Trees.{Tree, Word};
@@ -12,7 +12,7 @@ ghost use Rattle.ffc_elab.specs.SortedTerms.{ReadsOfSort};
 
 use ffc_term::Sort;
 use ffc_terms::{Names, Symbols, TermRead, term_at};
-use ffc_words::{FormWords, TakeStop};
+use ffc_words::{FaultCode, FormWords, TakeStop};
 use std::alloc::Global;
 
 /// How high a term may be.
@@ -34,8 +34,8 @@ fn same_sort(wanted: Sort, found: Sort) -> bool
     }
 }
 
-/// The term of this sort that begins at a place, where these local variables are in scope, or its first fault: code 10 at
-/// its first word where it is of another sort.
+/// The term of this sort that begins at a place, where these local variables are in scope, or its first fault: one of its
+/// sort, at its first word, where it is of another sort.
 pub(crate) fn sorted_term(
     alloc: Global,
     words: &FormWords,
@@ -55,7 +55,7 @@ pub(crate) fn sorted_term(
             if same_sort(wanted, term.sort) {
                 Ok(term)
             } else {
-                Err(TakeStop::Fault(words.fault(10, at)))
+                Err(TakeStop::Fault(words.fault(FaultCode::Sort, at)))
             }
         }
     }

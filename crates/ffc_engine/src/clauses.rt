@@ -1,16 +1,12 @@
 //! The clauses of a check, with the line of a certificate that each one is.
-ghost use Rattle.std.specs.Prelude.{◌≡◌, IsErrOf};
-ghost use Rattle.ffc_base.specs.Metering.{total};
-ghost use Rattle.ffc_basis.specs.Units.{Takes};
+ghost use Rattle.std.specs.Prelude.{◌≡◌};
+ghost use Rattle.ffc_base.specs.Metering.{Metered};
 ghost use Rattle.ffc_term.specs.Checks.{IsCheck};
 ghost use Rattle.ffc_cdcl.specs.State.{AreListed};
-ghost use Rattle.ffc_cdcl.specs.declared.theory.CdclStop.TheVariants as stops;
-ghost use Rattle.ffc_engine.specs.declared.stop.EngineStop.TheVariants as engine;
 
-use crate::stop::EngineStop;
 use crate::theory::FieldTheory;
-use ffc_base::Meter;
-use ffc_cdcl::{CdclStop, HintedClause, Lit, Literals, Outcome, Solver};
+use ffc_base::{Meter, SearchStop};
+use ffc_cdcl::{HintedClause, Lit, Literals, Outcome, Solver};
 use ffc_cert::Entry;
 use ffc_encode::{NodeClause, clauses_of};
 use ffc_entries::{Lemma, Origin, Origins, is_proved};
@@ -134,9 +130,8 @@ impl<'a> Clauses<'a> {
     }
 
     /// A trail that makes all clauses true and on which the theory agreed, or a refutation.
-    pub fn solve(&mut self, meter: &mut Meter) -> Result<Outcome, CdclStop>
-        ensures spent { IsErrOf result stops.Spent → total meter.new ≡ meter.new.budget }
-        ensures takes { Takes meter.old meter.new }
+    pub fn solve(&mut self, meter: &mut Meter) -> Result<Outcome, SearchStop>
+        ensures metered { Metered SearchStop.Spent result meter.old meter.new }
     {
         self.solver.solve(&mut self.theory, meter)
     }
@@ -147,9 +142,8 @@ impl<'a> Clauses<'a> {
     }
 
     /// The model that the trail leads to that makes all clauses true, where the theory has not judged it.
-    pub fn judge_last(&mut self, meter: &mut Meter) -> Result<Option<Entry>, EngineStop>
-        ensures spent { IsErrOf result engine.Spent → total meter.new ≡ meter.new.budget }
-        ensures takes { Takes meter.old meter.new }
+    pub fn judge_last(&mut self, meter: &mut Meter) -> Result<Option<Entry>, SearchStop>
+        ensures metered { Metered SearchStop.Spent result meter.old meter.new }
     {
         self.theory.judge_last(meter)
     }

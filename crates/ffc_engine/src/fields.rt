@@ -1,11 +1,7 @@
 //! The search over one field for values of the equalities' variables.
-ghost use Rattle.std.specs.Prelude.{◌≡◌, ◌+◌, OnErr, IsErrOf};
-ghost use Rattle.ffc_base.specs.Metering.{total};
-ghost use Rattle.ffc_basis.specs.Units.{Takes};
-ghost use Rattle.ffc_engine.specs.declared.stop.EngineStop.TheVariants as stops;
+ghost use Rattle.ffc_base.specs.Metering.{Metered};
 
-use crate::stop::{EngineStop, FieldStop};
-use ffc_base::{Meter, Spent, Unit};
+use ffc_base::{Meter, SearchStop, Unit};
 use ffc_basis::{Completion, Progress};
 use ffc_cdcl::Lit;
 use ffc_cert::CertLine;
@@ -36,8 +32,8 @@ pub enum Answer {
     Closed(Vec<Lit>, Ranking, Vec<CertLine>),
     /// Nothing was found with the units of the share.
     Unfinished,
-    /// Polynomials pass a limit.
-    Over,
+    /// The search does not go on with them, whatever the units are: it has no further choice, or a limit is passed.
+    GaveUp,
 }
 
 /// Equalities of one field, as they are on a trail: first those that hold, then the others.
@@ -48,23 +44,12 @@ pub struct Problem<'a> {
     pub equalities: &'a [Lit],
 }
 
-/// How many units are left.
-fn units_left(meter: &Meter) -> u64
-    ensures { result + total meter.now ≡ meter.now.budget }
-{
-    meter.budget()
-        - meter.count(Unit::Trial)
-        - meter.count(Unit::Reduction)
-        - meter.count(Unit::Assignment)
-        - meter.count(Unit::Chain)
-}
-
 /// One of so many parts of the units that are left.
 fn part_of_left(meter: &Meter, parts: u64) -> u64 {
     if parts == 0 {
         return 0;
     }
-    units_left(meter) / parts
+    meter.left() / parts
 }
 
 /// Variables with their values.
@@ -97,7 +82,7 @@ fn compare<F: Field>(
     stack: &mut BasisStack<F, GradedReverseLex>,
     unequal: &[Generator<F>],
     meter: &mut Meter,
-) -> Result<Finding, FieldStop> {
+) -> Result<Finding, SearchStop> {
     let mut open = Vec::new(alloc);
     for (k, poly) in unequal.iter().enumerate() {
         match reduced_within(stack, poly, meter)? {
@@ -122,7 +107,7 @@ fn settle<F: Field>(
     equal: &[Generator<F>],
     unequal: &[Generator<F>],
     meter: &mut Meter,
-) -> Result<Finding, FieldStop> {
+) -> Result<Finding, SearchStop> {
     stack.push_within(equal, 0, meter)?;
     let mut found = Finding::Open(Vec::new(alloc));
     if unequal.is_empty() {
@@ -191,7 +176,7 @@ fn values_by_lines<F: Field>(
     equalities: usize,
     ranking: &Ranking,
     meter: &mut Meter,
-) -> Result<Option<Vec<(u32, u64)>>, FieldStop> {
+) -> Result<Option<Vec<(u32, u64)>>, SearchStop> {
     let mut polys = Vec::new(alloc);
     for line in stack.lines() {
         polys.push(&line.poly)?;
@@ -229,7 +214,7 @@ impl Problem<'_> {
         places: &[usize],
         ranking: &Ranking,
         chosen: &mut Vec<Lit>,
-    ) -> Result<Vec<Generator<F>>, FieldStop> {
+    ) -> Result<Vec<Generator<F>>, SearchStop> {
         let before = self.equalities.len().saturating_sub(unequal.len());
         let mut gens = Vec::new(self.alloc);
         for place in places {
@@ -241,7 +226,7 @@ impl Problem<'_> {
                     gens.push(with_inverse(self.alloc, poly, rank)?)?;
                     chosen.push(*equality)?;
                 }
-                _ => return Err(FieldStop::Over),
+                _ => return Err(SearchStop::GaveUp),
             }
         }
         Ok(gens)
@@ -257,7 +242,7 @@ impl Problem<'_> {
         ranking: &Ranking,
         chosen: &mut Vec<Lit>,
         meter: &mut Meter,
-    ) -> Result<BasisStack<F, GradedReverseLex>, FieldStop> {
+    ) -> Result<BasisStack<F, GradedReverseLex>, SearchStop> {
         let (equal, unequal) = sides;
         match found {
             Finding::Refuted => {}
@@ -281,11 +266,11 @@ impl Problem<'_> {
         polys: &[Generator<F>],
         ranking: Ranking,
         meter: &mut Meter,
-    ) -> Result<Answer, FieldStop> {
+    ) -> Result<Answer, SearchStop> {
         let mut chosen = holding(self.alloc, self.equalities)?;
         let count = chosen.len();
         if count > polys.len() {
-            return Err(FieldStop::Memory);
+            return Err(SearchStop::GaveUp);
         }
         let (equal, unequal) = polys.split_at(count);
         let mut stack = BasisStack::new(self.alloc);
@@ -312,13 +297,13 @@ impl Problem<'_> {
         self,
         polys: &[Generator<F>],
         meter: &mut Meter,
-    ) -> Result<Answer, FieldStop> {
+    ) -> Result<Answer, SearchStop> {
         let holding = holding(self.alloc, self.equalities)?.len();
         if let Some(values) = values_by_equalities(self.alloc, polys, holding, meter)? {
             return Ok(Answer::Values(values));
         }
         let Some(first) = inverse_of(self.table.len(), holding) else {
-            return Err(FieldStop::Over);
+            return Err(SearchStop::GaveUp);
         };
         let inverses = polys.len().saturating_sub(holding);
         let ranking = Ranking::of(self.alloc, polys, first, inverses)?;
@@ -332,8 +317,8 @@ impl Problem<'_> {
         group: &Group<F>,
         units: u64,
         meter: &mut Meter,
-    ) -> Result<Answer, FieldStop> {
-        let mut own = Meter::new(units.min(units_left(meter)));
+    ) -> Result<Answer, SearchStop> {
+        let mut own = Meter::new(units.min(meter.left()));
         let problem = Problem {
             equalities: group.equalities.as_slice(),
             ..self
@@ -341,15 +326,15 @@ impl Problem<'_> {
         let answer = problem.answer_group(group.polys.as_slice(), &mut own);
         charge(meter, &own)?;
         match answer {
-            Err(FieldStop::Spent) => Ok(Answer::Unfinished),
-            Err(FieldStop::Over) => Ok(Answer::Over),
+            Err(SearchStop::Spent) => Ok(Answer::Unfinished),
+            Err(SearchStop::GaveUp) => Ok(Answer::GaveUp),
             answer => answer,
         }
     }
 
     /// The answer over the field `F`, on its own units: group by group. Each group but the last one takes at most half of the
     /// units that are left.
-    fn searched<F: Field>(self, meter: &mut Meter) -> Result<Answer, FieldStop> {
+    fn searched<F: Field>(self, meter: &mut Meter) -> Result<Answer, SearchStop> {
         let polys = differences::<F>(self.alloc, self.table, self.equalities)?;
         let groups = groups_of(self.alloc, self.equalities, polys)?;
         let mut values = Vec::new(self.alloc);
@@ -371,36 +356,25 @@ impl Problem<'_> {
         }
     }
 
-    /// The answer over the field `F`.
-    fn over<F: Field>(self, meter: &mut Meter) -> Result<Answer, EngineStop> {
-        match self.searched::<F>(meter) {
-            Ok(answer) => Ok(answer),
-            Err(FieldStop::Over) => Ok(Answer::Over),
-            Err(FieldStop::Spent) => Err(EngineStop::Spent),
-            Err(FieldStop::Memory) => Err(EngineStop::Memory),
-        }
-    }
-
     /// The answer over the field of this name, with a share of the units that are left.
     pub fn over_field(
         self,
         field: FieldId,
         share: u64,
         meter: &mut Meter,
-    ) -> Result<Answer, EngineStop>
-        ensures spent { IsErrOf result stops.Spent → total meter.new ≡ meter.new.budget }
-        ensures takes { Takes meter.old meter.new }
+    ) -> Result<Answer, SearchStop>
+        ensures metered { Metered SearchStop.Spent result meter.old meter.new }
     {
         let work = Work {
             problem: self,
-            meter: Meter::new(share.min(units_left(meter))),
+            meter: Meter::new(share.min(meter.left())),
         };
         let (answer, taken) = field.run(work);
         charge(meter, &taken)?;
         match answer {
-            Ok(answer) => Ok(answer),
-            Err(EngineStop::Spent) => Ok(Answer::Unfinished),
-            Err(EngineStop::Memory) => Err(EngineStop::Memory),
+            Err(SearchStop::Spent) => Ok(Answer::Unfinished),
+            Err(SearchStop::GaveUp) => Ok(Answer::GaveUp),
+            answer => answer,
         }
     }
 }
@@ -413,37 +387,26 @@ struct Work<'a> {
 }
 
 impl ForField for Work<'_> {
-    type Out = (Result<Answer, EngineStop>, Meter);
+    type Out = (Result<Answer, SearchStop>, Meter);
 
     ghost can_run = { λ _ _. Unit {0} };
 
     ghost gives = { λ _ _ _. Unit {0} };
 
-    fn run<F: Field>(self) -> (Result<Answer, EngineStop>, Meter) {
+    fn run<F: Field>(self) -> (Result<Answer, SearchStop>, Meter) {
         let Work { problem, mut meter } = self;
-        let answer = problem.over::<F>(&mut meter);
+        let answer = problem.searched::<F>(&mut meter);
         (answer, meter)
     }
 }
 
-/// Takes so many units of a kind.
-fn take_units(meter: &mut Meter, kind: Unit, count: u64) -> Result<(), Spent>
-    ensures spent { OnErr result (total meter.new ≡ meter.new.budget) }
-    ensures takes { Takes meter.old meter.new }
-{
-    for _ in 0..count {
-        meter.take(kind)?;
-    }
-    Ok(())
-}
-
 /// Takes the units that another meter counts.
-fn charge(meter: &mut Meter, taken: &Meter) -> Result<(), Spent>
-    ensures spent { OnErr result (total meter.new ≡ meter.new.budget) }
-    ensures takes { Takes meter.old meter.new }
+fn charge(meter: &mut Meter, taken: &Meter) -> Result<(), SearchStop>
+    ensures metered { Metered SearchStop.Spent result meter.old meter.new }
 {
-    take_units(meter, Unit::Trial, taken.count(Unit::Trial))?;
-    take_units(meter, Unit::Reduction, taken.count(Unit::Reduction))?;
-    take_units(meter, Unit::Assignment, taken.count(Unit::Assignment))?;
-    take_units(meter, Unit::Chain, taken.count(Unit::Chain))
+    meter.charge(Unit::Trial, taken.count(Unit::Trial))?;
+    meter.charge(Unit::Reduction, taken.count(Unit::Reduction))?;
+    meter.charge(Unit::Assignment, taken.count(Unit::Assignment))?;
+    meter.charge(Unit::Chain, taken.count(Unit::Chain))?;
+    Ok(())
 }

@@ -1,12 +1,9 @@
 //! Equalities as they are on a trail, judged field by field.
-ghost use Rattle.std.specs.Prelude.{◌≡◌, IsErrOf};
-ghost use Rattle.ffc_base.specs.Metering.{total};
-ghost use Rattle.ffc_basis.specs.Units.{Takes};
-ghost use Rattle.ffc_engine.specs.declared.stop.EngineStop.TheVariants as stops;
+ghost use Rattle.std.specs.Prelude.{◌≡◌};
+ghost use Rattle.ffc_base.specs.Metering.{Metered};
 
 use crate::fields::{Answer, Problem};
-use crate::stop::EngineStop;
-use ffc_base::Meter;
+use ffc_base::{Meter, SearchStop};
 use ffc_cdcl::Lit;
 use ffc_circuit::{is_of_order, sides};
 use ffc_entries::{Lemma, Residues};
@@ -94,9 +91,8 @@ fn judge_field(
     residues: &mut Residues,
     share: u64,
     meter: &mut Meter,
-) -> Result<Verdict, EngineStop>
-    ensures spent { IsErrOf result stops.Spent → total meter.new ≡ meter.new.budget }
-    ensures takes { Takes meter.old meter.new }
+) -> Result<Verdict, SearchStop>
+    ensures metered { Metered SearchStop.Spent result meter.old meter.new }
 {
     let equalities = of_field(alloc, check.table, field, all)?;
     if equalities.is_empty() {
@@ -128,7 +124,7 @@ fn judge_field(
             })
         }
         Answer::Unfinished => Ok(Verdict::Undecided(equalities, true)),
-        Answer::Over => Ok(Verdict::Undecided(equalities, false)),
+        Answer::GaveUp => Ok(Verdict::Undecided(equalities, false)),
     }
 }
 
@@ -139,9 +135,8 @@ pub fn judge(
     equalities: &[Lit],
     share: u64,
     meter: &mut Meter,
-) -> Result<Judgement, EngineStop>
-    ensures spent { IsErrOf result stops.Spent → total meter.new ≡ meter.new.budget }
-    ensures takes { Takes meter.old meter.new }
+) -> Result<Judgement, SearchStop>
+    ensures metered { Metered SearchStop.Spent result meter.old meter.new }
 {
     let mut residues = Residues::zero(alloc, check.table.len())?;
     let mut undecided = None;

@@ -10,8 +10,6 @@ mod clauses;
 mod fields;
 mod judging;
 mod proposing;
-mod stop;
 mod theory;
 
 pub use proposing::propose;
-pub use stop::EngineStop;

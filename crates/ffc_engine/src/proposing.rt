@@ -1,13 +1,11 @@
 //! Proposing an entry.
-ghost use Rattle.std.specs.Prelude.{◌≡◌, IsErrOf};
-ghost use Rattle.ffc_base.specs.Metering.{total};
-ghost use Rattle.ffc_basis.specs.Units.{Takes};
+ghost use Rattle.std.specs.Prelude.{◌≡◌};
+ghost use Rattle.ffc_base.specs.Metering.{Metered};
+ghost use Rattle.ffc_base.specs.Metering.{Takes};
 ghost use Rattle.ffc_term.specs.Checks.{IsCheck};
-ghost use Rattle.ffc_engine.specs.declared.stop.EngineStop.TheVariants as stops;
 
 use crate::clauses::{Clauses, Standing};
-use crate::stop::EngineStop;
-use ffc_base::Meter;
+use ffc_base::{Meter, SearchStop};
 use ffc_cdcl::{HintedClause, Outcome};
 use ffc_cert::Entry;
 use ffc_entries::refutation;
@@ -35,9 +33,8 @@ fn first_share(meter: &Meter) -> u64 {
 
 /// One search over the clauses. A trail that makes all of them true has a value of each node on which the truth of the assertions
 /// rests, so that the theory has judged it; should it not have, it is judged here.
-fn round(clauses: &mut Clauses, meter: &mut Meter) -> Result<End, EngineStop>
-    ensures spent { IsErrOf result stops.Spent → total meter.new ≡ meter.new.budget }
-    ensures takes { Takes meter.old meter.new }
+fn round(clauses: &mut Clauses, meter: &mut Meter) -> Result<End, SearchStop>
+    ensures metered { Metered SearchStop.Spent result meter.old meter.new }
 {
     let outcome = clauses.solve(meter);
     if let Some(entry) = clauses.take_model() {
@@ -78,10 +75,9 @@ fn rounds<'a>(
     check: &Check<'a>,
     clauses: &mut Clauses<'a>,
     meter: &mut Meter,
-) -> Result<End, EngineStop>
+) -> Result<End, SearchStop>
     requires valid { IsCheck check.now }
-    ensures spent { IsErrOf result stops.Spent → total meter.new ≡ meter.new.budget }
-    ensures takes { Takes meter.old meter.new }
+    ensures metered { Metered SearchStop.Spent result meter.old meter.new }
 {
     for _ in 0..u64::MAX {
         let end = round(clauses, meter)?;
@@ -94,10 +90,9 @@ fn rounds<'a>(
 
 /// Proposes an entry for a check, which the caller has to test: values of the declared constants, or a refutation. None where
 /// nothing was found within the limits of polynomials.
-pub fn propose(alloc: Global, check: &Check, meter: &mut Meter) -> Result<Option<Entry>, EngineStop>
+pub fn propose(alloc: Global, check: &Check, meter: &mut Meter) -> Result<Option<Entry>, SearchStop>
     requires valid { IsCheck check.now }
-    ensures spent { IsErrOf result stops.Spent → total meter.new ≡ meter.new.budget }
-    ensures takes { Takes meter.old meter.new }
+    ensures metered { Metered SearchStop.Spent result meter.old meter.new }
 {
     let mut clauses = Clauses::of(alloc, check, first_share(meter))?;
     match rounds(check, &mut clauses, meter)? {

@@ -1,14 +1,11 @@
 //! The theory of finite fields over the nodes of a check.
-ghost use Rattle.std.specs.Prelude.{◌≡◌, ◌++◌, ◌∷◌, [], IfOk, IfErr, OnOk, OnErr, IsErrOf};
-ghost use Rattle.ffc_base.specs.Metering.{total};
-ghost use Rattle.ffc_basis.specs.Units.{Takes};
+ghost use Rattle.std.specs.Prelude.{◌≡◌, ◌++◌, ◌∷◌, [], IfOk, OnOk, OnErr, IsErrOf};
+ghost use Rattle.ffc_base.specs.Metering.{Metered};
 ghost use Rattle.ffc_cdcl.specs.Theories.{KeepsLemmas, NamesLemma, IsFalseOn};
-ghost use Rattle.ffc_engine.specs.declared.stop.EngineStop.TheVariants as stops;
 
 use crate::judging::{Judgement, judge};
-use crate::stop::EngineStop;
-use ffc_base::{Meter, Unit};
-use ffc_cdcl::{CdclStop, Lit, Literals, Theory, TheoryAnswer};
+use ffc_base::{Meter, SearchStop, Unit};
+use ffc_cdcl::{Lit, Literals, Theory, TheoryAnswer};
 use ffc_cert::Entry;
 use ffc_circuit::{Truths, Walk};
 use ffc_entries::{Origin, Residues, model};
@@ -115,9 +112,8 @@ impl<'a> FieldTheory<'a> {
     }
 
     /// Judges the equalities that the walk has found. It is one Trial, besides what the searches take.
-    fn judged(&self, meter: &mut Meter) -> Result<Judgement, EngineStop>
-        ensures spent { IsErrOf result stops.Spent → total meter.new ≡ meter.new.budget }
-        ensures takes { Takes meter.old meter.new }
+    fn judged(&self, meter: &mut Meter) -> Result<Judgement, SearchStop>
+        ensures metered { Metered SearchStop.Spent result meter.old meter.new }
     {
         meter.take(Unit::Trial)?;
         let equalities = self.walk.equalities()?;
@@ -148,16 +144,16 @@ impl<'a> FieldTheory<'a> {
         trail: &[Lit],
         clause: Literals,
         origin: Origin,
-    ) -> Result<TheoryAnswer, CdclStop>
+    ) -> Result<TheoryAnswer, SearchStop>
         ensures kept { KeepsLemmas self.old.clauses.items self.new.clauses.items }
         ensures lemma { IfOk result (NamesLemma self.new.clauses.items) }
         ensures refuted { IfOk result (IsFalseOn trail.now) }
-        ensures stop { IfErr result (λ stop. stop ≡ CdclStop.Memory) }
+        ensures unmetered { ¬ (IsErrOf result SearchStop.Spent) }
     {
         let truths = Truths::of(self.alloc, self.check.table.len(), trail)?;
         if !truths.falsify(clause.as_slice()) {
             // Its equalities are on the trail: this would be a fault of the walk.
-            return Err(CdclStop::Memory);
+            return Err(SearchStop::GaveUp);
         }
         let number = self.clauses.len() as u64;
         self.keep(clause.as_slice(), origin)?;
@@ -174,10 +170,9 @@ impl<'a> FieldTheory<'a> {
     }
 
     /// Judges the last trail by all its equalities, and gives the model that they lead to.
-    pub fn judge_last(&mut self, meter: &mut Meter) -> Result<Option<Entry>, EngineStop>
+    pub fn judge_last(&mut self, meter: &mut Meter) -> Result<Option<Entry>, SearchStop>
         ensures same { self.new.clauses ≡ self.old.clauses }
-        ensures spent { IsErrOf result stops.Spent → total meter.new ≡ meter.new.budget }
-        ensures takes { Takes meter.old meter.new }
+        ensures metered { Metered SearchStop.Spent result meter.old meter.new }
     {
         if let Judgement::Values(residues) = self.judged(meter)? {
             self.keep_model(&residues)?;
@@ -186,11 +181,11 @@ impl<'a> FieldTheory<'a> {
     }
 
     /// Answers by what was found of the equalities of a trail.
-    fn answer(&mut self, trail: &[Lit], judgement: Judgement) -> Result<TheoryAnswer, CdclStop>
+    fn answer(&mut self, trail: &[Lit], judgement: Judgement) -> Result<TheoryAnswer, SearchStop>
         ensures kept { KeepsLemmas self.old.clauses.items self.new.clauses.items }
         ensures lemma { IfOk result (NamesLemma self.new.clauses.items) }
         ensures refuted { IfOk result (IsFalseOn trail.now) }
-        ensures stop { IfErr result (λ stop. stop ≡ CdclStop.Memory) }
+        ensures unmetered { ¬ (IsErrOf result SearchStop.Spent) }
     {
         match judgement {
             Judgement::Values(residues) => {
@@ -224,7 +219,7 @@ impl Theory for FieldTheory<'_> {
 
     ghost fits = { λ _ _. Unit {0} };
 
-    fn check(&mut self, trail: &[Lit], meter: &mut Meter) -> Result<TheoryAnswer, CdclStop> {
+    fn check(&mut self, trail: &[Lit], meter: &mut Meter) -> Result<TheoryAnswer, SearchStop> {
         if self.found.is_some() {
             return Ok(TheoryAnswer::Agreed);
         }

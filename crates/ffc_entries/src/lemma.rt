@@ -8,9 +8,11 @@ use std::alloc::{AllocError, Global};
 /// Equalities of one field that do not hold together, and the tree that shows it.
 #[derive(Drop)]
 pub struct Lemma {
+    /// The order of their field.
     pub order: u64,
     /// The clause: their negations.
     pub lits: Literals,
+    /// The lines of the certificate that close the case tree over their generators.
     pub tree: Vec<CertLine>,
 }
 

@@ -11,6 +11,7 @@ pub enum Origin {
     Assertion(u32),
     /// A node's scheme: the node, the scheme, the index.
     Scheme(NodeId, u32, u32),
+    /// A lemma, which the tree in it shows.
     Lemma(Lemma),
     /// Equalities that were set aside undecided: the clause keeps the search from them, and nothing may rest on it.
     SetAside,

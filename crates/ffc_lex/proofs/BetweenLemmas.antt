@@ -11,7 +11,7 @@ use Rattle.ffc_lex.specs.declared.tokens.TokenKind.{TokenKind}
 use Rattle.ffc_lex.specs.declared.tokens.TokenKind.TheVariants as kinds
 use Rattle.ffc_lex.specs.declared.tokens.Place.{Place}
 use Rattle.ffc_lex.specs.declared.tokens.Token.{Token as TokenRecord}
-use Rattle.ffc_lex.specs.declared.faults.LexFault.{LexFault}
+use Rattle.ffc_lex.specs.declared.faults.ScriptFault.{ScriptFault}
 use Rattle.ffc_lex.specs.declared.faults.LexStop.{LexStop}
 use Rattle.ffc_lex.specs.declared.faults.LexStop.TheVariants.{Fault}
 use Rattle.ffc_lex.specs.declared.modes.Mode.{Mode}
@@ -174,7 +174,7 @@ inside_at_end n text s whole r end e k =
     sym (w ∙ rw (e, k) refl)
 
 -- a fault of the text is due once its forms were given
-pub fault_due : (n : ℕ) (text : List ℕ) (fault : LexFault) → IsStopped n text fault → due_fault None text n ≡ Some fault
+pub fault_due : (n : ℕ) (text : List ℕ) (fault : ScriptFault) → IsStopped n text fault → due_fault None text n ≡ Some fault
 fault_due n text fault stopped =
     let e : without n (reading_of text) ≡ halted (Stopped fault) = ap (λ xs. without n (reading_of xs)) (sym (append_nil text)) ∙ stopped [] in
     let none : next_form_of text n ≡ None = none_from n (forms_of text) (ap (λ r. r.forms) e) in

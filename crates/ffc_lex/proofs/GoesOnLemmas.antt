@@ -13,7 +13,7 @@ use Rattle.ffc_lex.specs.declared.tokens.TokenKind.{TokenKind}
 use Rattle.ffc_lex.specs.declared.tokens.TokenKind.TheVariants as kinds
 use Rattle.ffc_lex.specs.declared.tokens.Place.{Place}
 use Rattle.ffc_lex.specs.declared.tokens.Token.{Token as TokenRecord}
-use Rattle.ffc_lex.specs.declared.faults.LexFault.{LexFault}
+use Rattle.ffc_lex.specs.declared.faults.ScriptFault.{ScriptFault}
 use Rattle.ffc_lex.specs.Limits.{max_bytes}
 use Rattle.ffc_lex.specs.Bytes.{byte_class, is_word_byte, is_line_end, is_text_byte, is_quoted_byte}
 use Rattle.ffc_lex.specs.Words.{word_kind, keyword_kind, hash_kind}
@@ -215,7 +215,7 @@ nil_right (x ∷ xs) = ap (λ ys. x ∷ ys) (nil_right xs)
 front_same : (r : Reading) → IsFront r r
 front_same r = record { rest = []; forms = sym (nil_right r.forms); fault = λ f e. refl }
 
-not_stopped : (b : Bool) (within f : LexFault) → cond b Between (Within within) ≡ Stopped f → ⊥
+not_stopped : (b : Bool) (within f : ScriptFault) → cond b Between (Within within) ≡ Stopped f → ⊥
 not_stopped true within f e = cc
 not_stopped false within f e = cc
 

@@ -6,7 +6,7 @@ use Rattle.std.proofs.Math.Seq.{take-append-add, drop-nil}
 use Rattle.std.proofs.lemmas.List.{append-nil, drop-append-le, take-append-le, length-append, length-drop, take_min}
 use Rattle.std.proofs.lemmas.List.Elements.{All-nil, All-same}
 use Rattle.ffc_lex.specs.declared.tokens.Token.{Token}
-use Rattle.ffc_lex.specs.declared.faults.LexFault.{LexFault}
+use Rattle.ffc_lex.specs.declared.faults.ScriptFault.{ScriptFault}
 use Rattle.ffc_lex.specs.Limits.{max_bytes}
 use Rattle.ffc_lex.specs.Reading.{place_after, origin, read, reading_of, fault_of}
 use Rattle.ffc_lex.specs.Scan.{Scan, Fits, IsBetween, IsForm, IsHeld, IsReady, first_start, without, ahead, scanned, open_of, begun}
@@ -72,7 +72,7 @@ kept_first text held bytes s none empty first =
     }
 
 -- where the scanner has gone on
-pub kept_on : (text : List ℕ) (given : ℕ) (fault later : Option LexFault) (s t : Scan) (held bytes : List ℕ) (start end : ℕ)
+pub kept_on : (text : List ℕ) (given : ℕ) (fault later : Option ScriptFault) (s t : Scan) (held bytes : List ℕ) (start end : ℕ)
     → IsKept text given fault s held bytes start end → t.kept ≡ s.kept → (later ≡ None → IsReady given text t) → IsKept text given later t held bytes start end
 kept_on text given fault later s t held bytes start end k same ready = record {
   limit = k.limit;
@@ -82,7 +82,7 @@ kept_on text given fault later s t held bytes start end k same ready = record {
 }
 
 -- where it has given a form
-pub kept_gives : (text : List ℕ) (given : ℕ) (fault : Option LexFault) (s t : Scan) (held bytes : List ℕ) (start end first last : ℕ) (form : List Token)
+pub kept_gives : (text : List ℕ) (given : ℕ) (fault : Option ScriptFault) (s t : Scan) (held bytes : List ℕ) (start end first last : ℕ) (form : List Token)
     → IsKept text given fault s held bytes start end → t.kept ≡ s.kept → IsForm given text form → IsReady (given + 1) text t → IsHeld s.kept t.at.index t.at.index form
     → last ≡ t.at.index → first ≡ first_start form last → IsKept text (given + 1) fault t held bytes first last
 kept_gives text given fault s t held bytes start end first last form k same is ready spans last_is first_is =
@@ -106,7 +106,7 @@ kept_gives text given fault s t held bytes start end first last form k same is r
     }
 
 -- where a piece has come
-pub kept_fed : (text piece more : List ℕ) (given : ℕ) (fault : Option LexFault) (s : Scan) (held wider bytes : List ℕ) (start end : ℕ)
+pub kept_fed : (text piece more : List ℕ) (given : ℕ) (fault : Option ScriptFault) (s : Scan) (held wider bytes : List ℕ) (start end : ℕ)
     → IsKept text given fault s held bytes start end → s.kept ≤ length text → wider ≡ held ++ piece → more ≡ text ++ piece → length text + length piece ≤ max_bytes + 1
     → IsKept more given fault s wider bytes start end
 kept_fed text piece more given fault s held wider bytes start end k low wider_is more_is few =

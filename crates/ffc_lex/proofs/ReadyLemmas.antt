@@ -7,7 +7,7 @@ use Rattle.std.proofs.lemmas.List.{drop-append-le, take-append-le, take-append-d
 use Rattle.std.proofs.lemmas.Option.{slice_get_within, get_or_from_slice_get}
 use Rattle.ffc_lex.specs.declared.tokens.Place.{Place}
 use Rattle.ffc_lex.specs.declared.tokens.Token.{Token as TokenRecord}
-use Rattle.ffc_lex.specs.declared.faults.LexFault.{LexFault}
+use Rattle.ffc_lex.specs.declared.faults.ScriptFault.{ScriptFault}
 use Rattle.ffc_lex.specs.declared.modes.Mode.{Mode}
 use Rattle.ffc_lex.specs.declared.modes.Mode.TheVariants as modes
 use Rattle.ffc_lex.specs.Limits.{max_bytes}
@@ -100,7 +100,7 @@ consumed n text s k place left r some inside index limit few at next =
     }
 
 -- a text fault
-pub stopped : (n : ℕ) (text : List ℕ) (s : Scan) (c : ℕ) (cs : List ℕ) (fault : LexFault) → IsReady n text s → ahead text s ≡ c ∷ cs
+pub stopped : (n : ℕ) (text : List ℕ) (s : Scan) (c : ℕ) (cs : List ℕ) (fault : ScriptFault) → IsReady n text s → ahead text s ≡ c ∷ cs
     → ((more : List ℕ) → next_at (ahead text s ++ more) s.start (open_of s) ≡ Halt (Stopped fault))
     → IsStopped n text fault
 stopped n text s c cs fault r e next more =

@@ -6,7 +6,7 @@ use Rattle.ffc_lex.specs.declared.tokens.TokenKind.{TokenKind}
 use Rattle.ffc_lex.specs.declared.tokens.TokenKind.TheVariants as kinds
 use Rattle.ffc_lex.specs.declared.tokens.Place.{Place}
 use Rattle.ffc_lex.specs.declared.tokens.Token.{Token as TokenRecord}
-use Rattle.ffc_lex.specs.declared.faults.LexFault.{LexFault}
+use Rattle.ffc_lex.specs.declared.faults.ScriptFault.{ScriptFault}
 use Rattle.ffc_lex.specs.declared.modes.Mode.{Mode}
 use Rattle.ffc_lex.specs.declared.modes.Mode.TheVariants as modes
 use Rattle.ffc_lex.specs.Limits.{max_bytes}
@@ -57,7 +57,7 @@ first_of_some [] c cs = (c, cs, refl)
 first_of_some (x ∷ xs) c cs = (x, xs ++ c ∷ cs, refl)
 
 -- a text fault at or before the next byte
-pub halts : (n : ℕ) (text : List ℕ) (c : ℕ) (s : Scan) (fault : LexFault) → IsFacing n text c s
+pub halts : (n : ℕ) (text : List ℕ) (c : ℕ) (s : Scan) (fault : ScriptFault) → IsFacing n text c s
     → ((cs : List ℕ) → next_at (scanned text s ++ c ∷ cs) s.start (open_of s) ≡ Halt (Stopped fault))
     → IsStopped n text fault
 halts n text c s fault f next =

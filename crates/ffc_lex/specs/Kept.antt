@@ -1,7 +1,7 @@
 -- What a lexer keeps true of its fields: of the text it holds a window, which are the bytes after those that were dropped,
 -- and the last form that was given, from its first token to the end of its last, in the window or beside it.
 use Rattle.std.specs.Prelude.{◌≡◌, ℕ, ◌+◌, ◌-◌, ◌<◌, ◌≤◌, List, ◌++◌, All, length, take, drop, Option, None}
-use Rattle.ffc_lex.specs.declared.faults.LexFault.{LexFault}
+use Rattle.ffc_lex.specs.declared.faults.ScriptFault.{ScriptFault}
 use Rattle.ffc_lex.specs.Limits.{max_bytes}
 use Rattle.ffc_lex.specs.Lexing.{last_form_of}
 use Rattle.ffc_lex.specs.Scan.{Scan, IsBetween, IsReady}
@@ -17,7 +17,7 @@ pub record IsLastForm (text : List ℕ) (given kept : ℕ) (bytes : List ℕ) (s
   pub ended : end ≤ length text
   pub beside : IsBeside text kept bytes start end
 
-pub record IsKept (text : List ℕ) (given : ℕ) (fault : Option LexFault) (scanner : Scan) (held bytes : List ℕ) (start end : ℕ) : Type 0 where
+pub record IsKept (text : List ℕ) (given : ℕ) (fault : Option ScriptFault) (scanner : Scan) (held bytes : List ℕ) (start end : ℕ) : Type 0 where
   pub limit : length text ≤ max_bytes + 1
   pub ready : fault ≡ None → IsReady given text scanner
   pub window : held ≡ drop scanner.kept text

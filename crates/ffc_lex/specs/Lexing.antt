@@ -2,7 +2,7 @@
 -- is kept, if one was met. What the text's forms and faults are is said by Reading, of the whole text.
 use Rattle.std.specs.Prelude.{◌≡◌, ℕ, ◌+◌, zero, suc, Bool, List, [], ◌++◌, take, Option, Some, None, MatchOption, slice_get, unwrap_or, Contains}
 use Rattle.ffc_lex.specs.declared.tokens.Token.{Token}
-use Rattle.ffc_lex.specs.declared.faults.LexFault.{LexFault}
+use Rattle.ffc_lex.specs.declared.faults.ScriptFault.{ScriptFault}
 use Rattle.ffc_lex.specs.declared.faults.LexStop.{LexStop}
 use Rattle.ffc_lex.specs.declared.faults.LexStop.TheVariants.{Fault, Memory}
 use Rattle.ffc_lex.specs.Limits.{max_bytes}
@@ -12,7 +12,7 @@ pub record Lexing : Type 0 where
   -- the text so far, up to the first byte past the limit
   pub text : List ℕ
   pub given : ℕ
-  pub fault : Option LexFault
+  pub fault : Option ScriptFault
   pub finished : Bool
 
 -- The text with a piece after it. What follows the first byte past the limit is ignored.
@@ -24,21 +24,21 @@ abbrev pub next_form_of : List ℕ → ℕ → Option (List Token)
 next_form_of text given = slice_get (forms_of text) given
 
 -- the fault that is to be answered now: the kept one, else the text's, once each of its forms was given
-abbrev pub fault_behind : Option (List Token) → List ℕ → Option LexFault
+abbrev pub fault_behind : Option (List Token) → List ℕ → Option ScriptFault
 fault_behind None text = fault_of text
 fault_behind (Some form) text = None
 
-abbrev pub due_fault : Option LexFault → List ℕ → ℕ → Option LexFault
+abbrev pub due_fault : Option ScriptFault → List ℕ → ℕ → Option ScriptFault
 due_fault (Some fault) text given = Some fault
 due_fault None text given = fault_behind (next_form_of text given) text
 
 -- the form that is to be answered now: none after a fault
-abbrev pub due_form : Option LexFault → List ℕ → ℕ → Option (List Token)
+abbrev pub due_form : Option ScriptFault → List ℕ → ℕ → Option (List Token)
 due_form (Some fault) text given = None
 due_form None text given = next_form_of text given
 
 -- the fault where the text ends here
-abbrev pub end_fault : Option LexFault → List ℕ → Option LexFault
+abbrev pub end_fault : Option ScriptFault → List ℕ → Option ScriptFault
 end_fault (Some fault) text = Some fault
 end_fault None text = end_fault_of text
 
@@ -47,7 +47,7 @@ abbrev pub IsRead : Lexing → Type 0
 IsRead l = MatchOption l.fault ((next_form_of l.text l.given ≡ None) × (fault_of l.text ≡ None)) (λ _. Unit {0})
 
 -- a fact where a fault was the cause, and one where memory was
-abbrev pub MatchStop : LexStop → (LexFault → Type 0) → Type 0 → Type 0
+abbrev pub MatchStop : LexStop → (ScriptFault → Type 0) → Type 0 → Type 0
 MatchStop (Fault fault) P Q = P fault
 MatchStop Memory P Q = Q
 

@@ -1,3 +1,5 @@
+pub mod Faults
+pub mod FaultNumbers
 pub mod Bytes
 pub mod Limits
 pub mod Words

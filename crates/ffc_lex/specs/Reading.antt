@@ -8,7 +8,7 @@ use Rattle.ffc_lex.specs.declared.tokens.TokenKind.{TokenKind}
 use Rattle.ffc_lex.specs.declared.tokens.TokenKind.TheVariants.{LeftParen as Left, RightParen as Right, Numeral, Decimal, Symbol, Quoted, Keyword, Str, FieldLiteral}
 use Rattle.ffc_lex.specs.declared.tokens.Token.{Token as TokenRecord}
 use Rattle.ffc_lex.specs.declared.tokens.Place.{Place}
-use Rattle.ffc_lex.specs.declared.faults.LexFault.{LexFault}
+use Rattle.ffc_lex.specs.declared.faults.ScriptFault.{ScriptFault}
 use Rattle.ffc_lex.specs.Limits.{max_bytes, max_depth}
 use Rattle.ffc_lex.specs.Lexeme.{Lexeme, Skip, Token, Bad, Unended, lexeme_at, size_of}
 
@@ -29,7 +29,7 @@ place_after (c ∷ cs) place = place_after cs (past c place)
 abbrev pub origin : Place
 origin = record { index = 0; line = 1; column = 1 }
 
-abbrev pub fault_at : ℕ → Place → LexFault
+abbrev pub fault_at : ℕ → Place → ScriptFault
 fault_at code place = record { line = place.line; column = place.column; code = code }
 
 abbrev pub token_at : TokenKind → ℕ → Place → TokenRecord
@@ -51,9 +51,9 @@ pub data End : Type 0 where
   -- outside a form
   Between : End
   -- inside a form: the fault where nothing follows
-  Within : LexFault → End
+  Within : ScriptFault → End
   -- with a text fault, whatever follows
-  Stopped : LexFault → End
+  Stopped : ScriptFault → End
 
 pub record Reading : Type 0 where
   pub forms : List (List TokenRecord)
@@ -147,19 +147,19 @@ abbrev pub forms_of : List ℕ → List (List TokenRecord)
 forms_of text = (reading_of text).forms
 
 -- the text fault, whatever follows the text
-abbrev pub stop_fault : End → Option LexFault
+abbrev pub stop_fault : End → Option ScriptFault
 stop_fault Between = None
 stop_fault (Within fault) = None
 stop_fault (Stopped fault) = Some fault
 
-abbrev pub fault_of : List ℕ → Option LexFault
+abbrev pub fault_of : List ℕ → Option ScriptFault
 fault_of text = stop_fault (reading_of text).end
 
 -- the fault that only the end of the text raises
-abbrev pub within_fault : End → Option LexFault
+abbrev pub within_fault : End → Option ScriptFault
 within_fault Between = None
 within_fault (Within fault) = Some fault
 within_fault (Stopped fault) = None
 
-abbrev pub end_fault_of : List ℕ → Option LexFault
+abbrev pub end_fault_of : List ℕ → Option ScriptFault
 end_fault_of text = within_fault (reading_of text).end

@@ -8,7 +8,7 @@ use Rattle.ffc_lex.specs.declared.byte_classes.ByteClass.TheVariants as classes
 use Rattle.ffc_lex.specs.declared.tokens.TokenKind.{TokenKind}
 use Rattle.ffc_lex.specs.declared.tokens.Token.{Token}
 use Rattle.ffc_lex.specs.declared.tokens.Place.{Place}
-use Rattle.ffc_lex.specs.declared.faults.LexFault.{LexFault}
+use Rattle.ffc_lex.specs.declared.faults.ScriptFault.{ScriptFault}
 use Rattle.ffc_lex.specs.declared.faults.LexStop.{LexStop}
 use Rattle.ffc_lex.specs.declared.faults.LexStop.TheVariants.{Fault, Memory}
 use Rattle.ffc_lex.specs.declared.modes.Mode.{Mode}
@@ -164,7 +164,7 @@ pub record IsReady (n : ℕ) (text : List ℕ) (s : Scan) : Type 0 where
   pub fits : Fits s.mode s.depth (scanned text s)
 
 -- the text is at fault, however it goes on, and its first n forms are all
-abbrev pub IsStopped : ℕ → List ℕ → LexFault → Type 0
+abbrev pub IsStopped : ℕ → List ℕ → ScriptFault → Type 0
 IsStopped n text fault = (more : List ℕ) → without n (reading_of (text ++ more)) ≡ halted (Stopped fault)
 
 -- the form of this number, however the text goes on

@@ -4,11 +4,11 @@ ghost use Rattle.std.specs.Prelude.{IfErr, IfSome, IfNone, OnOk};
 ghost use Rattle.ffc_lex.specs.Lexing.{IsOfLastForm, IsRead, MatchStop, due_fault, due_form, end_fault, extended};
 
 use crate::MAX_BYTES;
-use crate::faults::{LexFault, LexStop};
+use crate::faults::{LexStop, ScriptFault};
 use crate::last_form::LastForm;
 use crate::scanning::{Scanner, first_start_of};
 use crate::tokens::{Form, Token};
-use ffc_ghost::GhostText;
+use ffc_base::GhostText;
 use std::alloc::{AllocError, Global};
 use std::marker::Model;
 
@@ -31,7 +31,7 @@ pub struct Lexer {
     scanner: Scanner,
     given: u64,
     form: LastForm,
-    fault: Option<LexFault>,
+    fault: Option<ScriptFault>,
     finished: bool,
 }
 
@@ -48,7 +48,7 @@ impl Model for Lexer {
 }
 
 impl Lexer {
-    /// A lexer of a text of which nothing has come. It takes no memory.
+    /// A lexer of a text of which there is nothing so far. It takes no memory.
     pub fn new(alloc: Global) -> Lexer
         ensures { result ≡ record { text = []; given = 0; fault = None; finished = false } }
     {
@@ -132,16 +132,18 @@ impl Lexer {
                 Ok(Some(form))
             }
             Ok(None) => Ok(None),
-            Err(LexStop::Fault(met)) => {
-                self.fault = Some(met);
-                Err(LexStop::Fault(met))
-            }
-            Err(LexStop::Memory) => Err(LexStop::Memory),
+            Err(stop) => match stop {
+                LexStop::Fault(met) => {
+                    self.fault = Some(met);
+                    Err(LexStop::Fault(met))
+                }
+                LexStop::Memory => Err(LexStop::Memory),
+            },
         }
     }
 
-    /// Says that the text ends here. Inside a form that is a fault: code 1 where the last word, `:` or `#` is no token,
-    /// else code 2.
+    /// Says that the text ends here. Inside a form that is a fault: `FaultCode::Byte` where the last word, `:` or `#` is no
+    /// token, else `FaultCode::Unended`.
     pub fn finish(&mut self) -> Result<(), LexStop>
         requires { IsRead self.old }
         ensures ok { OnOk result ((end_fault self.old.fault self.old.text ≡ None)

@@ -16,15 +16,15 @@ mod texts;
 mod tokens;
 mod words;
 
-pub use faults::{LexFault, LexStop};
+pub use faults::{FaultCode, LexStop, ScriptFault};
 pub use laws::{forms_are_in_order, reading_goes_on};
 pub use lexing::Lexer;
 pub use names::{is_reserved, is_theory_symbol, symbol_text};
 pub use texts::Text;
 pub use tokens::{Form, Token, TokenKind};
 
-/// How many bytes a script may have. The next one is code 17.
+/// How many bytes a script may have. One more is a fault (`FaultCode::Length`).
 pub const MAX_BYTES: u64 = 67_108_864;
 
-/// How many parentheses may be open. One more is code 14.
+/// How many parentheses may be open. One more is a fault (`FaultCode::Depth`).
 pub const MAX_DEPTH: u64 = 65_536;

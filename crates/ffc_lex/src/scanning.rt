@@ -2,13 +2,14 @@
 ghost use Rattle.std.specs.Prelude.{◌≡◌, ℕ, ◌+◌, ◌-◌, ◌<◌, ◌≤◌, ◌==◌, false, if◌then◌else◌, List, [], drop, length};
 ghost use Rattle.std.specs.Prelude.{IfOk, IfSome, OnOk, OnErr};
 ghost use Rattle.ffc_lex.specs.Bytes.{byte_class};
+ghost use Rattle.ffc_lex.specs.Faults.{code_number};
 ghost use Rattle.ffc_lex.specs.Reading.{end_fault_of, fault_at as fault_at_place, origin, past};
 ghost use Rattle.ffc_lex.specs.Scan.{AfterByte, AfterEnd, AfterScan, AfterTake, Begins, IsFacing, IsNoParenthesis};
 ghost use Rattle.ffc_lex.specs.Scan.{IsReady, begun, is_ended_by, first_start, floor_of, IsHeld, kind_in, moved, reach};
 ghost use Rattle.ffc_lex.specs.Scan.{scanned, settled, with_token, with_token_through};
 
 use crate::byte_classes::{ByteClass, class_of, ends_line, is_quote, is_quoted, is_text, is_word};
-use crate::faults::{LexFault, LexStop};
+use crate::faults::{FaultCode, LexStop, ScriptFault};
 use crate::modes::Mode;
 use crate::tokens::{Form, Place, Token, TokenKind};
 use crate::words::{kind_of_hash, kind_of_keyword, kind_of_word};
@@ -37,18 +38,18 @@ fn place_past(byte: u8, place: Place) -> Place
 }
 
 /// A fault at this place.
-fn lex_fault(place: Place, code: u8) -> LexFault
-    ensures { result ≡ fault_at_place code place }
+fn lex_fault(place: Place, code: FaultCode) -> ScriptFault
+    ensures { result ≡ fault_at_place (code_number code) place }
 {
-    LexFault {
+    ScriptFault {
         line: place.line,
         column: place.column,
         code,
     }
 }
 
-fn fault_at(place: Place, code: u8) -> LexStop
-    ensures { result ≡ LexStop.Fault (fault_at_place code place) }
+fn fault_at(place: Place, code: FaultCode) -> LexStop
+    ensures { result ≡ LexStop.Fault (fault_at_place (code_number code) place) }
 {
     LexStop::Fault(lex_fault(place, code))
 }
@@ -204,7 +205,7 @@ impl Scanner {
         Ok(())
     }
 
-    /// Whether what is being scanned ends before this byte, as only the next byte of a word or a string tells.
+    /// Whether what is being scanned ends before this byte. Of a word or a string only the next byte shows that.
     fn ends_before(&self, byte: u8) -> bool
         ensures { result ≡ is_ended_by self.now.mode byte }
     {
@@ -232,14 +233,14 @@ impl Scanner {
     {
         match self.mode {
             Mode::Word => kind_of_word(self.so_far(window)),
-            Mode::Keyword => kind_of_keyword(behind_first(self.so_far(window))),
-            Mode::FieldLiteral => kind_of_hash(behind_first(self.so_far(window))),
+            Mode::Keyword => kind_of_keyword(after_first(self.so_far(window))),
+            Mode::FieldLiteral => kind_of_hash(after_first(self.so_far(window))),
             _ => Some(TokenKind::Str),
         }
     }
 
     /// The fault of a text that ends here.
-    pub(crate) fn fault_at_end(&self, window: &[u8]) -> Option<LexFault>
+    pub(crate) fn fault_at_end(&self, window: &[u8]) -> Option<ScriptFault>
         requires { self.now.at.index ≤ self.now.kept + length window.now }
         ensures { (n : ℕ) (text : List ℕ) → window.now ≡ drop self.now.kept text → IsReady n text self.now
             → self.now.at.index ≡ length text → result ≡ end_fault_of text }
@@ -248,8 +249,8 @@ impl Scanner {
             return None;
         }
         match self.kind_so_far(window) {
-            Some(_) => Some(lex_fault(self.first, 2)),
-            None => Some(lex_fault(self.start, 1)),
+            Some(_) => Some(lex_fault(self.first, FaultCode::Unended)),
+            None => Some(lex_fault(self.start, FaultCode::Byte)),
         }
     }
 
@@ -269,7 +270,7 @@ impl Scanner {
                 self.push(kind)?;
                 Ok(())
             }
-            None => Err(fault_at(self.start, 1)),
+            None => Err(fault_at(self.start, FaultCode::Byte)),
         }
     }
 
@@ -328,7 +329,7 @@ impl Scanner {
             → byte_class byte ≡ ByteClass.LeftParen → AfterByte result n text self.new }
     {
         if self.depth == MAX_DEPTH {
-            return Err(fault_at(self.at, 14));
+            return Err(fault_at(self.at, FaultCode::Depth));
         }
         let first = self.form_start();
         self.push_through(TokenKind::LeftParen, byte)?;
@@ -348,7 +349,7 @@ impl Scanner {
             → byte_class byte ≡ ByteClass.RightParen → AfterTake result n text self.new }
     {
         if self.depth == 0 {
-            return Err(fault_at(self.at, 3));
+            return Err(fault_at(self.at, FaultCode::Close));
         }
         self.push_through(TokenKind::RightParen, byte)?;
         self.rise();
@@ -368,7 +369,7 @@ impl Scanner {
             → Begins mode byte → AfterByte result n text self.new }
     {
         if self.depth == 0 {
-            return Err(fault_at(self.at, 1));
+            return Err(fault_at(self.at, FaultCode::Byte));
         }
         self.stay(mode, byte);
         Ok(())
@@ -398,7 +399,7 @@ impl Scanner {
             ByteClass::Colon => self.begin(Mode::Keyword, byte),
             ByteClass::Hash => self.begin(Mode::FieldLiteral, byte),
             ByteClass::Word => self.begin(Mode::Word, byte),
-            _ => Err(fault_at(self.at, 1)),
+            _ => Err(fault_at(self.at, FaultCode::Byte)),
         }
     }
 
@@ -454,7 +455,7 @@ impl Scanner {
             return Ok(());
         }
         if !is_quoted(byte) {
-            return Err(fault_at(self.at, 1));
+            return Err(fault_at(self.at, FaultCode::Byte));
         }
         self.advance(byte);
         Ok(())
@@ -474,7 +475,7 @@ impl Scanner {
             return Ok(());
         }
         if !is_text(byte) {
-            return Err(fault_at(self.at, 1));
+            return Err(fault_at(self.at, FaultCode::Byte));
         }
         self.advance(byte);
         Ok(())
@@ -519,7 +520,7 @@ impl Scanner {
         let byte = window[(self.at.index - self.kept) as usize];
         self.end_before(window, byte)?;
         if self.at.index == MAX_BYTES {
-            return Err(fault_at(self.at, 17));
+            return Err(fault_at(self.at, FaultCode::Length));
         }
         match self.mode {
             Mode::Between => self.take_between(byte),
@@ -562,7 +563,7 @@ pub(crate) fn first_start_of(tokens: &[Token], otherwise: u64) -> u64
 }
 
 /// The bytes after the first.
-fn behind_first(bytes: &[u8]) -> &[u8]
+fn after_first(bytes: &[u8]) -> &[u8]
     ensures { result.now ≡ drop 1 bytes.now }
 {
     match bytes {

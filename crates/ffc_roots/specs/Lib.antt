@@ -3,4 +3,3 @@ pub mod Parts
 pub mod Roots
 pub mod Separation
 pub mod Sparse
-pub mod Stops

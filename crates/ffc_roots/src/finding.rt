@@ -1,7 +1,7 @@
 //! Roots of a polynomial in one variable.
 ghost use Rattle.std.specs.Prelude.{◌≡◌, ◌≢◌, ℕ, ◌+◌, ◌-◌, ◌*◌, ◌<◌, ◌≤◌, ◌⊎◌, [], length, map, IfOk, IsErrOf};
 ghost use Rattle.std.specs.List.Sorted.{IsStrictlyIncreasing};
-ghost use Rattle.ffc_base.specs.Metering.{total};
+ghost use Rattle.ffc_base.specs.Metering.{Metered};
 ghost use Rattle.ffc_field.specs.Modular.{mul_mod};
 ghost use Rattle.ffc_uni.specs.Univariate.{IsNormal, SameUnivariate, coefficient_at, product_of_roots, indeterminate};
 ghost use Rattle.ffc_uni.specs.Chains.{IsChain, AreLower, last_remainder};
@@ -10,15 +10,13 @@ ghost use Rattle.ffc_roots.specs.Roots.{AreRoots, IsCombination, without_x};
 ghost use Rattle.ffc_roots.specs.Divisors.{IsCommonDivisor};
 ghost use Rattle.ffc_roots.specs.Parts.{HasRoots};
 ghost use Rattle.ffc_roots.specs.Separation.{AreSeparated, HasOneRootAtMost, HasFewerUnits, unit_bound};
-ghost use Rattle.ffc_roots.specs.declared.stop.RootStop.TheVariants as stops;
 
 use crate::bezout::{Combination, common_divisor};
 use crate::elements::Elements;
 use crate::found::Roots;
 use crate::ordered::elements_of;
 use crate::split::split;
-use crate::stop::RootStop;
-use ffc_base::Meter;
+use ffc_base::{Meter, Stop};
 use ffc_field::Field;
 use ffc_uni::{Uni, pow_mod_chain};
 use std::alloc::{AllocError, Global};
@@ -79,7 +77,7 @@ fn cofactors<F: Field>(
 /// # Errors
 ///
 /// Spent, where the meter is full, or Memory.
-pub fn roots<F: Field>(alloc: Global, f: &Uni<F>, meter: &mut Meter) -> Result<Roots<F>, RootStop>
+pub fn roots<F: Field>(alloc: Global, f: &Uni<F>, meter: &mut Meter) -> Result<Roots<F>, Stop>
     requires { 2 ≤ length f.now }
     ensures roots { IfOk result (λ r. AreRoots F.ORDER f.now r.zeros) }
     ensures increasing { IfOk result (λ r. IsStrictlyIncreasing r.zeros) }
@@ -92,12 +90,12 @@ pub fn roots<F: Field>(alloc: Global, f: &Uni<F>, meter: &mut Meter) -> Result<R
 
     // Where f has one root at most, these units are enough; and else d * S times as many, where each two different roots
     // are separated by some number below S.
-    ensures few { IsErrOf result stops.Spent → HasOneRootAtMost F.ORDER f.now
+    ensures few { IsErrOf result Stop.Spent → HasOneRootAtMost F.ORDER f.now
         → HasFewerUnits meter.old (unit_bound (length f.now - 1)) }
-    ensures many { IsErrOf result stops.Spent → (bound : ℕ) → AreSeparated F.ORDER f.now bound
+    ensures many { IsErrOf result Stop.Spent → (bound : ℕ) → AreSeparated F.ORDER f.now bound
         → HasFewerUnits meter.old (unit_bound (length f.now - 1))
         ⊎ HasFewerUnits meter.old ((length f.now - 1) * bound * unit_bound (length f.now - 1)) }
-    ensures full { IsErrOf result stops.Spent → total meter.new ≡ meter.new.budget }
+    ensures metered { Metered Stop.Spent result meter.old meter.new }
     ensures chained { IsChained meter.old meter.new }
 {
     let _normal = f.coefs();

@@ -8,10 +8,8 @@ mod found;
 mod ordered;
 mod sparse;
 mod split;
-mod stop;
 
 pub use elements::Elements;
 pub use finding::roots;
 pub use found::Roots;
 pub use sparse::{from_univariate, to_univariate};
-pub use stop::RootStop;

@@ -1,20 +1,18 @@
 //! A product of different factors X - root, split into them (Berlekamp 1970; Rabin, "Probabilistic algorithms in finite
 //! fields", 1980).
 ghost use Rattle.std.specs.Prelude.{◌≡◌, ◌≢◌, ℕ, suc, ◌+◌, ◌-◌, ◌*◌, ◌<◌, ◌≤◌, [], ◌∷◌, length, min, IfOk, IfSome};
-ghost use Rattle.std.specs.Prelude.{IfNone, OnOk, IsErrOf};
-ghost use Rattle.ffc_base.specs.Metering.{total};
+ghost use Rattle.std.specs.Prelude.{IfNone, OnOk};
+ghost use Rattle.ffc_base.specs.Metering.{Metered};
 ghost use Rattle.ffc_uni.specs.Units.{IsChained, IsAtMost};
 ghost use Rattle.ffc_uni.specs.Univariate.{IsNormal, SameUnivariate, product_of_roots, times};
 ghost use Rattle.ffc_roots.specs.Divisors.{IsDivisor, field_polynomial};
 ghost use Rattle.ffc_roots.specs.Parts.{IsParted, HasRoots, IsTakenApart, AreRising, weight, weight_of, splits_in};
 ghost use Rattle.ffc_roots.specs.Parts.{splits_of};
 ghost use Rattle.ffc_roots.specs.Separation.{AreSeparated, SeparatesNone};
-ghost use Rattle.ffc_roots.specs.declared.stop.RootStop.TheVariants as stops;
 
 use crate::bezout::{common_divisor, constant};
 use crate::ordered::insert_root;
-use crate::stop::RootStop;
-use ffc_base::Meter;
+use ffc_base::{Meter, Stop};
 use ffc_field::Field;
 use ffc_uni::{Uni, pow_mod};
 use std::alloc::{AllocError, Global};
@@ -62,13 +60,13 @@ fn part_by<F: Field>(
     f: &Uni<F>,
     c: F,
     meter: &mut Meter,
-) -> Result<Option<Parts<F>>, RootStop>
+) -> Result<Option<Parts<F>>, Stop>
     requires long { 3 ≤ length f.now }
     requires normal { IsNormal F.ORDER f.now }
     ensures parts { IfOk result (λ o. IfSome o (IsParted F.ORDER f.now)) }
     ensures none { IfOk result (λ o. IfNone o (SeparatesNone F.ORDER f.now (F.value c))) }
     ensures units { IsAtMost 128 meter.old meter.new }
-    ensures full { IsErrOf result stops.Spent → total meter.new ≡ meter.new.budget }
+    ensures metered { Metered Stop.Spent result meter.old meter.new }
 {
     let linear = x_plus(alloc, c)?;
     if f.eval(c.neg()).residue() == 0 {
@@ -81,14 +79,14 @@ fn part_by<F: Field>(
 }
 
 /// Two factors of f, which has different roots in the field, by the first residue that separates two of them.
-fn part<F: Field>(alloc: Global, f: &Uni<F>, meter: &mut Meter) -> Result<Parts<F>, RootStop>
+fn part<F: Field>(alloc: Global, f: &Uni<F>, meter: &mut Meter) -> Result<Parts<F>, Stop>
     requires long { 3 ≤ length f.now }
     requires normal { IsNormal F.ORDER f.now }
     requires divides { IsDivisor F.ORDER f.now (field_polynomial F.ORDER) }
     ensures parts { IfOk result (IsParted F.ORDER f.now) }
     ensures units { (bound : ℕ) → AreSeparated F.ORDER f.now bound → IsAtMost (128 * bound) meter.old meter.new }
     ensures chained { IsChained meter.old meter.new }
-    ensures full { IsErrOf result stops.Spent → total meter.new ≡ meter.new.budget }
+    ensures metered { Metered Stop.Spent result meter.old meter.new }
 {
     for n in 0..F::ORDER {
         if let Some(parts) = part_by(alloc, f, F::of(u128::from(n)), meter)? {
@@ -119,7 +117,7 @@ fn take_apart<F: Field>(
     roots: &mut Vec<u64>,
     pending: &mut Vec<Uni<F>>,
     meter: &mut Meter,
-) -> Result<(), RootStop>
+) -> Result<(), Stop>
     requires rising { AreRising F.ORDER 0 roots.old.items }
     requires divides { IsDivisor F.ORDER (times f.now (product_of_roots F.ORDER roots.old.items))
         (field_polynomial F.ORDER) }
@@ -132,7 +130,7 @@ fn take_apart<F: Field>(
     ensures units { (bound : ℕ) → AreSeparated F.ORDER f.now bound
         → IsAtMost (128 * (bound * min 1 (splits_of (length f.now)))) meter.old meter.new }
     ensures chained { IsChained meter.old meter.new }
-    ensures full { IsErrOf result stops.Spent → total meter.new ≡ meter.new.budget }
+    ensures metered { Metered Stop.Spent result meter.old meter.new }
 {
     let length = f.coefs().len();
     if length == 2 {
@@ -150,18 +148,14 @@ fn take_apart<F: Field>(
 
 /// The roots of a product of different factors X - root, as residues that increase. Fewer polynomials than the product's
 /// degree are parted.
-pub fn split<F: Field>(
-    alloc: Global,
-    product: &Uni<F>,
-    meter: &mut Meter,
-) -> Result<Vec<u64>, RootStop>
+pub fn split<F: Field>(alloc: Global, product: &Uni<F>, meter: &mut Meter) -> Result<Vec<u64>, Stop>
     requires { IsDivisor F.ORDER product.now (field_polynomial F.ORDER) }
     ensures roots { IfOk result (λ roots. HasRoots F.ORDER product.now roots.items) }
     ensures rising { IfOk result (λ roots. AreRising F.ORDER 0 roots.items) }
     ensures units { (bound : ℕ) → AreSeparated F.ORDER product.now bound
         → IsAtMost (128 * (bound * splits_of (length product.now))) meter.old meter.new }
     ensures chained { IsChained meter.old meter.new }
-    ensures full { IsErrOf result stops.Spent → total meter.new ≡ meter.new.budget }
+    ensures metered { Metered Stop.Spent result meter.old meter.new }
 {
     let mut roots = Vec::new(alloc);
     let mut pending = Vec::new(alloc);

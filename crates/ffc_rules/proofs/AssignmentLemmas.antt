@@ -84,13 +84,17 @@ from_each P [] p all has = absurd has
 from_each P (q ∷ pairs) p all (inl e) = subst P (sym e) all.0
 from_each P (q ∷ pairs) p all (inr later) = from_each P pairs p all.1 later
 
+pub each_among : (P : ℕ × ℕ → Type 0) (pairs : List (ℕ × ℕ)) → ((p : ℕ × ℕ) → Among p pairs → P p) → AllByRecursion P pairs
+each_among P [] all = tt
+each_among P (q ∷ pairs) all = (all q (inl refl), each_among P pairs (λ p has. all p (inr has)))
+
 constant_number : (ns : List Node) (id : ℕ) → IsConstantAt ns id → is_constant (node_at ns id) ≡ true
 constant_number ns id (n, at, const) = ap is_constant (node_at-is ns id n at) ∙ const
 
 constant_node : (ns : List Node) (id : ℕ) → IsConstantAt ns id → IsNodeAt ns id (node_at ns id)
 constant_node ns id (n, at, const) = subst (IsNodeAt ns id) (sym (node_at-is ns id n at)) at
 
-value_listed : (ns : List Node) (pairs : List (ℕ × ℕ)) (p : ℕ × ℕ) → IsWellFormed ns → AreConstants ns pairs → AreDifferent pairs → Among p pairs
+pub value_listed : (ns : List Node) (pairs : List (ℕ × ℕ)) (p : ℕ × ℕ) → IsWellFormed ns → AreConstants ns pairs → AreDifferent pairs → Among p pairs
     → listed_value ns pairs (number_of_constant (node_at ns p.0)) ≡ value_of_number (node_at ns p.0) p.1
 value_listed ns [] p formed are differ has = absurd has
 value_listed ns (q ∷ pairs) p formed are differ (inl e) =

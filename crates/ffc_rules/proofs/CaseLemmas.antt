@@ -25,7 +25,7 @@ use Rattle.ffc_rules.specs.Clauses.{AreTrue}
 use Rattle.ffc_rules.specs.Cones.{cone, cone_constants, span}
 use Rattle.ffc_rules.specs.Assignments.{value_of_constant, value_of_number, listed_assignment, numbered_assignment, are_true, has_model_below}
 use Rattle.ffc_rules.specs.Entries.{first_misfit}
-use Rattle.ffc_rules.proofs.AssignmentLemmas.{AreConstants, AreDifferent, Among, from_each, value_fits, number_of_value, number_fits, values_listed, constant_listed, constant_agrees, constant_has, number_of_assignment, span-constants}
+use Rattle.ffc_rules.proofs.AssignmentLemmas.{AreConstants, AreDifferent, Among, from_each, each_among, value_fits, number_of_value, number_fits, values_listed, constant_listed, constant_agrees, constant_has, number_of_assignment, span-constants}
 use Rattle.ffc_rules.proofs.ConeLemmas.{cone_nodes}
 
 -- between the test and what it says
@@ -192,18 +192,26 @@ module _ (ns : List Node) (declared ids : List ℕ) (order : ℕ) (valid : IsVal
   pub declared_each : AllByRecursion (IsConstantAt ns) declared
   declared_each = each_contained (IsConstantAt ns) declared (λ id has. All-contains (IsConstantAt ns) declared id valid.constants has)
 
+  pub pairs_constants : AreConstants ns pairs
+  pairs_constants = named_each (IsConstantAt ns) pairs (subst (AllByRecursion (IsConstantAt ns)) (sym names) declared_each)
+
+  pub pairs_different : AreDifferent pairs
+  pairs_different = named_apart pairs (subst AreApart (sym names) (increasing_apart declared valid.increasing))
+
+  -- the assignment by these pairs is one that gives them
+  pub listed_gives : GivesListed ns pairs (listed_assignment ns pairs)
+  listed_gives = each_among _ pairs (λ p has. constant_listed ns pairs p valid.table.well_formed pairs_constants pairs_different has)
+
   -- what holds with the listed values holds under each assignment that gives them
   pub listed_true : are_true ns ids (listed_assignment ns pairs) ≡ true → (A : List Value) → GivesListed ns pairs A → AreTrue ns ids A
   listed_true good A gives =
       let B = listed_assignment ns pairs in
       let constants = cone_constants ns ids in
       let of = constants_of ns ids valid.table ids_within in
-      let are : AreConstants ns pairs = named_each (IsConstantAt ns) pairs (subst (AllByRecursion (IsConstantAt ns)) (sym names) declared_each) in
-      let differ : AreDifferent pairs = named_apart pairs (subst AreApart (sym names) (increasing_apart declared valid.increasing)) in
       true_alike ns ids constants B A valid.table of (λ id has.
       let is = (of.each id).0 has in
       let pair = named_among declared pairs id names (valid.covered id is.0 is.1) in
       constant_agrees ns B A id valid.table is.1
-      (constant_listed ns pairs (id, pair.0) valid.table.well_formed are differ pair.1
+      (from_each (λ p. value_of_constant ns B p.0 ≡ value_of_number (node_at ns p.0) p.1) pairs (id, pair.0) listed_gives pair.1
       ∙ sym (from_each (λ p. value_of_constant ns A p.0 ≡ value_of_number (node_at ns p.0) p.1) pairs (id, pair.0) gives pair.1))
       ) (AreTrue-from_test ns ids B good)

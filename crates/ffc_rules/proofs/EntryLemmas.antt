@@ -26,7 +26,7 @@ use Rattle.ffc_rules.specs.Laws.{HasNoModel, IsTrueOf, IsValid, IsUnsat, AreTrue
 use Rattle.ffc_rules.proofs.GivenLemmas.{IsNumberTrue, given_true}
 use Rattle.ffc_rules.proofs.StepLemmas.{TreesHoldNoClauses, no_steps}
 use Rattle.ffc_rules.proofs.ConeLemmas.{Contains-range}
-use Rattle.ffc_rules.proofs.CaseLemmas.{no_model, are_listed, listed_true}
+use Rattle.ffc_rules.proofs.CaseLemmas.{AreTrue-from_test, no_model, are_listed, listed_gives, listed_true}
 
 pub trees_hold_none : TreesHoldNoClauses
 trees_hold_none l p known lines rest read =
@@ -80,7 +80,12 @@ values_true l c pairs line valid e =
         let listed = are_listed c.nodes c.declared pairs (line + 1) same at in
         let good = (kept (are_true c.nodes c.in_force (listed_assignment c.nodes pairs)) _ None is).0 in (
           record { names = listed.names; fit = All-from_recursion _ pairs listed.values_fit },
-          λ A agrees. listed_true c.nodes c.declared c.in_force c.first_order valid pairs listed.names good A (recursion_from_All _ pairs agrees),
+          (λ A agrees. listed_true c.nodes c.declared c.in_force c.first_order valid pairs listed.names good A (recursion_from_All _ pairs agrees)),
+          record {
+            assignment = listed_assignment c.nodes pairs;
+            agrees = All-from_recursion _ pairs (listed_gives c.nodes c.declared c.in_force c.first_order valid pairs listed.names);
+            all = AreTrue-from_test c.nodes c.in_force (listed_assignment c.nodes pairs) good;
+          },
         )
 
 pub entry_true : (l : Limits) (c : NodeCheck) (entry : Entry) (line : ℕ) → IsValid c → entry_fault_within l c entry line ≡ None → IsTrueOf c entry

@@ -10,7 +10,7 @@ use Rattle.ffc_cert.specs.declared.entries.CertLine.TheVariants.{Assume, Scheme,
 use Rattle.ffc_cert.specs.declared.entries.Entry.TheVariants.{Sat, UnsatCases, UnsatSteps}
 use Rattle.ffc_term.specs.declared.node.Node.{Node}
 use Rattle.ffc_term.specs.declared.value.Value.{Value}
-use Rattle.ffc_term.specs.Nodes.{node_at, IsConstantAt}
+use Rattle.ffc_term.specs.Nodes.{node_at}
 use Rattle.ffc_term.specs.Measuring.{value_count}
 use Rattle.ffc_trees.specs.FirstLines.{first_lines}
 use Rattle.ffc_trees.specs.Trees.{Broken as BrokenInTree, tree_read}
@@ -24,8 +24,8 @@ use Rattle.ffc_rules.specs.Entries.{NodeCheck, Limits, Broken, breaks, Given, fi
 use Rattle.ffc_rules.specs.Refutations.{Gives, Refutes}
 use Rattle.ffc_rules.specs.Refutations.Gives.{nothing, next}
 use Rattle.ffc_rules.specs.Laws.{AreValues, Agrees, IsValid, HasNoModel}
-use Rattle.ffc_rules.proofs.AssignmentLemmas.{AreConstants, AreDifferent, from_each, constant_listed, constant_agrees}
-use Rattle.ffc_rules.proofs.CaseLemmas.{a_model, test-from_AreTrue, true_alike, constants_of, named_each, named_apart, named_among, AreApart, increasing_apart, ids_within, declared_each}
+use Rattle.ffc_rules.proofs.AssignmentLemmas.{from_each, constant_agrees}
+use Rattle.ffc_rules.proofs.CaseLemmas.{a_model, test-from_AreTrue, true_alike, constants_of, named_among, ids_within, listed_gives}
 use Rattle.ffc_rules.proofs.GivenLemmas.{err≢ok, chosen_ok}
 use Rattle.ffc_rules.proofs.EntryLemmas.{trees_hold_none}
 use Rattle.ffc_rules.proofs.StepLemmas.{taken_by_clause}
@@ -48,15 +48,14 @@ values_kept l c pairs line A valid values agrees all =
     let ns = c.nodes in
     let B = listed_assignment ns pairs in
     let of = constants_of ns c.in_force valid.table (ids_within ns c.declared c.in_force c.first_order valid pairs values.names) in
-    let are : AreConstants ns pairs = named_each (IsConstantAt ns) pairs (subst (AllByRecursion (IsConstantAt ns)) (sym values.names) (declared_each ns c.declared c.in_force c.first_order valid pairs values.names)) in
-    let differ : AreDifferent pairs = named_apart pairs (subst AreApart (sym values.names) (increasing_apart c.declared valid.increasing)) in
+    let listed = listed_gives ns c.declared c.in_force c.first_order valid pairs values.names in
     let gives = recursion_from_All (λ p. value_of_constant ns A p.0 ≡ value_of_number (node_at ns p.0) p.1) pairs agrees in
     let good = test-from_AreTrue ns c.in_force B (true_alike ns c.in_force (cone_constants ns c.in_force) A B valid.table of (λ id has.
     let is = (of.each id).0 has in
     let pair = named_among c.declared pairs id values.names (valid.covered id is.0 is.1) in
     constant_agrees ns A B id valid.table is.1
     (from_each (λ p. value_of_constant ns A p.0 ≡ value_of_number (node_at ns p.0) p.1) pairs (id, pair.0) gives pair.1
-    ∙ sym (constant_listed ns pairs (id, pair.0) valid.table.well_formed are differ pair.1))
+    ∙ sym (from_each (λ p. value_of_constant ns B p.0 ≡ value_of_number (node_at ns p.0) p.1) pairs (id, pair.0) listed pair.1))
     ) all) in
     let long : length pairs ≡ length c.declared = sym (length-map pairs (λ p. p.0)) ∙ ap length values.names in
     ap (λ b. cond b (elim (first_misfit ns c.declared pairs (line + 1)) as (λ _. Option Broken) [ Some misfit ↦ Some (breaks 1 misfit) | None ↦ cond (are_true ns c.in_force B) None (Some (breaks 1 line)) ]) (Some (breaks 1 line))) (eq-eqb (length pairs) (length c.declared) long)

@@ -4,9 +4,11 @@ pub mod StepLemmas
 pub mod AssignmentLemmas
 pub mod ConeLemmas
 pub mod CaseLemmas
+pub mod ModelLemmas
 pub mod EntryLemmas
 pub mod ReadingLemmas
 pub mod ScriptLemmas
 pub mod ListingLemmas
 pub mod BoundLemmas
 pub mod KeptLemmas
+pub mod ReachedLemmas

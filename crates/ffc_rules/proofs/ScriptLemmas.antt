@@ -1,5 +1,6 @@
 -- What an accepted certificate means for the checks of a script.
 use Rattle.std.proofs.Common.{◌≡◌, ℕ, zero, suc, ◌<◌, Bool, true, false, List, [], ◌∷◌, length, Option, Some, None, refl, sym, ap, ◌∙◌, subst, arith, slice_get, option_map}
+use Rattle.std.specs.List.{AllByRecursion}
 use Rattle.std.proofs.lemmas.Bool.{true≢false, false≢true}
 use Rattle.std.proofs.lemmas.Option.{none-some, same_Some, slice_get_within, get_or_from_slice_get, slice_get-map}
 use Rattle.ffc_cert.specs.declared.entries.Entry.{Entry}
@@ -16,22 +17,28 @@ use Rattle.ffc_rules.specs.Judging.{node_check, Rule, Counts, Judgement, Accepte
 use Rattle.ffc_rules.specs.Cores.{core}
 use Rattle.ffc_rules.specs.Laws.{IsTrueOfCheck, HasEntry}
 use Rattle.ffc_rules.proofs.EntryLemmas.{entry_true, core_sound}
+use Rattle.ffc_rules.proofs.ModelLemmas.{HasValues, check_sorts, completed, completed_agrees, completed_fits}
 use Rattle.ffc_rules.proofs.ReadingLemmas.{all_read}
 
 -- an entry that breaks no rule is true of a check whose nodes keep its terms' values
-kept_true : (l : Limits) (c : TableCheck) (entry : Entry) (line : ℕ) → KeepsCheck c → entry_fault_within l (node_check c) entry line ≡ None → IsTrueOfCheck c entry
-kept_true l c (Sat pairs) line keeps e =
+kept_true : (l : Limits) (c : TableCheck) (entry : Entry) (line : ℕ) → KeepsCheck c → AllByRecursion HasValues c.check.constants → entry_fault_within l (node_check c) entry line ≡ None → IsTrueOfCheck c entry
+kept_true l c (Sat pairs) line keeps sorts e =
     let is = entry_true l (node_check c) (Sat pairs) line keeps.valid e in
-    (is.0, λ A fits agrees. (keeps.holds A).1 (fits, is.1 A agrees))
-kept_true l c UnsatCases line keeps e = (
+    let A = completed c pairs in
+    let agrees = completed_agrees c keeps pairs is.0 in (
+      is.0,
+      (λ B fits given. (keeps.holds B).1 (fits, is.1 B given)),
+      record { assignment = A; agrees = agrees; holds = (keeps.holds A).1 (completed_fits c pairs sorts, is.1 A agrees) },
+    )
+kept_true l c UnsatCases line keeps sorts e = (
   (λ A holds. entry_true l (node_check c) UnsatCases line keeps.valid e A ((keeps.holds A).0 holds).1),
   keeps.core (core UnsatCases (length (nodes_in_force c))) (λ A fits all. core_sound l (node_check c) UnsatCases line A keeps.valid tt e all),
 )
-kept_true l c (UnsatSteps lines) line keeps e = (
+kept_true l c (UnsatSteps lines) line keeps sorts e = (
   (λ A holds. entry_true l (node_check c) (UnsatSteps lines) line keeps.valid e A ((keeps.holds A).0 holds).1),
   keeps.core (core (UnsatSteps lines) (length (nodes_in_force c))) (λ A fits all. core_sound l (node_check c) (UnsatSteps lines) line A keeps.valid tt e all),
 )
-kept_true l c (Unknown cause) line keeps e = tt
+kept_true l c (Unknown cause) line keeps sorts e = tt
 
 check_keeps : (script : List ℕ) (k : ℕ) (c : TableCheck) → slice_get (table_checks (reads script).steps) k ≡ Some c → KeepsCheck c
 check_keeps script k c at =
@@ -39,7 +46,7 @@ check_keeps script k c at =
     ((scripts_keep_checks script_limits script (omega arith)).1 k c (slice_get_within (table_checks (reads script).steps) k c at))
 
 pub check_true : (l : Limits) (script : List ℕ) (k : ℕ) (c : TableCheck) (entry : Entry) (line : ℕ) → slice_get (table_checks (reads script).steps) k ≡ Some c → entry_fault_within l (node_check c) entry line ≡ None → IsTrueOfCheck c entry
-check_true l script k c entry line at e = kept_true l c entry line (check_keeps script k c at) e
+check_true l script k c entry line at e = kept_true l c entry line (check_keeps script k c at) (check_sorts script k c at) e
 
 -- where no entry breaks a rule, the entry at a place breaks none of its check
 at_place : (l : Limits) (checks : List NodeCheck) (entries : List Numbered) (k : ℕ) (c : NodeCheck) (e : Numbered) → first_broken l checks entries ≡ None → slice_get checks k ≡ Some c → slice_get entries k ≡ Some e → entry_fault_within l c e.entry e.first_line ≡ None

@@ -75,6 +75,11 @@ last_empty (clause ∷ d ∷ clauses) e =
     let one : length (clause ∷ d ∷ clauses) - 1 ≡ suc (length (d ∷ clauses) - 1) = omega arith in
     ap (slice_get (clause ∷ d ∷ clauses)) one ∙ last_empty (d ∷ clauses) e
 
+-- after all clauses the last one is found
+last_found : (k : ℕ) → is_listed (reached_clauses k []) (k - 1) ≡ true
+unfolding reached_clauses
+last_found k = or_left _ _ (eq-eqb (k - 1) (k - 1) refl)
+
 -- no line is a clause
 abbrev pub NoClauses : List CertLine → Type 0
 NoClauses lines = AllByRecursion (λ x. is_clause x ≡ false) lines
@@ -149,11 +154,10 @@ module _ (lemmas : LemmasAreSound) (trees : TreesHoldNoClauses) (l : Limits) (c 
   AreTakenTrue found k lines = (n : ℕ) → is_listed (numbers_taken found k lines) n ≡ true → IsNumberTrue (truth_at c.nodes assignment) c.in_force n
 
   empty_never_true : (clauses : List Clause) (line : ℕ) → AreFoundTrue (reached_clauses (length clauses) []) clauses → cond (ends_empty clauses) None (Some (breaks 9 (line - 1))) ≡ None → ⊥
-  unfolding reached_clauses
   empty_never_true clauses line found e = by_end (ends_empty clauses) refl e
     where
       by_end : (w : Bool) → ends_empty clauses ≡ w → cond w None (Some (breaks 9 (line - 1))) ≡ None → ⊥
-      by_end true ends is = false≢true (found (length clauses - 1) (or_left _ false (eq-eqb _ _ refl)) [] (last_empty clauses ends))
+      by_end true ends is = false≢true (found (length clauses - 1) (last_found (length clauses)) [] (last_empty clauses ends))
       by_end false ends is = none-some _ (sym is)
 
   -- what is found from a clause on, where it is found from the next one on

@@ -1,5 +1,5 @@
 -- Which assertions and assumptions a refutation uses: those that are reached from its last clause by hints.
-use Rattle.std.specs.Prelude.{ℕ, ◌+◌, ◌-◌, List, [], ◌∷◌, ◌++◌, filter, filter_map, slice_get, option_and_then, Option, if◌then◌else◌}
+use Rattle.std.specs.Prelude.{◌≡◌, ℕ, ◌+◌, ◌-◌, List, [], ◌∷◌, ◌++◌, length, filter, filter_map, slice_get, option_and_then, Option, Some, Contains, if◌then◌else◌}
 use Rattle.std.specs.List.{range_with_len}
 use Rattle.ffc_cert.specs.declared.entries.Entry.{Entry}
 use Rattle.ffc_cert.specs.declared.entries.Entry.TheVariants.{Sat, UnsatCases, UnsatSteps, Unknown}
@@ -17,6 +17,11 @@ clause_lines lines = filter is_clause lines
 abbrev pub hints_of : CertLine → List ℕ
 hints_of (Hinted lits hints) = hints
 hints_of _ = []
+
+-- these numbers of clauses have the last clause among them, and with each clause its hints
+pub record AreClosedUnderHints (clauses : List CertLine) (numbers : List ℕ) : Type 0 where
+  pub last : Contains numbers (length clauses - 1)
+  pub hints : (k h : ℕ) (x : CertLine) → Contains numbers k → slice_get clauses k ≡ Some x → Contains (hints_of x) h → Contains numbers h
 
 -- The clauses that are reached from the last one, some of them more than once: those that are found from the last of some
 -- clauses down to the first, which is numbered k. After all clauses the last one is found.

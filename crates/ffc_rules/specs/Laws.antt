@@ -25,7 +25,7 @@ use Rattle.ffc_rules.specs.Assignments.{value_of_constant, value_of_number, has_
 use Rattle.ffc_rules.specs.Entries.{NodeCheck, Limits, Broken, Given, clause_given, entry_fault_within}
 use Rattle.ffc_rules.specs.Refutations.{Refutes}
 use Rattle.ffc_rules.specs.Judging.{node_check, Accepts, checks_in}
-use Rattle.ffc_rules.specs.Cores.{core}
+use Rattle.ffc_rules.specs.Cores.{AreClosedUnderHints, clause_lines, core, reached_clauses}
 
 -- Clauses
 
@@ -73,9 +73,18 @@ pub record AreValues (nodes : List Node) (declared : List ℕ) (pairs : List (�
 abbrev pub Agrees : List Node → List (ℕ × ℕ) → List Value → Type 0
 Agrees nodes pairs assignment = All (λ p. value_of_constant nodes assignment p.0 ≡ value_of_number (node_at nodes p.0) p.1) pairs
 
--- what an entry says of a check: listed values make all that is active true, or no assignment does
+-- some assignment has the listed values and makes all that is active true
+pub record HasModel (c : NodeCheck) (pairs : List (ℕ × ℕ)) : Type 0 where
+  pub assignment : List Value
+  pub agrees : Agrees c.nodes pairs assignment
+  pub all : AreTrue c.nodes c.in_force assignment
+
+-- what an entry says of a check: listed values, which some assignment has, make all that is active true, or no assignment does
 abbrev pub IsTrueOf : NodeCheck → Entry → Type 0
-IsTrueOf c (Sat pairs) = AreValues c.nodes c.declared pairs × ((assignment : List Value) → Agrees c.nodes pairs assignment → AreTrue c.nodes c.in_force assignment)
+IsTrueOf c (Sat pairs) =
+    AreValues c.nodes c.declared pairs
+    × ((assignment : List Value) → Agrees c.nodes pairs assignment → AreTrue c.nodes c.in_force assignment)
+    × HasModel c pairs
 IsTrueOf c UnsatCases = HasNoModel c.nodes c.in_force
 IsTrueOf c (UnsatSteps lines) = HasNoModel c.nodes c.in_force
 IsTrueOf c (Unknown cause) = Unit {0}
@@ -120,6 +129,17 @@ IsUnsat (Unknown cause) = ⊥
 abbrev pub AreTrueAt : NodeCheck → List ℕ → List Value → Type 0
 AreTrueAt c numbers assignment = All (λ k. (id : ℕ) → slice_get c.in_force k ≡ Some id → value_at c.nodes assignment id ≡ value.Bool true) numbers
 
+-- the least of the lists that have the last clause and, with each clause, its hints
+pub record AreLeastReached (clauses : List CertLine) (numbers : List ℕ) : Type 0 where
+  pub closed : AreClosedUnderHints clauses numbers
+  pub least : (others : List ℕ) → AreClosedUnderHints clauses others → (k : ℕ) → Contains numbers k → Contains others k
+
+-- Where no line breaks a rule, the clauses whose numbers the core takes are the least list that the last clause, which is
+-- empty, reaches.
+abbrev pub ReachedAreLeast : Type 0
+ReachedAreLeast = (l : Limits) (c : NodeCheck) (lines : List CertLine) (line : ℕ)
+    → entry_fault_within l c (UnsatSteps lines) line ≡ None → AreLeastReached (clause_lines lines) (reached_clauses 0 (clause_lines lines))
+
 -- no assignment makes all true that is in the core of an entry that breaks no rule
 abbrev pub CoresAreSound : Type 0
 CoresAreSound = (l : Limits) (c : NodeCheck) (entry : Entry) (line : ℕ) (assignment : List Value) → IsValid c → IsUnsat entry
@@ -127,12 +147,19 @@ CoresAreSound = (l : Limits) (c : NodeCheck) (entry : Entry) (line : ℕ) (assig
 
 -- Scripts
 
--- what an entry says of a check of a script: every assignment with the listed values makes all active terms true, or no
--- assignment makes the terms of the core true, so none makes all true
+-- some assignment gives each constant a value of its sort, has the listed values and makes all active terms true
+pub record HasModelOfCheck (c : TableCheck) (pairs : List (ℕ × ℕ)) : Type 0 where
+  pub assignment : List Value
+  pub agrees : Agrees c.nodes pairs assignment
+  pub holds : Holds c.check assignment
+
+-- what an entry says of a check of a script: every assignment with the listed values makes all active terms true, and there is
+-- one, or no assignment makes the terms of the core true, so none makes all true
 abbrev pub IsTrueOfCheck : TableCheck → Entry → Type 0
 IsTrueOfCheck c (Sat pairs) =
     AreValues c.nodes (declared_nodes c) pairs
     × ((assignment : List Value) → IsAssignment c.check.constants assignment → Agrees c.nodes pairs assignment → Holds c.check assignment)
+    × HasModelOfCheck c pairs
 IsTrueOfCheck c UnsatCases = IsUnsatisfiable c.check × CannotHoldAt c (core UnsatCases (length (nodes_in_force c)))
 IsTrueOfCheck c (UnsatSteps lines) = IsUnsatisfiable c.check × CannotHoldAt c (core (UnsatSteps lines) (length (nodes_in_force c)))
 IsTrueOfCheck c (Unknown cause) = Unit {0}

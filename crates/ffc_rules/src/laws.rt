@@ -7,6 +7,7 @@ ghost use Rattle.ffc_rules.specs.Laws.{
   CasesAreAll,
   EntriesAreTrue,
   BrokenLinesAreNear,
+  ReachedAreLeast,
   CoresAreSound,
   EntriesAreTrueOfChecks,
   AcceptanceIsSound,
@@ -63,6 +64,12 @@ pub fn refutations_are_kept()
 /// A broken line is one of the entry's, or the one after it.
 pub fn broken_lines_are_near()
     ensures { BrokenLinesAreNear }
+{}
+
+/// What is reached in a refutation that breaks no rule is the least list that has the last clause and, with each clause, its
+/// hints.
+pub fn reached_are_least()
+    ensures { ReachedAreLeast }
 {}
 
 /// No assignment makes all true that is in the core of an entry that breaks no rule.

@@ -1,11 +1,11 @@
 -- What a reader keeps true.
-use Rattle.std.proofs.Common.{◌≡◌, ℕ, zero, suc, ◌+◌, ◌-◌, ◌<◌, ◌≤◌, Bool, true, false, List, [], ◌∷◌, ◌++◌, length, take, map, Some, None, Option, Result, Ok, Err, All, Contains, slice_get, refl, sym, ap, ◌∙◌, subst, arith, append-nil, append_assoc}
+use Rattle.std.proofs.Common.{◌≡◌, ℕ, zero, suc, ◌+◌, ◌-◌, ◌<◌, ◌≤◌, Bool, true, false, List, [], ◌∷◌, ◌++◌, length, take, map, Some, None, Option, Result, Ok, Err, All, slice_get, refl, sym, ap, ◌∙◌, subst, arith, append-nil, append_assoc}
 use Rattle.std.proofs.lemmas.List.{take_all, length-take, length-take-le, length-append}
-use Rattle.std.proofs.lemmas.List.Elements.{All-nil, All-cons, All-head, All-tail, All-take, All-contains}
+use Rattle.std.proofs.lemmas.List.Elements.{All-nil, All-cons, All-head, All-tail, All-take}
 use Rattle.std.proofs.lemmas.Option.{slice_get_within, slice_get-get_or, slice_get_past, get_or_from_slice_get}
 use Rattle.ffc_lex.specs.Limits.{max_bytes}
 use Rattle.ffc_lex.specs.declared.tokens.Token.{Token}
-use Rattle.ffc_lex.specs.declared.faults.LexFault.{LexFault}
+use Rattle.ffc_lex.specs.declared.faults.ScriptFault.{ScriptFault}
 use Rattle.ffc_lex.specs.Lexing.{Lexing, extended, next_form_of, due_fault, fault_behind, end_fault}
 use Rattle.ffc_lex.specs.Reading.{End as TextEnd, Between, Within, Stopped, stop_fault, within_fault, forms_of, fault_of, end_fault_of, reading_of}
 use Rattle.ffc_smt.specs.Trees.{Word, Tree, word_of, tree_of, form_tree}
@@ -21,17 +21,17 @@ use Rattle.ffc_smt.proofs.CheckLemmas.{scripts_keep_checks}
 use Rattle.ffc_smt.proofs.GoingOnLemmas.{reads_are, stopped_goes}
 use Rattle.ffc_lex.proofs.GoesOnLemmas.{goes_on as text_goes_on}
 use Rattle.ffc_smt.proofs.FormLemmas.{forms_good}
-use Rattle.ffc_words.specs.declared.faults.ScriptFault.{ScriptFault}
 use Rattle.ffc_words.specs.declared.faults.TakeStop.{TakeStop}
 use Rattle.ffc_words.specs.declared.faults.TakeStop.TheVariants as stop
 use Rattle.ffc_words.specs.Given.{IsGiven}
 use Rattle.ffc_words.specs.Words.{fault_of as fault_meant}
 use Rattle.ffc_elab.specs.declared.answers.Command.{Command}
-use Rattle.ffc_elab.specs.Histories.{Known, first_known, known_by, known_of, check_now}
+use Rattle.ffc_elab.specs.Histories.{Known, first_known, known_by, known_of}
 use Rattle.ffc_elab.specs.Answers.{IsAnswered, TakesAs}
+use Rattle.ffc_elab.proofs.ContextLemmas.{history_is_known, taken_has_nodes}
 use Rattle.ffc_elab.proofs.GivenLemmas.{given_tree}
 use Rattle.ffc_script.specs.Progress.{Progress, steps_from, steps_of, known_at}
-use Rattle.ffc_script.specs.Answers.{ends, check_by, SaysOnly, end_at_fault, Gives, HasRun, IsAtCheck}
+use Rattle.ffc_script.specs.Answers.{ends, check_by, SaysOnly, end_at_fault, Gives, HasRun}
 use Rattle.ffc_script.specs.Kept.{AreFirst, IsGoing, IsKept}
 use Rattle.ffc_script.specs.Laws.{GoesOnFrom}
 use Rattle.ffc_script.proofs.RunLemmas.{run_to, first_trees, run_stays, more_forms, first_forms_stay, reads_from, run_more, trees_length, with_steps_is, going_on, going_over}
@@ -114,16 +114,16 @@ no_form [] n e = omega arith
 no_form (f ∷ fs) zero e = cc
 no_form (f ∷ fs) (suc n) e = let rest = no_form fs n e in omega arith
 
-behind_is : (o : Option (List Token)) (text : List ℕ) (f : LexFault) → fault_behind o text ≡ Some f → (o ≡ None) × (fault_of text ≡ Some f)
+behind_is : (o : Option (List Token)) (text : List ℕ) (f : ScriptFault) → fault_behind o text ≡ Some f → (o ≡ None) × (fault_of text ≡ Some f)
 behind_is None text f e = (refl, e)
 behind_is (Some form) text f e = cc
 
-stopped_is : (end : TextEnd) (f : LexFault) → stop_fault end ≡ Some f → end ≡ Stopped f
+stopped_is : (end : TextEnd) (f : ScriptFault) → stop_fault end ≡ Some f → end ≡ Stopped f
 stopped_is Between f e = cc
 stopped_is (Within g) f e = cc
 stopped_is (Stopped g) f e = let same : g ≡ f = cc in ap Stopped same
 
-within_is : (end : TextEnd) (f : LexFault) → within_fault end ≡ Some f → end ≡ Within f
+within_is : (end : TextEnd) (f : ScriptFault) → within_fault end ≡ Some f → end ≡ Within f
 within_is Between f e = cc
 within_is (Within g) f e = let same : g ≡ f = cc in ap Within same
 within_is (Stopped g) f e = cc
@@ -192,7 +192,7 @@ module _ (l : Lexing) (forms : List (List Word)) (k : IsKept l forms false) wher
       ∙ with_steps_is Steps (ended (end_of_text (reading_of l.text).end)) ∙ ap (λ xs. record { steps = xs; end = end_of_text (reading_of l.text).end }) (append-nil Steps)
       ∙ ap (λ (n : TextEnd). record { steps = Steps; end = end_of_text n }) e
 
-  pub text_fault : (f : LexFault) → fault_behind (next_form_of l.text l.given) l.text ≡ Some f → SaysOnly l.text Steps (AtFault f.line f.column f.code)
+  pub text_fault : (f : ScriptFault) → fault_behind (next_form_of l.text l.given) l.text ≡ Some f → SaysOnly l.text Steps (AtFault f.line f.column f.code)
   text_fault f e = λ more.
       let is = behind_is (next_form_of l.text l.given) l.text f e in
       let end = stopped_is (reading_of l.text).end f is.1 in
@@ -213,7 +213,7 @@ module _ (l : Lexing) (forms : List (List Word)) (k : IsKept l forms false) wher
     pub ends_well : end_fault_of l.text ≡ None → reads l.text ≡ record { steps = Steps; end = Done }
     ends_well e = run_says h.run Between (between_is (reading_of l.text).end h.sound e)
 
-    pub ends_within : (f : LexFault) → end_fault_of l.text ≡ Some f → reads l.text ≡ record { steps = Steps; end = AtFault f.line f.column f.code }
+    pub ends_within : (f : ScriptFault) → end_fault_of l.text ≡ Some f → reads l.text ≡ record { steps = Steps; end = AtFault f.line f.column f.code }
     ends_within f e = run_says h.run (Within f) (within_is (reading_of l.text).end f e)
 
   -- A form was given
@@ -292,6 +292,7 @@ module _ (l : Lexing) (forms : List (List Word)) (k : IsKept l forms false) wher
         steps = steps;
         known = read.2;
         answered = read.3;
+        values = taken_has_nodes (known_of forms) the_tree.0 r (known_of new) (history_is_known forms) read.0 (takes the_tree.0 the_tree.1) read.1;
         check = says.0 ∙ ap (check_by r) (sym read.2);
         over = refl;
         ended = λ e. exits (sym says.1 ∙ e);
@@ -313,6 +314,3 @@ checks_kept text xs h =
     let first = h [] in
     let all = (scripts_keep_checks limits (text ++ []) (omega arith)).1 in
     front_of KeepsCheck (table_checks xs) (table_checks first.0) (subst (All KeepsCheck) (ap table_checks first.1 ∙ checks_append xs first.0) all)
-
-pub check_kept : (text : List ℕ) (xs : List Step) (k : Known) → AreFirst text xs → Contains (table_checks xs) (check_now k) → KeepsCheck (check_now k)
-check_kept text xs k h has = All-contains KeepsCheck (table_checks xs) (check_now k) (checks_kept text xs h) has

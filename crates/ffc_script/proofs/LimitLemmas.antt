@@ -9,7 +9,7 @@ use Rattle.ffc_lex.specs.declared.tokens.TokenKind.{TokenKind}
 use Rattle.ffc_lex.specs.declared.tokens.TokenKind.TheVariants as kinds
 use Rattle.ffc_lex.specs.declared.tokens.Place.{Place}
 use Rattle.ffc_lex.specs.declared.tokens.Token.{Token as TokenRecord}
-use Rattle.ffc_lex.specs.declared.faults.LexFault.{LexFault}
+use Rattle.ffc_lex.specs.declared.faults.ScriptFault.{ScriptFault}
 use Rattle.ffc_lex.specs.Limits.{max_bytes, max_depth}
 use Rattle.ffc_lex.specs.Bytes.{byte_class, is_word_byte, is_line_end, is_quoted_byte}
 use Rattle.ffc_lex.specs.Words.{word_kind, keyword_kind, hash_kind}
@@ -62,7 +62,7 @@ lexeme_size (suc depth) c cs = rw (at_inside (suc depth) c cs (byte_class c) (om
 
 -- the step stops the text, or is one byte, or so many that they are within the limit
 abbrev Goes : ℕ → Next → Type 0
-Goes index (Halt end) = (f : LexFault) × (end ≡ Stopped f)
+Goes index (Halt end) = (f : ScriptFault) × (end ≡ Stopped f)
 Goes index (Move n left) = index + 1 + (n - 1) ≤ max_bytes
 Goes index (Give form) = index + 1 ≤ max_bytes
 
@@ -110,7 +110,7 @@ next_goes c cs place o long =
 -- The reading stops
 
 abbrev Stops : Reading → Type 0
-Stops r = (f : LexFault) × (r.end ≡ Stopped f)
+Stops r = (f : ScriptFault) × (r.end ≡ Stopped f)
 
 read_skip : (c : ℕ) (cs : List ℕ) (k : ℕ) (place : Place) (o : Open) → read (c ∷ cs) (suc k) place o ≡ read cs k (past c place) o
 unfolding read

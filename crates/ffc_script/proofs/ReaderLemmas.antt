@@ -1,7 +1,7 @@
 -- What the calls of a reader answer, from what the calls below them do.
 use Rattle.std.proofs.Common.{◌≡◌, ℕ, ◌+◌, Bool, true, false, List, [], ◌∷◌, ◌++◌, map, Some, None, Option, MatchOption, Result, Ok, Err, refl, sym, ap, ◌∙◌, subst}
 use Rattle.ffc_lex.specs.declared.tokens.Token.{Token}
-use Rattle.ffc_lex.specs.declared.faults.LexFault.{LexFault}
+use Rattle.ffc_lex.specs.declared.faults.ScriptFault.{ScriptFault}
 use Rattle.ffc_lex.specs.declared.faults.LexStop.{LexStop}
 use Rattle.ffc_lex.specs.declared.faults.LexStop.TheVariants as lex
 use Rattle.ffc_lex.specs.Lexing.{Lexing, IsRead, MatchStop, next_form_of, due_form, due_fault, end_fault, fault_behind}
@@ -108,7 +108,7 @@ module _ (l : Lexing) (forms : List (List Word)) (over : Bool) (now : Progress) 
     pub all_read : IsRead l
     all_read = read_by l.fault fault_none
       where
-        read_by : (o : Option LexFault) → o ≡ None → MatchOption o ((next_form_of l.text l.given ≡ None) × (fault_of l.text ≡ None)) (λ _. Unit {0})
+        read_by : (o : Option ScriptFault) → o ≡ None → MatchOption o ((next_form_of l.text l.given ≡ None) × (fault_of l.text ≡ None)) (λ _. Unit {0})
         read_by None e = (none_next l forms kept_now here, here.sound)
         read_by (Some f) e = tt
 

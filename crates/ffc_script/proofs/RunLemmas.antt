@@ -4,7 +4,7 @@ use Rattle.std.proofs.lemmas.List.{take-append-le, take-append-drop, take_more, 
 use Rattle.std.proofs.lemmas.List.Elements.{All-head, All-tail, All-take, All-weaker, All-contains_itself}
 use Rattle.std.proofs.lemmas.Option.{slice_get_within, get_or_from_slice_get}
 use Rattle.ffc_lex.specs.declared.tokens.Token.{Token}
-use Rattle.ffc_lex.specs.declared.faults.LexFault.{LexFault}
+use Rattle.ffc_lex.specs.declared.faults.ScriptFault.{ScriptFault}
 use Rattle.ffc_lex.specs.Lexing.{next_form_of}
 use Rattle.ffc_lex.specs.Reading.{Stopped, stop_fault, End as TextEnd, Between, Within, forms_of, fault_of, reading_of}
 use Rattle.ffc_lex.proofs.GoesOnLemmas.{goes_on as text_goes_on}

@@ -5,7 +5,7 @@ use Rattle.ffc_smt.specs.Terms as smt
 use Rattle.ffc_smt.specs.Scopes.{State, declared_of, assertions_of}
 use Rattle.ffc_smt.specs.Faults.{Fault, Read, Sound, Faulty, first_fault}
 use Rattle.ffc_smt.specs.CommandReading.{limits, command_read, nodes_after}
-use Rattle.ffc_smt.specs.Scripts.{Step, Script, Done, ended, end_at, with_step, after, named_orders, first_named, order_or_two}
+use Rattle.ffc_smt.specs.Scripts.{Step, Script, Done, ended, end_at, with_step, after, named_orders, order_or_two}
 use Rattle.ffc_smt.specs.GoingOn.{Run, Going, Over, after_step, run_from}
 use Rattle.ffc_smt.specs.TableChecks.{TableCheck, table_check_of, table_checks}
 use Rattle.ffc_elab.specs.declared.answers.Asked.{Asked}
@@ -14,6 +14,7 @@ use Rattle.ffc_elab.specs.declared.answers.Command.{Command}
 use Rattle.ffc_elab.specs.declared.answers.Command.TheVariants as command
 use Rattle.ffc_elab.specs.Histories.{Known, first_known, known_by, known_after, known_of, check_now}
 use Rattle.ffc_elab.specs.Answers.{IsQuiet, Says, ChecksUnder, AsksFor, IsInfo, IsAnswered}
+use Rattle.ffc_elab.proofs.ContextLemmas.{assuming_same, order_stays}
 use Rattle.ffc_elab.proofs.HistoryLemmas.{known_further, known_by_form as known_after_form}
 use Rattle.ffc_script.specs.Progress.{step_read, step_with, steps_from}
 use Rattle.ffc_script.specs.Answers.{ends, check_by}
@@ -114,10 +115,6 @@ info_other s smt.Version r h = says_other _ r h
 info_other s smt.AssertionStackLevels r h = says_other _ r h
 info_other s smt.ReasonUnknown r h = same_other r command.GetReason h (λ k. (refl, refl))
 
-first_stays : (o : Option ℕ) → first_named o [] ≡ o
-first_stays None = refl
-first_stays (Some p) = refl
-
 check_same : (k : Known) (t : Tree) → table_check_of (record { before = k.state; tree = t; command = smt.CheckSat }) ≡ Some (check_now (known_by k t smt.CheckSat))
 unfolding after named_orders
 check_same k t =
@@ -125,16 +122,7 @@ check_same k t =
       check = record { constants = k.state.constants; assertions = assertions_of k.state; assumptions = []; first_order = order_or_two o };
       nodes = nodes_after k.state smt.CheckSat;
       declared = declared_of k.state;
-    })) (sym (first_stays k.state.first_order))
-
-assuming_same : (k : Known) (t : Tree) (asked : List smt.Asked) → table_check_of (record { before = k.state; tree = t; command = smt.CheckSatAssuming asked }) ≡ Some (check_now (known_by k t (smt.CheckSatAssuming asked)))
-unfolding after named_orders
-assuming_same k t asked =
-    ap (λ o. Some (record {
-      check = record { constants = k.state.constants; assertions = assertions_of k.state; assumptions = asked; first_order = order_or_two o };
-      nodes = nodes_after k.state (smt.CheckSatAssuming asked);
-      declared = declared_of k.state;
-    })) (sym (first_stays k.state.first_order))
+    })) (sym (order_stays k.state.first_order))
 
 assuming_is : (asked : List Asked) (r : Command) → ChecksUnder asked r → (k : Known) → (Some (check_now k) ≡ check_by r k) × (ends r ≡ false)
 assuming_is asked (command.CheckAssuming terms) h k = (refl, refl)

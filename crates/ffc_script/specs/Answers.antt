@@ -1,16 +1,18 @@
 -- What a reader answers.
-use Rattle.std.specs.Prelude.{◌≡◌, ℕ, Bool, true, false, List, [], ◌∷◌, ◌++◌, Option, Some, None, Contains}
+use Rattle.std.specs.Prelude.{◌≡◌, ℕ, Bool, true, false, List, [], ◌∷◌, ◌++◌, Option, Some, None, All}
 use Rattle.ffc_lex.specs.Reading.{fault_of}
 use Rattle.ffc_smt.specs.Faults.{Sound}
 use Rattle.ffc_smt.specs.CommandReading.{limits, command_read}
 use Rattle.ffc_smt.specs.Scripts.{Step, Script, End, Done, AtFault, reads}
 use Rattle.ffc_smt.specs.GoingOn.{Going, run_of}
-use Rattle.ffc_smt.specs.TableChecks.{TableCheck, table_check_of, table_checks}
+use Rattle.ffc_smt.specs.TableChecks.{TableCheck, table_check_of}
+use Rattle.ffc_smt.specs.ScriptLaw.{HasNode}
 use Rattle.ffc_elab.specs.declared.answers.Command.{Command}
 use Rattle.ffc_elab.specs.declared.answers.Command.TheVariants as command
 use Rattle.ffc_elab.specs.Histories.{Known, known_by, check_now}
 use Rattle.ffc_elab.specs.Answers.{IsAnswered}
-use Rattle.ffc_words.specs.declared.faults.ScriptFault.{ScriptFault}
+use Rattle.ffc_elab.specs.Contexts.{terms_of}
+use Rattle.ffc_lex.specs.declared.faults.ScriptFault.{ScriptFault}
 use Rattle.ffc_script.specs.declared.stop.ScriptStop.{ScriptStop}
 use Rattle.ffc_script.specs.declared.stop.ScriptStop.TheVariants.{Fault, Memory}
 use Rattle.ffc_script.specs.Progress.{Progress, steps_of, known_at}
@@ -42,6 +44,8 @@ pub record Gives (old new : Progress) (c : Command) : Type 0 where
   pub steps : steps_of new ≡ steps_of old ++ step ∷ []
   pub known : known_at new ≡ known_by (known_at old) step.tree step.command
   pub answered : IsAnswered (known_at new).state step.command c
+  -- each term of the command has its node
+  pub values : All (HasNode (known_at new).state.nodes) (terms_of step.command)
   pub check : table_check_of step ≡ check_by c (known_at new)
   pub over : new.over ≡ ends c
   pub ended : ends c ≡ true → SaysOnly new.text (steps_of new) Done
@@ -64,7 +68,3 @@ SaysAll p = reads p.text ≡ record { steps = steps_of p; end = Done }
 abbrev pub EndsAt : Progress → ScriptStop → Type 0
 EndsAt p (Fault f) = reads p.text ≡ record { steps = steps_of p; end = end_at_fault f }
 EndsAt p Memory = Unit {0}
-
--- the command that was given last made this check
-abbrev pub IsAtCheck : Progress → Type 0
-IsAtCheck p = Contains (table_checks (steps_of p)) (check_now (known_at p))

@@ -7,7 +7,7 @@ use Rattle.ffc_script.specs.declared.stop.ScriptStop.{ScriptStop}
 use Rattle.ffc_script.specs.declared.stop.ScriptStop.TheVariants.{Fault, Memory}
 
 abbrev pub lexing_stop : LexStop → ScriptStop
-lexing_stop (lex.Fault f) = Fault (record { line = f.line; column = f.column; code = f.code })
+lexing_stop (lex.Fault f) = Fault f
 lexing_stop lex.Memory = Memory
 
 abbrev pub taking_stop : TakeStop → ScriptStop

@@ -5,7 +5,7 @@ ghost use Rattle.ffc_elab.specs.Histories.{check_now, first_known, known_of};
 ghost use Rattle.ffc_lex.specs.Lexing.{extended};
 ghost use Rattle.ffc_smt.specs.TableChecks.{declared_nodes, nodes_in_force};
 ghost use Rattle.ffc_term.specs.Checks.{IsCheck};
-ghost use Rattle.ffc_script.specs.Answers.{EndsAt, Gives, HasRun, IsAtCheck, SaysAll, StopsAt, ends};
+ghost use Rattle.ffc_script.specs.Answers.{EndsAt, Gives, HasRun, SaysAll, StopsAt, ends};
 ghost use Rattle.ffc_script.specs.Kept.{AreFirst};
 ghost use Rattle.ffc_script.specs.Laws.{GoesOnFrom};
 ghost use Rattle.ffc_script.specs.Progress.{known_at, steps_of};
@@ -119,15 +119,16 @@ impl ScriptReader {
         &self.context
     }
 
-    /// What a check that was given last looks at.
+    /// What a check looks at now: one that was given last, or one that would come next.
     pub fn check(&self) -> Check<'_>
         ensures table { result.table.now ≡ (check_now (known_at self.now)).nodes }
         ensures declared { result.declared.now ≡ declared_nodes (check_now (known_at self.now)) }
         ensures in_force { result.in_force.now ≡ nodes_in_force (check_now (known_at self.now)) }
         ensures first_order { result.first_order ≡ (check_now (known_at self.now)).check.first_order }
-        ensures valid { IsAtCheck self.now → IsCheck result }
+        ensures valid { IsCheck result }
     {
         let context = &self.context;
+        context.stays_sound();
         let first_order = match context.field() {
             Some(field) => field.order(),
             None => 2,

@@ -33,11 +33,7 @@ impl From<LexStop> for ScriptStop {
 
     fn from(stop: LexStop) -> ScriptStop {
         match stop {
-            LexStop::Fault(fault) => ScriptStop::Fault(ScriptFault {
-                line: fault.line,
-                column: fault.column,
-                code: fault.code,
-            }),
+            LexStop::Fault(fault) => ScriptStop::Fault(fault),
             LexStop::Memory => ScriptStop::Memory,
         }
     }

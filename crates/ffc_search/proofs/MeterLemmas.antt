@@ -1,7 +1,7 @@
 -- Meters of which units were taken.
 use Rattle.std.proofs.Common.{◌≡◌, ◌+◌, refl, ◌∙◌, arith}
 use Rattle.ffc_base.specs.Metering.{Spending, total}
-use Rattle.ffc_basis.specs.Units.{Takes}
+use Rattle.ffc_base.specs.Metering.{Takes}
 
 pub takes_nothing : (a : Spending) → Takes a a
 takes_nothing a = record { same_budget = refl; taken = omega arith }

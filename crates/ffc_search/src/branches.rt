@@ -1,14 +1,11 @@
 //! Branches: cases by the values of a variable, each a level of the stack.
-ghost use Rattle.std.specs.Prelude.{◌≡◌, ℕ, ◌<◌, vec_len, IsErrOf};
-ghost use Rattle.ffc_base.specs.Metering.{total};
-ghost use Rattle.ffc_basis.specs.Units.{Takes};
+ghost use Rattle.std.specs.Prelude.{◌≡◌, ℕ, ◌<◌, vec_len};
+ghost use Rattle.ffc_base.specs.Metering.{Metered};
 ghost use Rattle.ffc_search.specs.Above.{StaysAbove, ComesDown};
-ghost use Rattle.ffc_search.specs.declared.stop.SearchStop.TheVariants as stops;
 
 use crate::points::less_root;
-use crate::stop::SearchStop;
 use crate::weights::Weights;
-use ffc_base::Meter;
+use ffc_base::{Meter, SearchStop};
 use ffc_basis::{LineId, Progress};
 use ffc_casetree::Tree;
 use ffc_field::Field;
@@ -134,8 +131,7 @@ fn open_case<F: Field, O: MonoOrder>(
 ) -> Result<Progress, SearchStop>
     requires { branching.opened < vec_len branching.values }
     ensures above { (floor : ℕ) → StaysAbove floor stack.old stack.new }
-    ensures spent { IsErrOf result stops.Spent → total meter.new ≡ meter.new.budget }
-    ensures takes { Takes meter.old meter.new }
+    ensures metered { Metered SearchStop.Spent result meter.old meter.new }
 {
     let value = branching.values[branching.opened];
     let poly = less_root(alloc, branching.variable, value)?;
@@ -160,8 +156,7 @@ pub fn next_case<F: Field, O: MonoOrder>(
     meter: &mut Meter,
 ) -> Result<Option<Progress>, SearchStop>
     ensures above { StaysAbove floor stack.old stack.new }
-    ensures spent { IsErrOf result stops.Spent → total meter.new ≡ meter.new.budget }
-    ensures takes { Takes meter.old meter.new }
+    ensures metered { Metered SearchStop.Spent result meter.old meter.new }
 {
     while let Some(branching) = walk.waiting.pop() {
         pop_above(stack, floor);
@@ -208,8 +203,7 @@ pub fn branch_by<F: Field, O: MonoOrder>(
     meter: &mut Meter,
 ) -> Result<Option<Progress>, SearchStop>
     ensures above { StaysAbove floor stack.old stack.new }
-    ensures spent { IsErrOf result stops.Spent → total meter.new ≡ meter.new.budget }
-    ensures takes { Takes meter.old meter.new }
+    ensures metered { Metered SearchStop.Spent result meter.old meter.new }
 {
     if values.is_empty() {
         return next_case(alloc, stack, walk, floor, meter);

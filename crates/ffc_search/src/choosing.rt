@@ -1,14 +1,11 @@
 //! The polynomial in one variable by whose roots cases are made.
-ghost use Rattle.std.specs.Prelude.{◌≡◌, IsErrOf};
-ghost use Rattle.ffc_base.specs.Metering.{total};
-ghost use Rattle.ffc_basis.specs.Units.{Takes};
-ghost use Rattle.ffc_search.specs.declared.stop.SearchStop.TheVariants as stops;
+ghost use Rattle.std.specs.Prelude.{◌≡◌};
+ghost use Rattle.ffc_base.specs.Metering.{Metered};
 
 use crate::reducing::reduced_within;
-use crate::stop::SearchStop;
 use crate::survey::{Linear, leading_power};
 use crate::weights::Weights;
-use ffc_base::Meter;
+use ffc_base::{Meter, SearchStop};
 use ffc_basis::{Line, LineId};
 use ffc_field::Field;
 use ffc_mono::MonoOrder;
@@ -52,7 +49,11 @@ fn leading_term<F: Field, O: MonoOrder>(
     if let Some((c, m)) = poly.lead() {
         terms.push((c, m.to_mono(alloc)?))?;
     }
-    Poly::from_terms(alloc, &terms).map_err(|_| AllocError)
+    match Poly::from_terms(alloc, &terms) {
+        Ok(leading) => Ok(leading),
+        Err(PolyStop::Memory) => Err(AllocError),
+        Err(_) => unreachable!(),
+    }
 }
 
 /// A sum, or none where it passes a limit of polynomials.
@@ -77,8 +78,7 @@ fn candidate_of<F: Field, O: MonoOrder>(
     meter: &mut Meter,
 ) -> Result<Option<Candidate<F, O>>, SearchStop>
     ensures unchanged { stack.new ≡ stack.old }
-    ensures spent { IsErrOf result stops.Spent → total meter.new ≡ meter.new.budget }
-    ensures takes { Takes meter.old meter.new }
+    ensures metered { Metered SearchStop.Spent result meter.old meter.new }
 {
     let Some(line) = stack.lines().get(place) else {
         return Ok(None);
@@ -167,8 +167,7 @@ pub fn best_candidate<F: Field, O: MonoOrder>(
     meter: &mut Meter,
 ) -> Result<Option<Candidate<F, O>>, SearchStop>
     ensures unchanged { stack.new ≡ stack.old }
-    ensures spent { IsErrOf result stops.Spent → total meter.new ≡ meter.new.budget }
-    ensures takes { Takes meter.old meter.new }
+    ensures metered { Metered SearchStop.Spent result meter.old meter.new }
 {
     for (_, _, x, place) in open_lines(alloc, stack.lines(), linear, weights)? {
         if let Some(found) = candidate_of(alloc, stack, place, x, linear, meter)? {

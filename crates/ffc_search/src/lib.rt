@@ -12,11 +12,9 @@ mod reducing;
 mod roots;
 mod rounds;
 mod searching;
-mod stop;
 mod survey;
 mod weights;
 
 pub use answers::Found;
 pub use reducing::reduced_within;
 pub use searching::search;
-pub use stop::SearchStop;

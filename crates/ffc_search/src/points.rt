@@ -10,7 +10,7 @@ use crate::survey::Linear;
 use ffc_basis::Line;
 use ffc_field::Field;
 use ffc_mono::MonoOrder;
-use ffc_poly::Poly;
+use ffc_poly::{Poly, PolyStop};
 use ffc_roots::from_univariate;
 use ffc_uni::Uni;
 use std::alloc::{AllocError, Global};
@@ -24,7 +24,11 @@ pub fn less_root<F: Field, O: MonoOrder>(
     let mut coefs = Vec::new(alloc);
     coefs.push(root.neg())?;
     coefs.push(F::of(1))?;
-    from_univariate(alloc, &Uni::from_coefs(alloc, &coefs)?, x).map_err(|_| AllocError)
+    match from_univariate(alloc, &Uni::from_coefs(alloc, &coefs)?, x) {
+        Ok(poly) => Ok(poly),
+        Err(PolyStop::Memory) => Err(AllocError),
+        Err(_) => unreachable!(),
+    }
 }
 
 /// Gives each variable that reduction replaces the value that its line says, from the one that leads last on, where the others

@@ -5,7 +5,7 @@ use ffc_casetree::{Tree, multiples_of, residues, scaled_line, terms_in, write_li
 use ffc_cert::CertLine;
 use ffc_field::Field;
 use ffc_mono::MonoOrder;
-use ffc_poly::Poly;
+use ffc_poly::{Poly, PolyStop};
 use ffc_roots::Roots;
 use ffc_uni::{Chain, Uni};
 use std::alloc::{AllocError, Global};
@@ -17,15 +17,17 @@ fn negated<F: Field, O: MonoOrder>(
 ) -> Result<Vec<(LineId, Poly<F, O>)>, AllocError> {
     let mut negated = Vec::new(alloc);
     for part in parts {
-        let Ok(opposite) = part.1.scale(F::of(1).neg()) else {
-            return Err(AllocError);
-        };
-        negated.push((part.0, opposite))?;
+        match part.1.scale(F::of(1).neg()) {
+            Ok(opposite) => negated.push((part.0, opposite))?,
+            Err(PolyStop::Memory) => return Err(AllocError),
+            Err(_) => unreachable!(),
+        }
     }
     Ok(negated)
 }
 
-/// Writes a candidate as a line, and answers its number.
+/// Writes a candidate as a line, and answers its number. Should the candidate's line have no number, it gets one that no line
+/// has, with which no tree is accepted.
 fn write_candidate<F: Field, O: MonoOrder>(
     alloc: Global,
     tree: &mut Tree,
@@ -33,9 +35,7 @@ fn write_candidate<F: Field, O: MonoOrder>(
     candidate: &Candidate<F, O>,
 ) -> Result<u32, AllocError> {
     write_lines(alloc, tree, lines, &lines_of(alloc, candidate)?)?;
-    let Some(number) = tree.number_of(candidate.line) else {
-        return Err(AllocError);
-    };
+    let number = tree.number_of(candidate.line).unwrap_or(u32::MAX);
     if candidate.parts.is_empty() {
         return Ok(number);
     }
@@ -54,9 +54,7 @@ fn write_chain<F: Field>(
     chain: &Chain<F>,
 ) -> Result<u32, AllocError> {
     let steps = chain.steps.as_slice();
-    let Ok(count) = u32::try_from(steps.len()) else {
-        return Err(AllocError);
-    };
+    let count = u32::try_from(steps.len()).unwrap_or(u32::MAX);
     tree.write(CertLine::Chain(number, x, count))?;
     for step in steps {
         let quotient = residues(alloc, step.0.coefs())?;

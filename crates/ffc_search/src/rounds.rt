@@ -1,20 +1,17 @@
 //! Rounds of a search, each with more effort than the one before.
-ghost use Rattle.std.specs.Prelude.{◌≡◌, IsErrOf};
-ghost use Rattle.ffc_base.specs.Metering.{total};
-ghost use Rattle.ffc_basis.specs.Units.{Takes};
-ghost use Rattle.ffc_search.specs.declared.stop.SearchStop.TheVariants as stops;
+ghost use Rattle.std.specs.Prelude.{◌≡◌};
+ghost use Rattle.ffc_base.specs.Metering.{Metered};
+ghost use Rattle.ffc_base.specs.Metering.{Takes};
 ghost use Rattle.ffc_search.specs.Above.{StaysAbove};
 
 use crate::branches::{Walk, branch_by, leave_unneeded, next_case, pop_times};
 use crate::choosing::{Candidate, best_candidate, lines_of};
 use crate::effort::Effort;
 use crate::points::zero_at_hand;
-use crate::reducing::units_taken;
 use crate::roots::write_split;
-use crate::stop::SearchStop;
 use crate::survey::{Linear, earliest, linear_lines, most_used};
 use crate::weights::Weights;
-use ffc_base::{Meter, Unit};
+use ffc_base::{Meter, SearchStop, Unit};
 use ffc_basis::{Completion, Progress};
 use ffc_casetree::{Tree, write_close};
 use ffc_cert::CertLine;
@@ -84,11 +81,10 @@ fn by_roots<F: Field, O: MonoOrder>(
     meter: &mut Meter,
 ) -> Result<Turn<F>, SearchStop>
     ensures above { StaysAbove floor stack.old stack.new }
-    ensures spent { IsErrOf result stops.Spent → total meter.new ≡ meter.new.budget }
-    ensures takes { Takes meter.old meter.new }
+    ensures metered { Metered SearchStop.Spent result meter.old meter.new }
 {
     if candidate.poly.coefs().len() < 2 {
-        return Err(SearchStop::Memory);
+        return Err(SearchStop::GaveUp);
     }
     let found = roots(alloc, &candidate.poly, meter)?;
     if found.zeros.as_slice().is_empty() {
@@ -134,7 +130,7 @@ fn values_to_try<F: Field, O: MonoOrder>(
     }
     walk.proving = false;
     limits.reached = true;
-    let taken = units_taken(meter);
+    let taken = meter.spent();
     let deadline = match limits.deadline {
         Some(deadline) => deadline,
         None => taken.saturating_add(effort.for_guesses()),
@@ -157,8 +153,7 @@ fn by_values<F: Field, O: MonoOrder>(
     meter: &mut Meter,
 ) -> Result<Turn<F>, SearchStop>
     ensures above { StaysAbove task.floor stack.old stack.new }
-    ensures spent { IsErrOf result stops.Spent → total meter.new ≡ meter.new.budget }
-    ensures takes { Takes meter.old meter.new }
+    ensures metered { Metered SearchStop.Spent result meter.old meter.new }
 {
     let chosen = if task.effort.guesses_by_use() {
         most_used(alloc, stack.lines(), linear)?
@@ -187,8 +182,7 @@ fn advance<F: Field, O: MonoOrder>(
     meter: &mut Meter,
 ) -> Result<Turn<F>, SearchStop>
     ensures above { StaysAbove task.floor stack.old stack.new }
-    ensures spent { IsErrOf result stops.Spent → total meter.new ≡ meter.new.budget }
-    ensures takes { Takes meter.old meter.new }
+    ensures metered { Metered SearchStop.Spent result meter.old meter.new }
 {
     let linear = linear_lines(alloc, stack.lines())?;
     if let Some(candidate) = best_candidate(alloc, stack, &linear, &walk.weights, meter)? {
@@ -215,8 +209,7 @@ fn take_turn<F: Field, O: MonoOrder>(
     meter: &mut Meter,
 ) -> Result<Turn<F>, SearchStop>
     ensures above { StaysAbove task.floor stack.old stack.new }
-    ensures spent { IsErrOf result stops.Spent → total meter.new ≡ meter.new.budget }
-    ensures takes { Takes meter.old meter.new }
+    ensures metered { Metered SearchStop.Spent result meter.old meter.new }
 {
     match progress {
         Progress::Done(Completion::Constant(line)) => {
@@ -244,13 +237,12 @@ fn take_turns<F: Field, O: MonoOrder>(
     meter: &mut Meter,
 ) -> Result<Option<Vec<F>>, SearchStop>
     ensures above { StaysAbove task.floor stack.old stack.new }
-    ensures spent { IsErrOf result stops.Spent → total meter.new ≡ meter.new.budget }
-    ensures takes { Takes meter.old meter.new }
+    ensures metered { Metered SearchStop.Spent result meter.old meter.new }
 {
     let mut progress = first;
     loop {
         meter.take(Unit::Trial)?;
-        if units_taken(meter) > limits.end {
+        if meter.spent() > limits.end {
             walk.proving = false;
             limits.reached = true;
             return Ok(None);
@@ -292,14 +284,13 @@ pub fn round<F: Field, O: MonoOrder>(
     meter: &mut Meter,
 ) -> Result<(Outcome<F>, Weights), SearchStop>
     ensures above { StaysAbove floor stack.old stack.new }
-    ensures spent { IsErrOf result stops.Spent → total meter.new ≡ meter.new.budget }
-    ensures takes { Takes meter.old meter.new }
+    ensures metered { Metered SearchStop.Spent result meter.old meter.new }
 {
     let task = Task { effort, floor };
     let tree = Tree::begin(alloc, stack.lines())?;
     let mut walk = Walk::begin(alloc, tree, effort.in_branch(), weights);
     let mut limits = Limits {
-        end: units_taken(meter).saturating_add(effort.allowance()),
+        end: meter.spent().saturating_add(effort.allowance()),
         deadline: None,
         reached: false,
     };

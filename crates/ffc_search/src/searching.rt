@@ -1,8 +1,6 @@
 //! The search.
-ghost use Rattle.std.specs.Prelude.{◌≡◌, [], Ok, IfOk, IsTrue, IsErrOf};
-ghost use Rattle.ffc_base.specs.Metering.{total};
-ghost use Rattle.ffc_basis.specs.Units.{Takes};
-ghost use Rattle.ffc_search.specs.declared.stop.SearchStop.TheVariants as stops;
+ghost use Rattle.std.specs.Prelude.{◌≡◌, [], Ok, IfOk, IsTrue};
+ghost use Rattle.ffc_base.specs.Metering.{Metered};
 ghost use Rattle.ffc_trees.specs.TreeLines.{limits};
 ghost use Rattle.ffc_trees.specs.Trees.{tree_read};
 ghost use Rattle.ffc_trees.specs.Closing.{Closes};
@@ -15,11 +13,9 @@ use crate::answers::Found;
 use crate::branches::pop_to;
 use crate::effort::Effort;
 use crate::points::is_zero;
-use crate::reducing::spend;
 use crate::rounds::{Outcome, round};
-use crate::stop::SearchStop;
 use crate::weights::Weights;
-use ffc_base::{Meter, Unit};
+use ffc_base::{Meter, SearchStop, Unit};
 use ffc_basis::Line;
 use ffc_field::Field;
 use ffc_mono::MonoOrder;
@@ -37,8 +33,7 @@ fn attempt<F: Field, O: MonoOrder>(
     meter: &mut Meter,
 ) -> Result<Found<F>, SearchStop>
     ensures above { StaysAbove floor stack.old stack.new }
-    ensures spent { IsErrOf result stops.Spent → total meter.new ≡ meter.new.budget }
-    ensures takes { Takes meter.old meter.new }
+    ensures metered { Metered SearchStop.Spent result meter.old meter.new }
 {
     let mut effort = Effort::first();
     let mut weights = Weights::new(alloc);
@@ -50,10 +45,7 @@ fn attempt<F: Field, O: MonoOrder>(
             Outcome::Values(values) => return Ok(Found::Values(Elements::new(values))),
             Outcome::Closed(lines) => return Ok(Found::Closed(lines)),
             Outcome::GivenUp => effort = effort.next(),
-            Outcome::Stuck => {
-                spend(meter);
-                return Err(SearchStop::Spent);
-            }
+            Outcome::Stuck => return Err(SearchStop::GaveUp),
         }
         pop_to(stack, floor);
     }
@@ -83,8 +75,8 @@ fn is_right<F: Field, O: MonoOrder>(
 ///
 /// # Errors
 ///
-/// Spent, where the meter is full: with no further choice the rest of it is taken. Memory, also where a line passes a limit
-/// of polynomials.
+/// Spent, where the meter is full; Memory; and GaveUp, where the search has no further choice, or a line passes a limit of
+/// polynomials or of certificates.
 pub fn search<F: Field, O: MonoOrder>(
     alloc: Global,
     stack: &mut BasisStack<F, O>,
@@ -98,8 +90,7 @@ pub fn search<F: Field, O: MonoOrder>(
     ensures closes { IfOk result
         (λ found. OnClosed found (λ tree. Closes limits F.ORDER (generators stack.old.lines) tree [])) }
     ensures unchanged { stack.new ≡ stack.old }
-    ensures spent { IsErrOf result stops.Spent → total meter.new ≡ meter.new.budget }
-    ensures takes { Takes meter.old meter.new }
+    ensures metered { Metered SearchStop.Spent result meter.old meter.new }
 {
     read_trees_close();
     let base = stack.depth();
@@ -107,8 +98,7 @@ pub fn search<F: Field, O: MonoOrder>(
     pop_to(stack, base);
     let found = outcome?;
     if !is_right(alloc, stack.lines(), vars, &found)? {
-        spend(meter);
-        return Err(SearchStop::Spent);
+        return Err(SearchStop::GaveUp);
     }
     Ok(found)
 }

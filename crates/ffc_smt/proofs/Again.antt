@@ -22,6 +22,7 @@ use Rattle.ffc_smt.specs.Making.{Made, AllMade, placed, interned, with_id, equal
 use Rattle.ffc_smt.specs.Again.{AreWithin}
 use Rattle.ffc_smt.specs.Law.{Agree}
 use Rattle.ffc_smt.proofs.Extends.{Extends, extends_further, interned_at, sort_stays, longer, interned_extends, equality_extends, difference_extends, implication_extends, neighbours_extend, differences_from_extend, differences_extend, exclusive_extends, applied_extends, made_extends, all_made_extends}
+use Rattle.ffc_smt.proofs.SameNodes.{interned_by_parts}
 
 first_case : (b : Bool) (n len : ℕ) (rest : Bool) → (b || rest) ≡ true → (rest ≡ true → n < len) → cond (not b) (1 + n) 0 < suc len
 first_case true n len rest h k = omega arith
@@ -39,19 +40,17 @@ found_position p ns h = below_some (position_or_len p ns) (length ns) (any_found
 
 -- a node that is in a table is found there
 pub interned_there : (ns : List Node) (n : Node) (id : ℕ) → IsWellFormed ns → IsNodeAt ns id n → interned ns n ≡ record { nodes = ns; id = id }
-unfolding interned
 interned_there ns n id formed at =
     let p = (by_parts.ghosts).eq n in
     let found = found_position p ns (list_any-from_Contains eq_laws.laws-law n ns (Contains-from_IsNodeAt ns id n at)) in
-    ap (placed ns n) found
+    interned_by_parts ns n ∙ ap (placed ns n) found
     ∙ ap (λ k. record { nodes = ns; id = k }) (formed.single (position_or_len p ns) id n (IsNodeAt-from_position ns n (position_or_len p ns) found) at)
 
 -- and leaves the table as it was, whatever else is there
 pub interned_present : (ns : List Node) (n : Node) (id : ℕ) → IsNodeAt ns id n → (interned ns n).nodes ≡ ns
-unfolding interned
 interned_present ns n id at =
     let p = (by_parts.ghosts).eq n in
-    ap (λ o. (placed ns n o).nodes) (found_position p ns (list_any-from_Contains eq_laws.laws-law n ns (Contains-from_IsNodeAt ns id n at)))
+    ap (λ m. m.nodes) (interned_by_parts ns n) ∙ ap (λ o. (placed ns n o).nodes) (found_position p ns (list_any-from_Contains eq_laws.laws-law n ns (Contains-from_IsNodeAt ns id n at)))
 
 -- a result with another table
 abbrev pub again : List Node → Made → Made
@@ -99,32 +98,29 @@ none_below : (n len : ℕ) → len ≤ n → cond (ltb n len) (Some n) None ≡ 
 none_below n len h = grind (arith, nat_tests)
 
 there_again : (ns more : List Node) (n : Node) → position_or_len ((by_parts.ghosts).eq n) ns < length ns → interned (ns ++ more) n ≡ again (ns ++ more) (interned ns n)
-unfolding interned
 there_again ns more n h =
     let p = (by_parts.ghosts).eq n in
     let k = position_or_len p ns in
     let one : position p ns ≡ Some k = below_some k (length ns) h in
     let two : position p (ns ++ more) ≡ Some k =
     ap (λ j. cond (ltb j (length (ns ++ more))) (Some j) None) (first_stays p ns more h) ∙ below_some k (length (ns ++ more)) (omega (arith, length-append ns more)) in
-    ap (placed (ns ++ more) n) two ∙ ap (λ o. again (ns ++ more) (placed ns n o)) (sym one)
+    interned_by_parts (ns ++ more) n ∙ ap (placed (ns ++ more) n) two ∙ ap (λ o. again (ns ++ more) (placed ns n o)) (sym one)
+    ∙ ap (again (ns ++ more)) (sym (interned_by_parts ns n))
 
 absent_again : (ns more : List Node) (n : Node) → length ns ≤ position_or_len ((by_parts.ghosts).eq n) ns → interned (ns ++ n ∷ more) n ≡ again (ns ++ n ∷ more) (interned ns n)
-unfolding interned
 absent_again ns more n h =
     let p = (by_parts.ghosts).eq n in
     let all = ns ++ n ∷ more in
     let one : position p ns ≡ None = none_below (position_or_len p ns) (length ns) h in
     let two : position p all ≡ Some (length ns) =
     ap (λ j. cond (ltb j (length all)) (Some j) None) (first_after p ns n more h (itself n)) ∙ below_some (length ns) (length all) (omega (arith, length-append ns (n ∷ more))) in
-    ap (placed all n) two ∙ ap (λ o. again all (placed ns n o)) (sym one)
+    interned_by_parts all n ∙ ap (placed all n) two ∙ ap (λ o. again all (placed ns n o)) (sym one) ∙ ap (again all) (sym (interned_by_parts ns n))
 
 nodes_there : (ns : List Node) (n : Node) → position_or_len ((by_parts.ghosts).eq n) ns < length ns → (interned ns n).nodes ≡ ns
-unfolding interned
-nodes_there ns n h = ap (λ o. (placed ns n o).nodes) (below_some (position_or_len ((by_parts.ghosts).eq n) ns) (length ns) h)
+nodes_there ns n h = ap (λ m. m.nodes) (interned_by_parts ns n) ∙ ap (λ o. (placed ns n o).nodes) (below_some (position_or_len ((by_parts.ghosts).eq n) ns) (length ns) h)
 
 nodes_absent : (ns : List Node) (n : Node) → length ns ≤ position_or_len ((by_parts.ghosts).eq n) ns → (interned ns n).nodes ≡ ns ++ n ∷ []
-unfolding interned
-nodes_absent ns n h = ap (λ o. (placed ns n o).nodes) (none_below (position_or_len ((by_parts.ghosts).eq n) ns) (length ns) h)
+nodes_absent ns n h = ap (λ m. m.nodes) (interned_by_parts ns n) ∙ ap (λ o. (placed ns n o).nodes) (none_below (position_or_len ((by_parts.ghosts).eq n) ns) (length ns) h)
 
 -- whatever else is in the table
 interned_again : (ns new : List Node) (n : Node) → Extends (interned ns n).nodes new → interned new n ≡ again new (interned ns n)

@@ -5,11 +5,10 @@ use Rattle.ffc_term.specs.declared.node.Node.{Node}
 use Rattle.ffc_term.specs.declared.node.Node.TheVariants as node
 use Rattle.ffc_term.specs.declared.node.Sort.{Sort}
 use Rattle.ffc_term.specs.declared.node.Sort.TheVariants as sort
-use Rattle.ffc_term.specs.contracts.node.NodePartialEq.TheImpl as by_parts
 use Rattle.ffc_term.specs.Nodes.{sort_at}
 use Rattle.ffc_smt.specs.Terms.{Operator, Not, And, Or, Xor, Implies, Equal, Distinct, Ite, Add, Mul, Neg, Bitsum, Term, Truth, Number, Constant, Variable, Defined, Applied, Let, Called, Terms, NoTerm, AndTerm, weight, weights}
 use Rattle.ffc_smt.specs.Meaning.{Env, found}
-use Rattle.ffc_smt.specs.Making.{AllMade, placed, interned, equality, neighbours, difference, differences_from, differences, exclusive, implication, implications, choice, conjoined, applied_made, variable_made, made, all_made}
+use Rattle.ffc_smt.specs.Making.{AllMade, placed, interned, equality, neighbours, difference, differences_from, differences, exclusive, implication, implications, choice, conjoined, applied_made, variable_made, made, all_made, is_same_node}
 use Rattle.ffc_smt.specs.Bounds.{IsMade, AreDefined, AllDefined}
 use Rattle.ffc_smt.proofs.Extends.{Extends, made_extends, all_made_extends}
 use Rattle.ffc_smt.proofs.Again.{made_anew}
@@ -20,7 +19,7 @@ placed_bound ns n None = omega (arith, length-append ns (n ∷ []))
 
 pub interned_bound : (ns : List Node) (n : Node) → length (interned ns n).nodes ≤ length ns + 1
 unfolding interned
-interned_bound ns n = placed_bound ns n (position ((by_parts.ghosts).eq n) ns)
+interned_bound ns n = placed_bound ns n (position (is_same_node n) ns)
 
 equality_bound : (ns : List Node) (a b : ℕ) → length (equality ns a b).nodes ≤ length ns + 1
 unfolding equality

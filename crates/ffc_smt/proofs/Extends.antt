@@ -15,8 +15,9 @@ use Rattle.ffc_term.proofs.TableLemmas.{IsWellFormed-take, sort_at-append}
 use Rattle.ffc_term.proofs.LawLemmas.{value_at-append}
 use Rattle.ffc_smt.specs.Terms.{Operator, Not, And, Or, Xor, Implies, Equal, Distinct, Ite, Add, Mul, Neg, Bitsum, Term, Truth, Number, Constant, Variable, Defined, Applied, Let, Called, Terms, NoTerm, AndTerm}
 use Rattle.ffc_smt.specs.Meaning.{Env, found, Element}
-use Rattle.ffc_smt.specs.Making.{AllMade, placed, interned, equality, neighbours, difference, differences_from, differences, exclusive, implication, implications, choice, conjoined, applied_made, variable_made, made, all_made}
+use Rattle.ffc_smt.specs.Making.{AllMade, placed, interned, equality, neighbours, difference, differences_from, differences, exclusive, implication, implications, choice, conjoined, applied_made, variable_made, made, all_made, is_same_node}
 use Rattle.ffc_smt.specs.Law.{Means}
+use Rattle.ffc_smt.proofs.SameNodes.{interned_by_parts}
 
 -- the table was extended
 abbrev pub Extends : List Node → List Node → Type 0
@@ -60,7 +61,7 @@ placed_extends ns n None = (n ∷ [], refl)
 
 pub interned_extends : (ns : List Node) (n : Node) → Extends ns (interned ns n).nodes
 unfolding interned
-interned_extends ns n = placed_extends ns n (position ((by_parts.ghosts).eq n) ns)
+interned_extends ns n = placed_extends ns n (position (is_same_node n) ns)
 
 placed_at : (ns : List Node) (n : Node) (o : Option ℕ) → position ((by_parts.ghosts).eq n) ns ≡ o → IsNodeAt (placed ns n o).nodes (placed ns n o).id n
 placed_at ns n (Some id) e = IsNodeAt-from_position ns n id e
@@ -68,8 +69,7 @@ placed_at ns n None e = IsNodeAt-last ns n
 
 -- the node that was asked for
 pub interned_at : (ns : List Node) (n : Node) → IsNodeAt (interned ns n).nodes (interned ns n).id n
-unfolding interned
-interned_at ns n = placed_at ns n (position ((by_parts.ghosts).eq n) ns) refl
+interned_at ns n = subst (λ m. IsNodeAt m.nodes m.id n) (sym (interned_by_parts ns n)) (placed_at ns n (position ((by_parts.ghosts).eq n) ns) refl)
 
 pub equality_extends : (ns : List Node) (a b : ℕ) → Extends ns (equality ns a b).nodes
 unfolding equality

@@ -3,7 +3,7 @@ use Rattle.std.proofs.Common.{◌≡◌, ℕ, zero, suc, ◌+◌, ◌≤◌, Lis
 use Rattle.std.proofs.lemmas.List.{take-append-le}
 use Rattle.std.proofs.lemmas.List.Elements.{All-head, All-tail, All-contains}
 use Rattle.ffc_lex.specs.declared.tokens.Token.{Token}
-use Rattle.ffc_lex.specs.declared.faults.LexFault.{LexFault}
+use Rattle.ffc_lex.specs.declared.faults.ScriptFault.{ScriptFault}
 use Rattle.ffc_lex.specs.Order.{IsInOrder}
 use Rattle.ffc_lex.specs.Reading.{Stopped, Reading, forms_of, reading_of}
 use Rattle.ffc_lex.specs.GoingOn.{IsFront}
@@ -163,7 +163,7 @@ module _ (l : Limits) where
         let all = goes_steps (run_of l text) (end_of_text (reading_of text).end) (λ now. script_from l now longer.0 (end_of_text (reading_of (text ++ more)).end)) in
         (all.0, ap (λ x. x.steps) longer.1 ∙ all.1 ∙ ap (λ x. x.steps ++ all.0) (sym (reads_are text)))
 
-    pub stopped_goes : (text more : List ℕ) (fault : LexFault) → (reading_of text).end ≡ Stopped fault → reads_within l (text ++ more) ≡ reads_within l text
+    pub stopped_goes : (text more : List ℕ) (fault : ScriptFault) → (reading_of text).end ≡ Stopped fault → reads_within l (text ++ more) ≡ reads_within l text
     unfolding reads_within
     stopped_goes text more fault e =
         let front = goes text more in

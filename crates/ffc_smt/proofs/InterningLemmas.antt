@@ -12,6 +12,7 @@ use Rattle.ffc_term.specs.Tables.{IsWellFormed, IsTable, IsInterned, IsIteIntern
 use Rattle.ffc_term.proofs.NodeLemmas.{IsNodeAt-from_position, IsNodeAt-from_Contains, IsNodeAt-append, Contains-from_IsNodeAt}
 use Rattle.ffc_smt.specs.Making.{Made, placed, interned, choice}
 use Rattle.ffc_smt.proofs.Again.{interned_there, with_second, with_equalities}
+use Rattle.ffc_smt.proofs.SameNodes.{interned_by_parts}
 
 -- a table with a number
 abbrev pub with_table : ℕ → List Node → Made
@@ -23,8 +24,7 @@ absent_placed ns n None e absent = refl
 
 -- a node that is not in a table is put after the others
 pub interned_absent : (ns : List Node) (n : Node) → (Contains ns n → ⊥) → interned ns n ≡ record { nodes = ns ++ n ∷ []; id = length ns }
-unfolding interned
-interned_absent ns n absent = absent_placed ns n (position ((by_parts.ghosts).eq n) ns) refl absent
+interned_absent ns n absent = interned_by_parts ns n ∙ absent_placed ns n (position ((by_parts.ghosts).eq n) ns) refl absent
 
 pub interning_is_one : (old new : List Node) (n : Node) (id : ℕ) → IsWellFormed new → IsInterned old new n id → interned old n ≡ record { nodes = new; id = id }
 interning_is_one old new n id formed h =

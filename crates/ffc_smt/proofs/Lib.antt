@@ -1,4 +1,5 @@
 pub mod Extends
+mod SameNodes
 pub mod NodeMeanings
 pub mod Keeping
 pub mod Again

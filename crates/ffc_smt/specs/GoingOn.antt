@@ -2,7 +2,7 @@
 -- that they leave.
 use Rattle.std.specs.Prelude.{◌≡◌, ℕ, List, [], ◌∷◌, ◌++◌, Contains}
 use Rattle.ffc_lex.specs.declared.tokens.Token.{Token}
-use Rattle.ffc_lex.specs.declared.faults.LexFault.{LexFault}
+use Rattle.ffc_lex.specs.declared.faults.ScriptFault.{ScriptFault}
 use Rattle.ffc_lex.specs.Reading.{Stopped, forms_of, reading_of}
 use Rattle.ffc_smt.specs.Trees.{Tree, form_tree}
 use Rattle.ffc_smt.specs.Terms.{Exit}
@@ -69,4 +69,4 @@ pub record ReadingGoesOn : Type 0 where
   -- so its steps begin with those of the front
   pub steps : (l : Limits) (text more : List ℕ) → (rest : List Step) × ((reads_within l (text ++ more)).steps ≡ (reads_within l text).steps ++ rest)
   -- a text that is at fault as a text is at this fault however it goes on
-  pub stopped : (l : Limits) (text more : List ℕ) (fault : LexFault) → (reading_of text).end ≡ Stopped fault → reads_within l (text ++ more) ≡ reads_within l text
+  pub stopped : (l : Limits) (text more : List ℕ) (fault : ScriptFault) → (reading_of text).end ≡ Stopped fault → reads_within l (text ++ more) ≡ reads_within l text

@@ -1,10 +1,9 @@
 -- The nodes that terms make, in the order in which they are interned, each once: arguments first, from the left.
-use Rattle.std.specs.Prelude.{ℕ, Bool, true, false, List, [], ◌∷◌, ◌++◌, length, zip, Option, Some, None, position}
+use Rattle.std.specs.Prelude.{ℕ, ◌==◌, ◌&&◌, Bool, true, false, List, [], ◌∷◌, ◌++◌, length, zip, Option, Some, None, position}
 use Rattle.ffc_term.specs.declared.node.Node.{Node}
 use Rattle.ffc_term.specs.declared.node.Node.TheVariants as node
 use Rattle.ffc_term.specs.declared.node.Sort.{Sort}
 use Rattle.ffc_term.specs.declared.node.Sort.TheVariants as sort
-use Rattle.ffc_term.specs.contracts.node.NodePartialEq.TheImpl as by_parts
 use Rattle.ffc_term.specs.Nodes.{sort_at}
 use Rattle.ffc_smt.specs.Terms.{Operator, Not, And, Or, Xor, Implies, Equal, Distinct, Ite, Add, Mul, Neg, Bitsum, Term, Truth, Number, Constant, Variable, Defined, Applied, Let, Called, Terms, NoTerm, AndTerm}
 use Rattle.ffc_smt.specs.Meaning.{Env, found, residue_of_number}
@@ -26,9 +25,36 @@ abbrev pub placed : List Node → Node → Option ℕ → Made
 placed nodes n (Some id) = record { nodes = nodes; id = id }
 placed nodes n None = record { nodes = nodes ++ n ∷ []; id = length nodes }
 
--- the node n, where there is an equal one that one, else after the others
+-- the same numbers in the same order
+abbrev pub are_same_ids : List ℕ → List ℕ → Bool
+are_same_ids [] [] = true
+are_same_ids (a ∷ xs) (b ∷ ys) = (a == b) && are_same_ids xs ys
+are_same_ids _ _ = false
+
+-- two nodes of one kind with the same parts
+abbrev pub is_same_node : Node → Node → Bool
+is_same_node node.True node.True = true
+is_same_node node.False node.False = true
+is_same_node (node.BoolConst k) (node.BoolConst l) = k == l
+is_same_node (node.FieldConst k p) (node.FieldConst l q) = (k == l) && (p == q)
+is_same_node (node.Num n p) (node.Num m q) = (n == m) && (p == q)
+is_same_node (node.Not a) (node.Not b) = a == b
+is_same_node (node.And xs) (node.And ys) = are_same_ids xs ys
+is_same_node (node.Or xs) (node.Or ys) = are_same_ids xs ys
+is_same_node (node.Iff a b) (node.Iff c d) = (a == c) && (b == d)
+is_same_node (node.Xor a b) (node.Xor c d) = (a == c) && (b == d)
+is_same_node (node.IteBool c a b) (node.IteBool f d e) = (c == f) && ((a == d) && (b == e))
+is_same_node (node.IteField c a b) (node.IteField f d e) = (c == f) && ((a == d) && (b == e))
+is_same_node (node.Eq a b) (node.Eq c d) = (a == c) && (b == d)
+is_same_node (node.Add xs) (node.Add ys) = are_same_ids xs ys
+is_same_node (node.Mul xs) (node.Mul ys) = are_same_ids xs ys
+is_same_node (node.Neg a) (node.Neg b) = a == b
+is_same_node (node.Bitsum xs) (node.Bitsum ys) = are_same_ids xs ys
+is_same_node _ _ = false
+
+-- the node n, where it is among the others that one, else after them
 unfoldable pub interned : List Node → Node → Made
-interned nodes n = placed nodes n (position ((by_parts.ghosts).eq n) nodes)
+interned nodes n = placed nodes n (position (is_same_node n) nodes)
 
 -- a node that fits into no table, where there is nothing to make: a term that is read makes none
 abbrev pub placeholder : List Node → Made

@@ -1,29 +1,27 @@
 -- One more command of a dialogue.
-use Rattle.std.proofs.Common.{◌≡◌, ℕ, inl, true, false, List, [], ◌∷◌, ◌++◌, length, take, drop, Option, Some, None, Contains, refl, sym, ap, ap₂, ◌∙◌, subst, arith, append_assoc, append-nil, length-append}
+use Rattle.std.proofs.Common.{◌≡◌, ℕ, inl, true, false, List, [], ◌∷◌, ◌++◌, length, take, drop, All, Option, Some, None, refl, sym, ap, ap₂, ◌∙◌, subst, append_assoc, append-nil, length-append}
 use Rattle.std.specs.Global.{Vec}
 use Rattle.std.proofs.Common.{Result, Ok, Err, OnOk, OnErr}
 use Rattle.std.specs.Result.{IfOk}
 use Rattle.std.proofs.lemmas.Bool.{false≢true}
 use Rattle.std.proofs.lemmas.List.{take-append-drop}
-use Rattle.std.proofs.lemmas.List.Elements.{All-contains, Contains-append_left, Contains-append_right}
 use Rattle.ffc_base.specs.Outside.{Appends, AppendsPrefix}
 use Rattle.ffc_cert.specs.declared.entries.Entry.{Entry}
 use Rattle.ffc_smt.specs.Terms.{SetLogic, SetOption, GetOption, GetInfo, SolverName, Version, AssertionStackLevels, ReasonUnknown, Unsupported, Echo, CheckSat, CheckSatAssuming, GetModel, GetValue, GetUnsatCore, GetUnsatAssumptions, Exit}
 use Rattle.ffc_smt.specs.Terms as smt
 use Rattle.ffc_smt.specs.Scopes.{State}
-use Rattle.ffc_smt.specs.CommandReading.{limits}
 use Rattle.ffc_smt.specs.Scripts.{Step, after, reads}
-use Rattle.ffc_smt.specs.States.{IsSoundState}
+use Rattle.ffc_smt.specs.ScriptLaw.{HasNode}
 use Rattle.ffc_smt.specs.TableChecks.{table_check_of, table_checks}
 use Rattle.ffc_smt.specs.Answering.{asked_text, effect_of, Keeps, EndsModel, Forgets}
 use Rattle.ffc_smt.specs.Answering as answering
-use Rattle.ffc_smt.proofs.ScriptLemmas.{scripts_keep_states}
 use Rattle.ffc_elab.specs.declared.answers.Asked.{Asked}
 use Rattle.ffc_elab.specs.declared.answers.Command.{Command}
 use Rattle.ffc_elab.specs.declared.answers.Command.TheVariants as command
 use Rattle.ffc_elab.specs.declared.answers.Effect.{Effect}
 use Rattle.ffc_elab.specs.declared.answers.Effect.TheVariants as effect
 use Rattle.ffc_elab.specs.Histories.{Known, assumptions_of}
+use Rattle.ffc_elab.specs.Contexts.{terms_of}
 use Rattle.ffc_elab.specs.Answers.{AsksFor, ChecksUnder, IsAnswered, IsInfo, IsQuiet, Says, effect_as}
 use Rattle.ffc_answer.specs.Answers.{Last, after_effect, answer_of, answer_to, answers, answers_from, last_after, last_from}
 use Rattle.ffc_answer.specs.Views.{IsRememberedAt}
@@ -127,15 +125,8 @@ module _ (p : Progress) (s : Dialogue) (entries : List Entry) (l : Option Last) 
   pub answered_is : IsAnswered now x.command c
   answered_is = subst (λ st. IsAnswered st x.command c) state_is gives.answered
 
-  sound_steps : IsSoundState x.before × IsSoundState now
-  sound_steps =
-      let (rest, e) = first [] in
-      let all = scripts_keep_states limits (s.reader.text ++ []) (omega arith) in
-      let has : Contains ((steps_of p ++ x ∷ []) ++ rest) x = Contains-append_left (steps_of p ++ x ∷ []) rest x (Contains-append_right (steps_of p) (x ∷ []) x (0, omega arith, refl)) in
-      All-contains (λ (y : Step). IsSoundState y.before × IsSoundState (after y.before y.tree y.command)) (reads (s.reader.text ++ [])).steps x all (subst (λ xs. Contains xs x) (sym (e ∙ ap (λ xs. xs ++ rest) gives.steps)) has)
-
-  pub sound_before : IsSoundState x.before
-  sound_before = sound_steps.0
+  values_are : All (HasNode now.nodes) (terms_of x.command)
+  values_are = subst (λ st. All (HasNode st.nodes) (terms_of x.command)) state_is gives.values
 
   kept_then : IsRememberedAt l x.before
   kept_then = subst (IsRememberedAt l) (sym gives.before) holds.kept
@@ -179,8 +170,7 @@ module _ (p : Progress) (s : Dialogue) (entries : List Entry) (l : Option Last) 
 
     pub asked_plain : (t : Dialogue) → t ≡ record s { last = remembered_after (effect_by c) s.last } → IsAsked t c (last_after l x.command) x
     asked_plain t is = subst (λ (u : Dialogue). IsAsked u c (last_after l x.command) x) (sym is) (record {
-      sound = sound_before;
-      read = gives.read;
+      values = values_are;
       known = known_is;
       answered = answered_is;
       kept = kept_plain;

@@ -68,12 +68,6 @@ no_texts s _ h = refl
 add-none : (n : ℕ) → n ≡ n + 0
 add-none n = omega arith
 
--- the check that was given is the last one
-pub check_is_last : (p : Progress) (s : Dialogue) (c : Command) (check : TableCheck) (gives : Gives p s.reader c) → table_check_of gives.step ≡ Some check → Contains (table_checks (steps_of s.reader)) check
-check_is_last p s c check gives is =
-    let all = ap table_checks gives.steps ∙ checks-append (steps_of p) (gives.step ∷ []) ∙ ap (λ cs. table_checks (steps_of p) ++ cs) (checks-some gives.step [] None check is) in
-    subst (λ cs. Contains cs check) (sym all) (Contains-append_right (table_checks (steps_of p)) (check ∷ []) check (0, omega arith, refl))
-
 -- one more entry can be counted
 pub room_for : (p : Progress) (s : Dialogue) (entries : List Entry) (l : Option Last) (c : Command) → Holds p s entries l → Gives p s.reader c → length (steps_of s.reader) ≤ length s.reader.text → length s.reader.text ≤ 67108865 → HasRoom s.tally
 room_for p s entries l c holds gives few short =

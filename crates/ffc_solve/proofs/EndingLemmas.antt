@@ -11,8 +11,8 @@ use Rattle.ffc_smt.specs.TableChecks.{table_checks}
 use Rattle.ffc_answer.specs.Answers.{has_all_entries, made_answer, run_answers, script_answers}
 use Rattle.ffc_solve.specs.declared.dialogue.Dialogue.{Dialogue}
 use Rattle.ffc_solve.specs.Changes.{Change}
-use Rattle.ffc_solve.specs.Solving.{IsPaused, IsStopped, IsWhole}
-use Rattle.ffc_solve.specs.Underway.{IsAnswered, IsCut, IsPausedAt, is_fault}
+use Rattle.ffc_solve.specs.Solving.{AnswersSoon, IsPaused, IsStopped, IsWhole}
+use Rattle.ffc_solve.specs.Underway.{AnswersSoonAt, IsAnswered, IsCut, IsPausedAt, is_fault}
 use Rattle.ffc_solve.proofs.ListLemmas.{between, AppendsPrefix-none, Becomes-more, front_is_prefix, front_of}
 use Rattle.std.proofs.lemmas.Bool.{false≢true}
 use Rattle.std.proofs.lemmas.List.{take-append-drop, take_all, length-map}
@@ -33,7 +33,6 @@ use Rattle.ffc_solve.specs.declared.solve.SolveStatus.{SolveStatus}
 use Rattle.clap.specs.Words.{Text}
 use Rattle.ffc_solve.specs.declared.arguments.Plan.{Plan}
 use Rattle.ffc_solve.specs.Arguments.{HasPlan}
-use Rattle.ffc_solve.proofs.ArgumentLemmas.{one_number}
 use Rattle.std.specs.Result.{IsErrOf}
 use Rattle.ffc_solve.specs.declared.solve.SolveStatus.TheVariants as status
 use Rattle.ffc_solve.specs.declared.stop.Stop.{Stop}
@@ -50,6 +49,12 @@ run_plain script entries = ap (λ a. script_answers script entries ++ a) (no_mad
 text_is : (entries : List Entry) → header 2 ++ flat_map entry_text entries ≡ text_of 2 entries
 unfolding text_of
 text_is entries = refl
+
+-- entries and more after the first line
+text_then : (entries : List Entry) (part : List ℕ) (cert : Change) (c1 : Option (List ℕ)) → Becomes (header 2) cert.old c1 → Appends (flat_map entry_text entries ++ part) c1 cert.new → Becomes (text_of 2 entries ++ part) cert.old cert.new
+text_then entries part cert c1 first more =
+    subst (λ a. Becomes a cert.old cert.new) (sym (append_assoc (header 2) (flat_map entry_text entries) part) ∙ ap (λ a. a ++ part) (text_is entries))
+    (Becomes-more (header 2) (flat_map entry_text entries ++ part) cert.old c1 cert.new first more)
 
 -- the whole text after the first line
 pub text_from : (entries : List Entry) (cert : Change) (c1 : Option (List ℕ)) → Becomes (header 2) cert.old c1 → Appends (flat_map entry_text entries) c1 cert.new → Becomes (text_of 2 entries) cert.old cert.new
@@ -76,8 +81,7 @@ stopped_from budget make b cert out c1 first h = inr (record {
   each = h.each;
   text = text_of 2 h.entries ++ h.part;
   part = inr (h.part, refl, h.rest);
-  certificate = subst (λ a. Becomes a cert.old cert.new) (sym (append_assoc (header 2) (flat_map entry_text h.entries) h.part) ∙ ap (λ a. a ++ h.part) (text_is h.entries))
-      (Becomes-more (header 2) (flat_map entry_text h.entries ++ h.part) cert.old c1 cert.new first h.certificate);
+  certificate = text_then h.entries h.part cert c1 first h.certificate;
   answered = longer_prefix (script_answers (reads b) h.entries) (cond (has_all_entries (reads b).steps h.entries) (made_answer make h.entries) []) out.old out.new h.answered;
 })
 
@@ -104,6 +108,18 @@ paused_from budget text cert out c1 first h = record {
   certificate = text_from h.entries cert c1 first h.certificate;
   answered = h.answered;
 }
+
+pub soon_from : (text : List ℕ) (cert out : Change) (c1 : Option (List ℕ)) → Becomes (header 2) cert.old c1 → AnswersSoonAt text (between c1 cert.new) out → AnswersSoon text cert out
+soon_from text cert out c1 first h = λ n far.
+    let a = h n far in
+    record {
+      entries = a.entries;
+      all = a.all;
+      more_entries = a.more_entries;
+      certificate = text_then a.entries a.more_entries cert c1 first a.certificate;
+      more_answers = a.more_answers;
+      answered = a.answered;
+    }
 
 -- where a script is told
 
@@ -254,6 +270,5 @@ ended_at (Err stop) o b is ended = tt
 pub ends_as : (words : List Text) (plan : Plan) (make : Option ℕ) (r : Result Bool Stop) (s : SolveStatus) (left : Option (List ℕ)) (b : List ℕ) → HasPlan words plan → plan.make ≡ make → s ≡ status_of r → IsScript words left b
     → IfOk r (λ refused. IfSome (script_given make left) (λ b. refused ≡ is_fault (reads b).end)) → (IsErrOf r stops.ReadFault → ⊥) → (IsErrOf r stops.WriteFault → ⊥) → (IsErrOf r stops.CertFault → ⊥) → EndsAs s (reads b).end
 ends_as words plan make r s left b has made is script ended read write cert =
-    let same : script.make ≡ make = one_number _ script.make plan.make script.number has.make ∙ made in
-    let given : script_given make left ≡ Some b = subst (λ m. script_given m left ≡ Some b) same script.given in
+    let given : script_given make left ≡ Some b = subst (λ m. script_given m left ≡ Some b) (sym has.make ∙ made) script in
     subst (λ t. EndsAs t (reads b).end) (sym is) (ends_by r (reads b).end (ended_at r (script_given make left) b given ended) read write cert)

@@ -21,7 +21,7 @@ use Rattle.ffc_solve.proofs.RememberLemmas.{cause_for}
 
 -- what an entry is judged by, as a check over a table and as a check of a script
 pub same_check : (a : Check) (c : TableCheck) → a.table.now ≡ c.nodes → a.declared.now ≡ declared_nodes c → a.in_force.now ≡ nodes_in_force c → a.first_order ≡ c.check.first_order
-    → judged.node_check a ≡ node_check c
+    → judged.judged_check a ≡ node_check c
 same_check a c nodes declared in_force order = λ i. record { nodes = nodes i; declared = declared i; in_force = in_force i; first_order = order i }
 
 -- Causes

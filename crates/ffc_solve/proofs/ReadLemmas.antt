@@ -4,7 +4,7 @@ use Rattle.std.specs.Option.{IfSome}
 use Rattle.std.proofs.lemmas.List.{take-append-drop, take_all, length-take}
 use Rattle.ffc_base.specs.Outside.{MovesFront}
 use Rattle.ffc_lex.specs.Lexing.{extended}
-use Rattle.ffc_solve.specs.Solving.{EndsSoon, IsTaken}
+use Rattle.ffc_solve.specs.Solving.{IsTaken}
 use Rattle.ffc_solve.specs.Underway.{HasRead}
 
 -- what a read moved was read
@@ -33,9 +33,9 @@ HasRead-none None = tt
 HasRead-none (Some bytes) = (bytes, refl, refl)
 
 -- what was read is what was taken
-pub taken_read : (first now : Option (List ℕ)) (text : List ℕ) → length text ≤ 67108865 → EndsSoon text → HasRead first now text → IfSome first (λ bytes. (t : List ℕ) × IsTaken t bytes now × EndsSoon t)
-taken_read None now text few soon h = tt
-taken_read (Some bytes) now text few soon (rest, e, left) = (text, record { rest = rest; split = e; left = left; few = few }, soon)
+pub taken_read : (first now : Option (List ℕ)) (text : List ℕ) (P Q : List ℕ → Type 0) → length text ≤ 67108865 → P text → Q text → HasRead first now text → IfSome first (λ bytes. (t : List ℕ) × IsTaken t bytes now × P t × Q t)
+taken_read None now text P Q few p q h = tt
+taken_read (Some bytes) now text P Q few p q (rest, e, left) = (text, record { rest = rest; split = e; left = left; few = few }, p, q)
 
 pub within_limit : (text piece : List ℕ) → length text + length piece ≤ 67108865 → extended text piece ≡ text ++ piece
 within_limit text piece few = take_all 67108865 (text ++ piece) (omega (arith, length-append text piece))

@@ -18,10 +18,11 @@ use Rattle.ffc_solve.specs.declared.dialogue.Dialogue.{Dialogue}
 use Rattle.ffc_solve.specs.Changes.{Change, IsSilent}
 use Rattle.ffc_solve.specs.Solving.{AreEntries, EndsSoon, IsTaken}
 use Rattle.ffc_solve.specs.Remembering.{Counts, Holds, Remembers}
-use Rattle.ffc_solve.specs.Underway.{HasFed, HasRead, IsAnswered, IsAtEnd, IsCut, IsCutAt, IsEnd, IsFinished, IsFirst, IsPausedAt, IsTold, IsUnfinished, is_fault}
+use Rattle.ffc_solve.specs.Underway.{AnswersSoonAt, HasFed, HasRead, IsAnswered, IsAtEnd, IsCut, IsCutAt, IsEnd, IsFinished, IsFirst, IsPausedAt, IsTold, IsUnfinished, is_fault}
 use Rattle.ffc_solve.proofs.ListLemmas.{between, Appends-more, Appends-nil, Appends-same, front_of, front_is_prefix, texts-append}
 use Rattle.ffc_solve.proofs.AdvanceLemmas.{cut_here}
 use Rattle.ffc_solve.proofs.ReadLemmas.{HasRead-more, HasRead-none, taken_read}
+use Rattle.ffc_solve.proofs.SoonLemmas.{Grows, grows_none, soon_answered, soon_answered_none, soon_still}
 use Rattle.ffc_solve.proofs.TakenLemmas.{none_run, soon_fed, soon_none}
 
 -- What a loop over commands keeps: the commands so far are answered.
@@ -36,6 +37,7 @@ pub record IsGoing (s : Dialogue) (cert out : Change) (lo ln : Option (List ℕ)
   pub taken : s.taken ≡ length s.reader.text
   pub active : s.reader.over ≡ false
   pub soon : EndsSoon s.reader.text
+  pub answers_soon : AnswersSoonAt s.reader.text cert out
 
 pub going_first : (s : Dialogue) (co oo lo : Option (List ℕ)) → IsFirst s → IsGoing s (between co co) (between oo oo) lo lo
 unfolding answers_from last_from steps_from
@@ -59,6 +61,7 @@ going_first s co oo lo first =
       taken = first.taken ∙ ap (λ (p : Progress). length p.text) (sym first.reader);
       active = ap (λ (p : Progress). p.over) first.reader;
       soon = subst EndsSoon (sym (ap (λ (p : Progress). p.text) first.reader)) soon_none;
+      answers_soon = subst (λ b. AnswersSoonAt b (between co co) (between oo oo)) (sym (ap (λ (p : Progress). p.text) first.reader)) (soon_answered_none (between co co) (between oo oo));
     }
 
 -- one more command
@@ -81,6 +84,8 @@ module _ (s t : Dialogue) (cert out : Change) (c1 o1 lo ln : Option (List ℕ)) 
     taken = told.taken ∙ h.taken ∙ ap (λ (b : List ℕ). length b) (sym told.same_text);
     active = active;
     soon = subst EndsSoon (sym told.same_text) h.soon;
+    answers_soon = subst (λ b. AnswersSoonAt b cert out) (sym told.same_text)
+        (soon_still cert.old c1 cert.new out.old o1 out.new (flat_map entry_text told.more, told.certificate) (told.text, told.answered) s.reader.text h.answers_soon);
   }
 
 -- one more piece
@@ -107,6 +112,7 @@ going_fed s t cert out lo l1 ln h run fed =
       taken = fed.taken ∙ ap (λ n. n + length fed.piece) h.taken ∙ sym (ap (λ (b : List ℕ). length b) text ∙ length-append s.reader.text fed.piece);
       active = ap (λ (p : Progress). p.over) fed.reader ∙ h.active;
       soon = subst EndsSoon (sym text) (soon_fed s.reader.text fed.piece (none_run s.reader run) fed.short);
+      answers_soon = subst (λ b. AnswersSoonAt b cert out) (sym text) (soon_answered s.reader fed.piece h.entries cert out run fed.short h.holds.count h.certificate h.answered);
     }
 
 -- Whole scripts
@@ -215,21 +221,28 @@ paused_at s budget cert out lo ln same h run = by_told lo h.read
     by_told None r = tt
     by_told (Some b) (rest, e, left) = (s.reader.text, record { rest = rest; split = e; left = left; few = h.few }, paused)
 
--- more was taken than was fed
-pub taken_more : (lo l1 ln : Option (List ℕ)) (p : Progress) → HasRead lo l1 p.text → HasRun p → IfSome l1 (λ b. (piece : List ℕ) × IsTaken piece b ln × (length p.text + length piece ≤ 67108865) × (length piece ≤ 4096)) → IfSome lo (λ b. (t : List ℕ) × IsTaken t b ln × EndsSoon t)
-taken_more None l1 ln p h run k = tt
-taken_more (Some b) l1 ln p (rest, e, left) run k =
-    let text = p.text in
-    let (piece, is, few, short) = (let P : Option (List ℕ) → Type 0 = λ o. IfSome o (λ c. (piece : List ℕ) × IsTaken piece c ln × (length text + length piece ≤ 67108865) × (length piece ≤ 4096)) in subst P left k) in (
-      text ++ piece,
-      record {
-        rest = is.rest;
-        split = e ∙ ap (λ r. text ++ r) is.split ∙ sym (append_assoc text piece is.rest);
-        left = is.left;
-        few = omega (arith, length-append text piece);
-      },
-      soon_fed text piece (none_run p run) short,
-    )
+-- a piece was taken that was not fed
+pub taken_more : (s : Dialogue) (cert out : Change) (lo l1 ln : Option (List ℕ)) → IsGoing s cert out lo l1 → HasRun s.reader → IfSome l1 (λ b. (piece : List ℕ) × IsTaken piece b ln × (length s.reader.text + length piece ≤ 67108865) × (length piece ≤ 4096))
+    → IfSome lo (λ b. (t : List ℕ) × IsTaken t b ln × EndsSoon t × AnswersSoonAt t cert out)
+taken_more s cert out lo l1 ln h run k = by_told lo h.read
+  where
+    text : List ℕ
+    text = s.reader.text
+
+    by_told : (o : Option (List ℕ)) → HasRead o l1 text → IfSome o (λ b. (t : List ℕ) × IsTaken t b ln × EndsSoon t × AnswersSoonAt t cert out)
+    by_told None r = tt
+    by_told (Some b) (rest, e, left) =
+        let (piece, is, few, short) = (let P : Option (List ℕ) → Type 0 = λ o. IfSome o (λ c. (piece : List ℕ) × IsTaken piece c ln × (length text + length piece ≤ 67108865) × (length piece ≤ 4096)) in subst P left k) in (
+          text ++ piece,
+          record {
+            rest = is.rest;
+            split = e ∙ ap (λ r. text ++ r) is.split ∙ sym (append_assoc text piece is.rest);
+            left = is.left;
+            few = omega (arith, length-append text piece);
+          },
+          soon_fed text piece (none_run s.reader run) short,
+          soon_answered s.reader piece h.entries cert out run short h.holds.count h.certificate h.answered,
+        )
 
 -- How a run ends
 
@@ -285,17 +298,28 @@ going_silent s t co c1 cn oo o1 on lo ln e silent h =
       taken = h.taken;
       active = h.active;
       soon = h.soon;
+      answers_soon = soon_still co c1 cn oo o1 on (grows_none c1 cn silent.0) (grows_none o1 on silent.1) s.reader.text h.answers_soon;
     })
 
 pub going_left : (s : Dialogue) (cert out : Change) (lo l1 ln : Option (List ℕ)) → ln ≡ l1 → IsGoing s cert out lo l1 → IsGoing s cert out lo ln
 going_left s cert out lo l1 ln e h = subst (λ o. IsGoing s cert out lo o) (sym e) h
 
-pub going_taken : (s : Dialogue) (cert out : Change) (lo ln : Option (List ℕ)) → IsGoing s cert out lo ln → IfSome lo (λ b. (t : List ℕ) × IsTaken t b ln × EndsSoon t)
-going_taken s cert out lo ln h = taken_read lo ln s.reader.text h.few h.soon h.read
+-- What was taken
 
-pub taken_end : (s : Dialogue) (lo l1 ln : Option (List ℕ)) (text : List ℕ) → length text ≤ 67108865 → EndsSoon text → HasRead lo l1 text → IsEnd s (between l1 ln) → IfSome lo (λ b. (t : List ℕ) × IsTaken t b ln × EndsSoon t)
-taken_end s None l1 ln text few soon h at = tt
-taken_end s (Some b) l1 ln text few soon (rest, e, left) (inl at) =
-    let now : IsAtEnd (Some rest) ln = subst (λ o. IsAtEnd o ln) left at in
-    (text, record { rest = []; split = e ∙ ap (λ r. text ++ r) now.0; left = now.1; few = few }, soon)
-taken_end s (Some b) l1 ln text few soon (rest, e, left) (inr at) = (text, record { rest = rest; split = e; left = at.0 ∙ left; few = few }, soon)
+-- after this only the certificate and the output have grown
+module _ (s : Dialogue) (co c1 cn oo o1 on : Option (List ℕ)) (cert_grows : Grows c1 cn) (out_grows : Grows o1 on) (lo l1 : Option (List ℕ)) (h : IsGoing s (between co c1) (between oo o1) lo l1) where
+  still : AnswersSoonAt s.reader.text (between co cn) (between oo on)
+  still = soon_still co c1 cn oo o1 on cert_grows out_grows s.reader.text h.answers_soon
+
+  pub going_taken : IfSome lo (λ b. (t : List ℕ) × IsTaken t b l1 × EndsSoon t × AnswersSoonAt t (between co cn) (between oo on))
+  going_taken = taken_read lo l1 s.reader.text EndsSoon (λ t. AnswersSoonAt t (between co cn) (between oo on)) h.few h.soon still h.read
+
+  pub taken_end : (ln : Option (List ℕ)) → IsEnd s (between l1 ln) → IfSome lo (λ b. (t : List ℕ) × IsTaken t b ln × EndsSoon t × AnswersSoonAt t (between co cn) (between oo on))
+  taken_end ln at = by_told lo h.read at
+    where
+      by_told : (o : Option (List ℕ)) → HasRead o l1 s.reader.text → IsEnd s (between l1 ln) → IfSome o (λ b. (t : List ℕ) × IsTaken t b ln × EndsSoon t × AnswersSoonAt t (between co cn) (between oo on))
+      by_told None r e = tt
+      by_told (Some b) (rest, e, left) (inl none) =
+          let now : IsAtEnd (Some rest) ln = subst (λ o. IsAtEnd o ln) left none in
+          (s.reader.text, record { rest = []; split = e ∙ ap (λ r. s.reader.text ++ r) now.0; left = now.1; few = h.few }, h.soon, still)
+      by_told (Some b) (rest, e, left) (inr full) = (s.reader.text, record { rest = rest; split = e; left = full.0 ∙ left; few = h.few }, h.soon, still)

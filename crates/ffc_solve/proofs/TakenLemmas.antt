@@ -101,6 +101,13 @@ no_exit_before text more h has =
 pub none_run : (p : Progress) → HasRun p → HasNoEnd p.text
 none_run p run = record { steps = steps_of p; state = (known_at p).state; run = run.run; sound = run.sound }
 
+-- the commands of a front of the text are the first of those that were given
+pub first_steps : (p : Progress) → HasRun p → (n : ℕ) → (rest : List Step) × (steps_of p ≡ (reads (take n p.text)).steps ++ rest)
+unfolding none_run
+first_steps p run n =
+    let longer = steps_go limits text_goes_on (take n p.text) (drop n p.text) in
+    (longer.0, sym (steps_are p.text (none_run p run)) ∙ ap (λ t. (reads t).steps) (sym (take-append-drop n p.text)) ∙ longer.1)
+
 pub soon_none : EndsSoon []
 soon_none = record { after_exit = λ n h. omega arith; after_fault = λ n h. omega arith }
 

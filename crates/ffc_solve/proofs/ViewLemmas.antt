@@ -41,8 +41,7 @@ pub view_is : (s : Dialogue) (v : View) (c : Command) (l : Option Last) (x : Ste
     → v.core.now ≡ core_in s.last → option_map (λ asked. map (λ a. a.text) asked) (option_copied v.asked) ≡ asked_in s.last → IsView v c l x
 view_is s v c l x asked context last fresh core texts =
     record {
-      sound = asked.sound;
-      read = asked.read;
+      values = asked.values;
       known = context ∙ asked.known;
       answered = asked.answered;
       remembered = asked.kept;

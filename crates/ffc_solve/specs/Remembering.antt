@@ -1,5 +1,5 @@
 -- What a dialogue remembers of the last check, and how far it is.
-use Rattle.std.specs.Prelude.{◌≡◌, ℕ, ◌+◌, ◌≤◌, ◌<◌, ◌^◌, Bool, true, false, List, [], length, map, Option, Some, None, option_map}
+use Rattle.std.specs.Prelude.{◌≡◌, ℕ, ◌+◌, ◌≤◌, ◌<◌, ◌^◌, Bool, true, false, List, [], length, map, All, Option, Some, None, option_map}
 use Rattle.std.specs.Global.{Vec}
 use Rattle.ffc_cert.specs.declared.entries.Entry.{Entry}
 use Rattle.ffc_cert.specs.declared.entries.Entry.TheVariants.{Sat, UnsatCases, UnsatSteps, Unknown}
@@ -12,10 +12,9 @@ use Rattle.ffc_elab.specs.declared.answers.Effect.{Effect}
 use Rattle.ffc_elab.specs.declared.answers.Effect.TheVariants as effect
 use Rattle.ffc_elab.specs.Histories.{assumptions_of, check_now}
 use Rattle.ffc_elab.specs.Answers.{IsAnswered}
-use Rattle.ffc_smt.specs.CommandReading.{limits, command_read}
-use Rattle.ffc_smt.specs.Faults.{Sound}
+use Rattle.ffc_elab.specs.Contexts.{terms_of}
 use Rattle.ffc_smt.specs.Scripts.{Step, after}
-use Rattle.ffc_smt.specs.States.{IsSoundState}
+use Rattle.ffc_smt.specs.ScriptLaw.{HasNode}
 use Rattle.ffc_script.specs.Answers.{Gives}
 use Rattle.ffc_rules.specs.Cores.{core}
 use Rattle.ffc_answer.specs.Answers.{Last, last_from, sat_count, unsat_count, unknown_count}
@@ -119,8 +118,7 @@ pub record IsChecked (old new : Dialogue) (asked : Option (Vec Asked)) (entry : 
 
 -- What a view of a dialogue needs, whose last command was answered so, where this is remembered after it.
 pub record IsAsked (s : Dialogue) (command : Command) (l : Option Last) (x : Step) : Type 0 where
-  pub sound : IsSoundState x.before
-  pub read : command_read limits x.before x.tree ≡ Sound x.command
+  pub values : All (HasNode (after x.before x.tree x.command).nodes) (terms_of x.command)
   pub known : known_at s.reader ≡ record { state = after x.before x.tree x.command; assumptions = assumptions_of x.command }
   pub answered : IsAnswered (after x.before x.tree x.command) x.command command
   pub kept : IsRememberedAt l (after x.before x.tree x.command)

@@ -118,3 +118,17 @@ pub record HasNoEnd (text : List ℕ) : Type 0 where
 pub record EndsSoon (text : List ℕ) : Type 0 where
   pub after_exit : (n : ℕ) → HasExit (take n text) → length text ≤ n + 4095
   pub after_fault : (n : ℕ) → (HasNoEnd (take n text) → ⊥) → length text ≤ n + 4095
+
+-- These commands are answered: the certificate has its first line and the entries of all their checks, and the output grew by all
+-- answers to them; more may follow in both.
+pub record AreAnswered (steps : List Step) (cert out : Change) : Type 0 where
+  pub entries : List Entry
+  pub all : length entries ≡ length (table_checks steps)
+  pub more_entries : List ℕ
+  pub certificate : Becomes (text_of 2 entries ++ more_entries) cert.old cert.new
+  pub more_answers : List ℕ
+  pub answered : Appends (answers steps entries ++ more_answers) out.old out.new
+
+-- What is answered where this was taken: each command after whose `)` more than 4,095 bytes were taken.
+abbrev pub AnswersSoon : List ℕ → Change → Change → Type 0
+AnswersSoon text cert out = (n : ℕ) → n + 4095 < length text → AreAnswered (reads (take n text)).steps cert out

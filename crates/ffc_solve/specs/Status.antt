@@ -14,7 +14,7 @@ use Rattle.clap.specs.Words.{Text}
 use Rattle.ffc_solve.specs.declared.arguments.Plan.{Plan}
 use Rattle.ffc_solve.specs.declared.stop.Stop.{Stop}
 use Rattle.ffc_solve.specs.declared.stop.Stop.TheVariants as stops
-use Rattle.ffc_solve.specs.Arguments.{HasPlan, IsNumber, number_given}
+use Rattle.ffc_solve.specs.Arguments.{HasPlan, number_given}
 
 -- the number that the program ends with
 abbrev pub code_of : SolveStatus → ℕ
@@ -91,10 +91,8 @@ abbrev pub Leaves : List Text → SolveStatus → Option (List ℕ) → Change �
 Leaves words s left cert out name = (IsIdle s × IsUntouched cert out name) ⊎ IsPlanned words s left cert out name
 
 -- the script that the words ask for: a generated one, or else the bytes that are left
-pub record IsScript (words : List Text) (left : Option (List ℕ)) (script : List ℕ) : Type 0 where
-  pub make : Option ℕ
-  pub number : IsNumber (number_given (codes "make") words) make
-  pub given : script_given make left ≡ Some script
+abbrev pub IsScript : List Text → Option (List ℕ) → List ℕ → Type 0
+IsScript words left script = script_given (number_given (codes "make") words) left ≡ Some script
 
 -- How a run ends that nothing outside of it stops: as its script does, or out of memory.
 abbrev pub EndsAs : SolveStatus → End → Type 0

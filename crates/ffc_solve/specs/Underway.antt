@@ -1,5 +1,5 @@
 -- What was written while the commands of a script are answered one by one, after the certificate's first line.
-use Rattle.std.specs.Prelude.{◌≡◌, ℕ, ◌+◌, ◌≤◌, ◌<◌, ◌⊎◌, Bool, true, false, List, [], ◌++◌, length, Option, Some, None}
+use Rattle.std.specs.Prelude.{◌≡◌, ℕ, ◌+◌, ◌≤◌, ◌<◌, ◌⊎◌, Bool, true, false, List, [], ◌++◌, length, take, Option, Some, None}
 use Rattle.std.specs.List.{flat_map}
 use Rattle.ffc_base.specs.Outside.{Appends, AppendsPrefix}
 use Rattle.ffc_cert.specs.declared.entries.Entry.{Entry}
@@ -125,6 +125,19 @@ pub record IsPausedAt (budget : ℕ) (text : List ℕ) (cert out : Change) : Typ
   pub all : length entries ≡ length (table_checks steps)
   pub certificate : Appends (flat_map entry_text entries) cert.old cert.new
   pub answered : Appends (answers steps entries) out.old out.new
+
+-- These commands are answered, after the certificate's first line; more may follow.
+pub record AreAnsweredAt (steps : List Step) (cert out : Change) : Type 0 where
+  pub entries : List Entry
+  pub all : length entries ≡ length (table_checks steps)
+  pub more_entries : List ℕ
+  pub certificate : Appends (flat_map entry_text entries ++ more_entries) cert.old cert.new
+  pub more_answers : List ℕ
+  pub answered : Appends (answers steps entries ++ more_answers) out.old out.new
+
+-- each command after whose `)` more than 4,095 bytes of this text were taken
+abbrev pub AnswersSoonAt : List ℕ → Change → Change → Type 0
+AnswersSoonAt text cert out = (n : ℕ) → n + 4095 < length text → AreAnsweredAt (reads (take n text)).steps cert out
 
 -- the end of a text was answered
 pub record IsFinished (p : Progress) (refused : Bool) (out : Change) : Type 0 where

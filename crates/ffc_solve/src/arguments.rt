@@ -1,10 +1,10 @@
 //! The arguments of the command line.
-ghost use Rattle.std.specs.Prelude.{◌≡◌, ◌≢◌, [], codes, false, map, unwrap_or, IfOk, IfSome, IsErr, IsErrOf, OnErr};
+ghost use Rattle.std.specs.Prelude.{◌≡◌, ◌≢◌, [], codes, false, map, unwrap_or, IfOk, IsErr, IsErrOf};
 ghost use Rattle.clap.specs.Words.{app_of, first_value, found_of, kind_of, new_app, rule_of};
-ghost use Rattle.ffc_solve.specs.Arguments.{AreRefused, HasPlan, IsInRange, IsNumber, IsOutside, cert_rule, make_rule, solve_app, steps_rule, without_help};
+ghost use Rattle.ffc_solve.specs.Arguments.{AreRefused, HasPlan, cert_rule, make_rule, solve_app, steps_rule, without_help};
 
 use clap::error::ErrorKind;
-use clap::{Arg, ArgAction, ArgMatches, Command, Error};
+use clap::{Arg, ArgAction, ArgMatches, Command, Error, value_parser};
 use std::alloc::{AllocError, Global};
 use std::marker::Model;
 use thiserror::Error;
@@ -13,10 +13,10 @@ use thiserror::Error;
 const DEFAULT_STEPS: u64 = 1_000_000;
 
 /// The most units of work that may be asked for.
-const MOST_STEPS: u64 = 1_000_000_000_000;
+const MOST_STEPS: i64 = 1_000_000_000_000;
 
 /// The largest generated script.
-const MOST_MADE: u64 = 10_000;
+const MOST_MADE: i64 = 10_000;
 
 /// The name of a file. Clauses see its text.
 #[derive(Debug, Drop)]
@@ -92,6 +92,7 @@ fn steps_argument<'a>(alloc: Global) -> Arg<'a>
 {
     Arg::new(alloc, "steps")
         .long("steps")
+        .value_parser(value_parser!(u64).range(1..=MOST_STEPS))
         .action(ArgAction::Set)
 }
 
@@ -100,7 +101,10 @@ fn make_argument<'a>(alloc: Global) -> Arg<'a>
     ensures rule { rule_of result ≡ make_rule }
     ensures own { result.global ≡ false }
 {
-    Arg::new(alloc, "make").long("make").action(ArgAction::Set)
+    Arg::new(alloc, "make")
+        .long("make")
+        .value_parser(value_parser!(u64).range(1..=MOST_MADE))
+        .action(ArgAction::Set)
 }
 
 /// A command without arguments and without a help flag.
@@ -141,27 +145,6 @@ fn text_in<'a>(matches: &ArgMatches<'a>, id: &str) -> &'a str
     }
 }
 
-/// A number in its range, where one is given.
-fn number_in(matches: &ArgMatches, id: &str, most: u64) -> Result<Option<u64>, PlanStop>
-    ensures number { IfOk result (IsNumber (first_value (found_of matches.now) id.now)) }
-    ensures range { IfOk result (λ given. IfSome given (IsInRange most)) }
-    ensures usage { OnErr result (IsOutside most (first_value (found_of matches.now) id.now)) }
-{
-    let Some(text) = matches.get_str(id) else {
-        return Ok(None);
-    };
-    match text.parse::<u64>() {
-        Ok(n) => {
-            if n > 0 && n <= most {
-                Ok(Some(n))
-            } else {
-                Err(PlanStop::Usage)
-            }
-        }
-        Err(_) => Err(PlanStop::Usage),
-    }
-}
-
 impl Plan {
     /// Reads the arguments, the program's name first.
     pub fn read<'a>(alloc: Global, words: &'a [&'a str]) -> Result<Plan, PlanStop>
@@ -174,8 +157,8 @@ impl Plan {
             Ok(matches) => matches,
             Err(error) => return Err(stop_of(&error)),
         };
-        let steps = number_in(&matches, "steps", MOST_STEPS)?;
-        let make = number_in(&matches, "make", MOST_MADE)?;
+        let steps = matches.get_one::<u64>("steps");
+        let make = matches.get_one::<u64>("make");
         let name = text_in(&matches, "cert");
         Ok(Plan {
             cert_name: Name {

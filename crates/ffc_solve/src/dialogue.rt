@@ -9,7 +9,7 @@ ghost use Rattle.ffc_cert.specs.WellFormed.{FitsVersion};
 ghost use Rattle.ffc_smt.specs.Scripts.{Step};
 ghost use Rattle.ffc_elab.specs.Histories.{check_now, known_of};
 ghost use Rattle.ffc_answer.specs.Answers.{Last, answer_of, last_after, verdict};
-ghost use Rattle.ffc_script.specs.Answers.{Gives, IsAtCheck};
+ghost use Rattle.ffc_script.specs.Answers.{Gives};
 ghost use Rattle.ffc_script.specs.Progress.{Progress, known_at};
 ghost use Rattle.ffc_solve.specs.Changes.{change};
 ghost use Rattle.ffc_solve.specs.Solving.{IsRight};
@@ -123,8 +123,7 @@ fn effect_of(command: &Command) -> Effect
 impl Dialogue {
     /// The entry of the check that was read last. What isn't decided says why.
     fn entry(&self) -> Entry
-        requires check { IsAtCheck self.now.reader }
-        requires budget { IsBudget self.now.steps }
+        requires { IsBudget self.now.steps }
         ensures { IsRight self.now.steps (check_now (known_at self.now.reader)) result }
     {
         match decide(self.alloc, &self.reader.check(), self.steps) {
@@ -140,7 +139,6 @@ impl Dialogue {
         out: &mut O,
         cert: &mut C,
     ) -> Result<(), Stop>
-        requires check { IsAtCheck self.old.reader }
         requires budget { IsBudget self.old.steps }
         requires room { HasRoom self.old.tally }
         ensures ok { OnOk result ((entry : CertEntry) × IsRight self.old.steps (check_now (known_at self.old.reader))
@@ -301,8 +299,10 @@ impl Dialogue {
         match self.reader.next_command() {
             Ok(Some(command)) => self.answer(command, out, cert),
             Ok(None) => Ok(Advance::Waiting),
-            Err(ScriptStop::Fault(fault)) => Ok(Advance::Fault(fault)),
-            Err(ScriptStop::Memory) => Err(Stop::Memory),
+            Err(stop) => match stop {
+                ScriptStop::Fault(fault) => Ok(Advance::Fault(fault)),
+                ScriptStop::Memory => Err(Stop::Memory),
+            },
         }
     }
 }

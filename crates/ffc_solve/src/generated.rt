@@ -2,6 +2,7 @@
 ghost use Rattle.std.specs.Prelude.{◌≡◌, ℕ, ◌++◌, ◌<◌, ◌≤◌, string_bytes, IfOk, OnOk};
 ghost use Rattle.ffc_solve.specs.Generated.{made_text, step_text, tail_text};
 
+use ffc_lex::Text;
 use std::alloc::{AllocError, Global};
 
 /// The lines before the first step.
@@ -39,15 +40,15 @@ fn push_tail(text: &mut String, n: u64) -> Result<(), AllocError>
 }
 
 /// A script of this size: a chain of so many products, and the question whether its last value is determined.
-pub fn make_script(alloc: Global, n: u64) -> Result<String, AllocError>
+pub fn make_script(alloc: Global, n: u64) -> Result<Text, AllocError>
     requires some { 0 < n }
     requires few { n ≤ 10000 }
-    ensures { IfOk result (λ text. string_bytes text ≡ made_text n) }
+    ensures { IfOk result (λ text. text ≡ made_text n) }
 {
     let mut text = String::from_str(alloc, HEAD)?;
     for i in 0..n {
         push_step(&mut text, i + 1)?;
     }
     push_tail(&mut text, n)?;
-    Ok(text)
+    Ok(Text::from_vec(text.into_bytes()))
 }

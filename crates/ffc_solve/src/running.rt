@@ -7,7 +7,7 @@ ghost use Rattle.ffc_script.specs.Answers.{HasRun};
 ghost use Rattle.ffc_solve.specs.Changes.{change};
 ghost use Rattle.ffc_solve.specs.Solving.{EndsSoon, IsTaken};
 ghost use Rattle.ffc_solve.specs.Remembering.{IsBudget};
-ghost use Rattle.ffc_solve.specs.Underway.{HasFed, IsAnswered, IsCut, IsEnd, IsFinished, IsFirst, IsPausedAt};
+ghost use Rattle.ffc_solve.specs.Underway.{AnswersSoonAt, HasFed, IsAnswered, IsCut, IsEnd, IsFinished, IsFirst, IsPausedAt};
 ghost use Rattle.ffc_solve.specs.Underway.{IsUnfinished};
 
 use crate::dialogue::{Advance, Dialogue};
@@ -67,7 +67,7 @@ fn tell_fault<O: Sink>(alloc: Global, fault: ScriptFault, out: &mut O) -> Result
     ensures cause { IsErrOf result Stop.WriteFault → Rose (O.faults out.old) (O.faults out.new) }
     ensures only { IfErr result (λ stop. (stop ≡ Stop.WriteFault) ⊎ (stop ≡ Stop.Memory)) }
 {
-    let text = error_line(alloc, fault.line, fault.column, fault.code)?;
+    let text = error_line(alloc, fault.line, fault.column, fault.code.number())?;
     write_out(out, text.as_bytes())
 }
 
@@ -83,11 +83,13 @@ fn finish<O: Sink>(dialogue: &mut Dialogue, out: &mut O) -> Result<bool, Stop>
 {
     match dialogue.reader.finish() {
         Ok(()) => Ok(false),
-        Err(ScriptStop::Fault(fault)) => {
-            tell_fault(dialogue.alloc, fault, out)?;
-            Ok(true)
-        }
-        Err(ScriptStop::Memory) => Err(Stop::Memory),
+        Err(stop) => match stop {
+            ScriptStop::Fault(fault) => {
+                tell_fault(dialogue.alloc, fault, out)?;
+                Ok(true)
+            }
+            ScriptStop::Memory => Err(Stop::Memory),
+        },
     }
 }
 
@@ -109,7 +111,7 @@ pub fn run<S: Source, O: Sink, C: Sink>(
         × IsTaken text bytes (S.left script.new)
         × IsPausedAt dialogue.old.steps text (change C.holds cert) (change O.holds out)) }
     ensures taken { IfSome (S.left script.old) (λ bytes. (text : List ℕ) × IsTaken text bytes (S.left script.new)
-        × EndsSoon text) }
+        × EndsSoon text × AnswersSoonAt text (change C.holds cert) (change O.holds out)) }
     ensures same_name { C.name cert.new ≡ C.name cert.old }
     ensures later_out { O.faults out.old ≤ O.faults out.new }
     ensures cause_script { IsErrOf result Stop.ReadFault → Rose (S.faults script.old) (S.faults script.new) }

@@ -10,7 +10,7 @@ ghost use Rattle.ffc_solve.specs.declared.arguments.Plan.{Plan as SolvePlan};
 ghost use Rattle.ffc_solve.specs.Changes.{change};
 ghost use Rattle.ffc_solve.specs.Generated.{made_text};
 ghost use Rattle.ffc_solve.specs.Remembering.{Counts, IsBudget};
-ghost use Rattle.ffc_solve.specs.Solving.{EndsSoon, IsPaused, IsStopped, IsTaken, IsWhole};
+ghost use Rattle.ffc_solve.specs.Solving.{AnswersSoon, EndsSoon, IsPaused, IsStopped, IsTaken, IsWhole};
 ghost use Rattle.ffc_solve.specs.Status.{EndsAs, IsScript, IsUntouchedOrNamed, Leaves, code_of, status_of};
 ghost use Rattle.ffc_solve.specs.Underway.{IsFirst, is_fault};
 
@@ -98,7 +98,7 @@ fn answer_script<S: Source, O: Sink, C: NamedSink>(
         × IsTaken text bytes (S.left script.new)
         × IsPaused plan.now.steps text (change C.holds cert) (change O.holds out)) }
     ensures taken { IfSome (S.left script.old) (λ bytes. (text : List ℕ) × IsTaken text bytes (S.left script.new)
-        × EndsSoon text) }
+        × EndsSoon text × AnswersSoon text (change C.holds cert) (change O.holds out)) }
     ensures named { OnOk result (Becomes plan.now.cert_name (C.name cert.old) (C.name cert.new)) }
     ensures begun { OnErr result (IsUntouchedOrNamed plan.now.cert_name (change C.holds cert) (change O.holds out)
         (change C.name cert)) }
@@ -149,7 +149,7 @@ fn answer_generated<O: Sink, C: NamedSink>(
     ensures cause_cert { IsErrOf result Stop.CertFault → Rose (C.faults cert.old) (C.faults cert.new) }
 {
     let text = make_script(alloc, size)?;
-    let mut script = SureSource::new(text.into_bytes());
+    let mut script = SureSource::new(text.into_vec());
     let mut dialogue = first_dialogue(alloc, plan.steps)?;
     create_certificate(cert, plan.cert_name.as_str())?;
     let refused = run(&mut dialogue, &mut script, out, cert)?;
@@ -207,12 +207,12 @@ pub fn solve_main<'a, S: Source, O: Sink, C: NamedSink>(
         → (bytes : List ℕ) → IsScript (map (λ w. w.now) words.now) (S.left script.old) bytes
         → EndsAs result (reads bytes).end }
 
-    // How much of the script was taken, and what is answered where reading failed.
+    // How much of the script was taken, what of it is answered, and just what is where reading failed.
     ensures paused { result ≡ SolveStatus.ReadFault → IfSome (S.left script.old) (λ bytes. (plan : SolvePlan)
         × HasPlan (map (λ w. w.now) words.now) plan × (text : List ℕ) × IsTaken text bytes (S.left script.new)
         × IsPaused plan.steps text (change C.holds cert) (change O.holds out)) }
     ensures taken { IfSome (S.left script.old) (λ bytes. (text : List ℕ) × IsTaken text bytes (S.left script.new)
-        × EndsSoon text) }
+        × EndsSoon text × AnswersSoon text (change C.holds cert) (change O.holds out)) }
     ensures read_fault { result ≡ SolveStatus.ReadFault → Rose (S.faults script.old) (S.faults script.new) }
     ensures write_fault { result ≡ SolveStatus.WriteFault → Rose (O.faults out.old) (O.faults out.new) }
     ensures cert_fault { result ≡ SolveStatus.CertFault → Rose (C.faults cert.old) (C.faults cert.new) }

@@ -1,21 +1,20 @@
 //! A basis in levels.
 ghost use Rattle.std.specs.Prelude.{◌≡◌, ℕ, ◌<◌, [], ◌∷◌, ◌++◌, length, IfOk, IfSome, IfNone, OnOk, OnErr, IsErrOf};
 ghost use Rattle.std.specs.Prelude.{List};
-ghost use Rattle.ffc_base.specs.Metering.{total};
+ghost use Rattle.ffc_base.specs.Metering.{Metered};
 ghost use Rattle.ffc_ring.specs.Polynomial.{Terms, SamePolynomial, difference};
 ghost use Rattle.ffc_basis.specs.Completed.{IsCompletion, IsFront, IsProgress, HasTaken};
 ghost use Rattle.ffc_basis.specs.Completion.{ReducesToZero};
 ghost use Rattle.ffc_basis.specs.Lines.{polys_of, combination, AreBefore, AreLines, ArePolynomials};
 ghost use Rattle.ffc_basis.specs.Reduction.{ArePartsAtMost, IsReduced, IsStopped};
-ghost use Rattle.ffc_basis.specs.Units.{Takes, TakesReductions, IsReductionBound, IsCompletionBound};
-ghost use Rattle.ffc_basis.specs.declared.stop.BasisStop.TheVariants as stops;
+ghost use Rattle.ffc_basis.specs.Units.{TakesReductions, IsReductionBound, IsCompletionBound};
 ghost use Rattle.ffc_stack.specs.Generators.{AreGeneratorsOf};
 ghost use Rattle.ffc_stack.specs.Stacks.{stack_of, generators, levels, joined, LeadToLive, IsBegun, IsPushed};
 ghost use Rattle.ffc_stack.specs.Stacks.{IsCompletedWith, IsStoppedWith, IsStoppedAfter, GoesOn, IsPopped};
 
 use crate::generators::{generators_among, reached_from};
-use ffc_base::Meter;
-use ffc_basis::{Basis, BasisStop, Completion, Line, LineId, Progress, Reduced};
+use ffc_base::{Meter, Stop};
+use ffc_basis::{Basis, Completion, Line, LineId, Progress, Reduced};
 use ffc_field::Field;
 use ffc_mono::MonoOrder;
 use ffc_poly::Poly;
@@ -59,17 +58,16 @@ impl<F: Field, O: MonoOrder> BasisStack<F, O> {
     }
 
     /// Adds a level of generators and completes the basis. After an error the stack is as before.
-    pub fn push(&mut self, gens: &[Poly<F, O>], meter: &mut Meter) -> Result<Completion, BasisStop>
+    pub fn push(&mut self, gens: &[Poly<F, O>], meter: &mut Meter) -> Result<Completion, Stop>
         ensures pushed { OnOk result (IsPushed self.old self.new gens.now) }
         ensures added { OnOk result (IsCompletedWith F.ORDER O.cmp self.old self.new gens.now) }
         ensures level { OnOk result (levels self.new ≡ levels self.old ++ gens.now ∷ []) }
         ensures found { IfOk result (IsCompletion F.ORDER O.cmp (polys_of self.new.lines)) }
         ensures unchanged { OnErr result (self.new ≡ self.old) }
-        ensures spent { IsErrOf result stops.Spent → total meter.new ≡ meter.new.budget }
-        ensures takes { Takes meter.old meter.new }
+        ensures metered { Metered Stop.Spent result meter.old meter.new }
         ensures reductions { TakesReductions meter.old meter.new }
         ensures bound { OnOk result (IsCompletionBound F.ORDER O.cmp (polys_of self.new.lines) meter.old meter.new) }
-        ensures stopped { IsErrOf result stops.Spent → IsStoppedWith F.ORDER O.cmp self.old gens.now meter.old
+        ensures stopped { IsErrOf result Stop.Spent → IsStoppedWith F.ORDER O.cmp self.old gens.now meter.old
             meter.new }
     {
         self.begin(gens)?;
@@ -88,18 +86,17 @@ impl<F: Field, O: MonoOrder> BasisStack<F, O> {
         gens: &[Poly<F, O>],
         units: u64,
         meter: &mut Meter,
-    ) -> Result<Progress, BasisStop>
+    ) -> Result<Progress, Stop>
         ensures pushed { OnOk result (IsPushed self.old self.new gens.now) }
         ensures added { OnOk result (IsCompletedWith F.ORDER O.cmp self.old self.new gens.now) }
         ensures level { OnOk result (levels self.new ≡ levels self.old ++ gens.now ∷ []) }
         ensures found { IfOk result (IsProgress F.ORDER O.cmp (polys_of self.new.lines)) }
         ensures left { IfOk result (HasTaken meter.old meter.new units) }
         ensures unchanged { OnErr result (self.new ≡ self.old) }
-        ensures spent { IsErrOf result stops.Spent → total meter.new ≡ meter.new.budget }
-        ensures takes { Takes meter.old meter.new }
+        ensures metered { Metered Stop.Spent result meter.old meter.new }
         ensures reductions { TakesReductions meter.old meter.new }
         ensures bound { OnOk result (IsCompletionBound F.ORDER O.cmp (polys_of self.new.lines) meter.old meter.new) }
-        ensures stopped { IsErrOf result stops.Spent → IsStoppedWith F.ORDER O.cmp self.old gens.now meter.old
+        ensures stopped { IsErrOf result Stop.Spent → IsStoppedWith F.ORDER O.cmp self.old gens.now meter.old
             meter.new }
     {
         self.begin(gens)?;
@@ -113,18 +110,17 @@ impl<F: Field, O: MonoOrder> BasisStack<F, O> {
     }
 
     /// Goes on with the completion, for this many units. Lines are added to the newest level.
-    pub fn go_on(&mut self, units: u64, meter: &mut Meter) -> Result<Progress, BasisStop>
+    pub fn go_on(&mut self, units: u64, meter: &mut Meter) -> Result<Progress, Stop>
         ensures stays { OnOk result (GoesOn self.old self.new) }
         ensures added { OnOk result (IsFront F.ORDER O.cmp self.old.lines self.new.lines) }
         ensures level { OnOk result (levels self.new ≡ levels self.old) }
         ensures found { IfOk result (IsProgress F.ORDER O.cmp (polys_of self.new.lines)) }
         ensures left { IfOk result (HasTaken meter.old meter.new units) }
         ensures unchanged { OnErr result (self.new ≡ self.old) }
-        ensures spent { IsErrOf result stops.Spent → total meter.new ≡ meter.new.budget }
-        ensures takes { Takes meter.old meter.new }
+        ensures metered { Metered Stop.Spent result meter.old meter.new }
         ensures reductions { TakesReductions meter.old meter.new }
         ensures bound { OnOk result (IsCompletionBound F.ORDER O.cmp (polys_of self.new.lines) meter.old meter.new) }
-        ensures stopped { IsErrOf result stops.Spent → IsStoppedAfter F.ORDER O.cmp self.old meter.old meter.new }
+        ensures stopped { IsErrOf result Stop.Spent → IsStoppedAfter F.ORDER O.cmp self.old meter.old meter.new }
     {
         let before = self.basis.lines().len();
         match self.basis.complete_within(units, meter) {
@@ -165,11 +161,7 @@ impl<F: Field, O: MonoOrder> BasisStack<F, O> {
     }
 
     /// Reduces a polynomial by the lines, as `Basis::reduce` does.
-    pub fn reduce(
-        &mut self,
-        poly: &Poly<F, O>,
-        meter: &mut Meter,
-    ) -> Result<Reduced<F, O>, BasisStop>
+    pub fn reduce(&mut self, poly: &Poly<F, O>, meter: &mut Meter) -> Result<Reduced<F, O>, Stop>
         ensures difference { IfOk result (λ r. SamePolynomial F.ORDER r.rest
             (difference F.ORDER poly.now (combination (polys_of self.old.lines) r.parts.items))) }
         ensures lines_exist { IfOk result (λ r. AreBefore (length self.old.lines) r.parts.items) }
@@ -180,8 +172,7 @@ impl<F: Field, O: MonoOrder> BasisStack<F, O> {
         ensures reduced { IfOk result (λ r. IfNone r.over (IsReduced F.ORDER O.cmp (polys_of self.old.lines) r.rest)) }
         ensures over { IfOk result (λ r. IfSome r.over (λ t.
             IsStopped F.ORDER O.cmp (polys_of self.old.lines) r.rest r.parts.items t.0 t.1)) }
-        ensures spent { IsErrOf result stops.Spent → total meter.new ≡ meter.new.budget }
-        ensures takes { Takes meter.old meter.new }
+        ensures metered { Metered Stop.Spent result meter.old meter.new }
         ensures reductions { TakesReductions meter.old meter.new }
         ensures bound { IsReductionBound F.ORDER O.cmp (polys_of self.old.lines) poly.now meter.old meter.new }
         ensures unchanged { self.new ≡ self.old }

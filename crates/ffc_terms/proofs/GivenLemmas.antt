@@ -1,11 +1,11 @@
 -- A form that a lexer just gave is the last one.
 use Rattle.std.proofs.Common.{◌≡◌, ℕ, suc, ◌+◌, List, Option, Some, None, sym, ap, ◌∙◌, arith}
-use Rattle.ffc_lex.specs.declared.faults.LexFault.{LexFault}
+use Rattle.ffc_lex.specs.declared.faults.ScriptFault.{ScriptFault}
 use Rattle.ffc_lex.specs.declared.tokens.Token.{Token}
 use Rattle.ffc_lex.specs.Lexing.{Lexing, due_form, next_form_of}
 use Rattle.ffc_words.specs.Given.{IsGiven}
 
-due_next : (fault : Option LexFault) (text : List ℕ) (given : ℕ) (form : List Token) → Some form ≡ due_form fault text given → next_form_of text given ≡ Some form
+due_next : (fault : Option ScriptFault) (text : List ℕ) (given : ℕ) (form : List Token) → Some form ≡ due_form fault text given → next_form_of text given ≡ Some form
 due_next None text given form e = sym e
 due_next (Some f) text given form e = cc
 

@@ -15,7 +15,7 @@ use Rattle.ffc_smt.specs.Faults.{Fault, word_fault, Read, Sound, faults, faulty,
 use Rattle.ffc_smt.specs.TermReading.{is_numeral, is_named, is_word, exactly, order_read, named_sort, sort_read}
 use Rattle.ffc_words.specs.Outcomes.{outcome}
 use Rattle.ffc_words.specs.Words.{IsTreeAt, fault_of}
-use Rattle.ffc_words.specs.declared.faults.ScriptFault.{ScriptFault}
+use Rattle.ffc_lex.specs.declared.faults.ScriptFault.{ScriptFault}
 use Rattle.ffc_terms.specs.Answers.{answered}
 use Rattle.ffc_terms.specs.declared.sorts.SortStage.{SortStage}
 use Rattle.ffc_terms.specs.declared.sorts.SortStage.TheVariants as stage

@@ -12,7 +12,7 @@ use Rattle.ffc_smt.specs.Numbers.{number_of, is_order}
 use Rattle.ffc_smt.specs.Faults.{Fault, word_fault}
 use Rattle.ffc_smt.specs.TermReading.{is_numeral, is_named, is_word}
 use Rattle.ffc_words.specs.Words.{no_word, fault_of}
-use Rattle.ffc_words.specs.declared.faults.ScriptFault.{ScriptFault}
+use Rattle.ffc_lex.specs.declared.faults.ScriptFault.{ScriptFault}
 use Rattle.ffc_terms.specs.declared.sorts.SortStage.{SortStage}
 use Rattle.ffc_terms.specs.declared.sorts.SortStage.TheVariants as stage
 use Rattle.ffc_terms.specs.declared.sorts.SortStep.{SortStep}

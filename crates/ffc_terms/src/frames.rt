@@ -1,6 +1,7 @@
 //! What is around the next word of a term.
 ghost use Rattle.std.specs.Prelude.{◌≡◌, ◌∷◌, [], OnOk, OnErr, IfSome, IfNone};
 ghost use Rattle.std.specs.List.{slice_get};
+ghost use Rattle.ffc_lex.specs.Faults.{code_number};
 ghost use Rattle.ffc_words.specs.Words.{fault_of, word_at};
 ghost use Rattle.ffc_terms.specs.Places as places;
 
@@ -8,7 +9,7 @@ use crate::callees::{Callee, Parts};
 use crate::sorts::SortStage;
 use ffc_parts::Signed;
 use ffc_term::Sort;
-use ffc_words::{FormWords, ScriptFault};
+use ffc_words::{FaultCode, FormWords, ScriptFault};
 use std::alloc::{AllocError, Global};
 use std::marker::Model;
 
@@ -19,20 +20,20 @@ pub(crate) struct Place {
     pub(crate) column: u64,
 }
 
+/// The place of a word.
 pub(crate) fn place_at(words: &FormWords, at: usize) -> Place
     ensures { result ≡ places.place_of (word_at words.now at) }
 {
-    let fault = words.fault(0, at);
     Place {
-        line: fault.line,
-        column: fault.column,
+        line: words.line(at),
+        column: words.column(at),
     }
 }
 
 impl Place {
     /// A fault of this code here.
-    pub(crate) fn fault(self, code: u8) -> ScriptFault
-        ensures { fault_of result ≡ places.fault code self }
+    pub(crate) fn fault(self, code: FaultCode) -> ScriptFault
+        ensures { fault_of result ≡ places.fault (code_number code) self }
     {
         ScriptFault {
             line: self.line,

@@ -7,15 +7,14 @@ ghost use Rattle.ffc_terms.specs.Leaves as leaves;
 use crate::callees::Callee;
 use crate::codes::Op;
 use crate::environment::Names;
-use crate::fault_codes::{MODULUS, NAME, NUMBER, SHAPE};
 use crate::named_words::{is_word, name_at};
 use crate::scope::{Meaning, Symbols};
 use ffc_lex::{TokenKind, is_theory_symbol};
 use ffc_parts::{Signed, constant_of, literal_number, literal_order, operator_named, residue_of};
 use ffc_term::Sort;
-use ffc_words::{FormWords, ScriptFault};
+use ffc_words::{FaultCode, FormWords, ScriptFault};
 
-/// A term of one word: what makes it, and its sort.
+/// A term of one word: its code, and its sort.
 #[derive(Clone, Copy, PartialEq, Eq)]
 pub(crate) struct Leaf {
     pub(crate) op: Op,
@@ -35,14 +34,14 @@ fn literal(words: &FormWords, at: usize) -> Result<Leaf, ScriptFault>
     ensures { answered result ≡ leaves.literal (word_at words.now at) }
 {
     let Some(p) = literal_order(words.bytes(at)) else {
-        return Err(words.fault(MODULUS, at));
+        return Err(words.fault(FaultCode::Modulus, at));
     };
     match literal_number(words.bytes(at)) {
         Some(n) => Ok(Leaf {
             op: Op::Number(residue_of(n, p), p),
             sort: Sort::Field(p),
         }),
-        None => Err(words.fault(NUMBER, at)),
+        None => Err(words.fault(FaultCode::Number, at)),
     }
 }
 
@@ -51,7 +50,7 @@ fn global(symbols: &Symbols, words: &FormWords, at: usize, name: &[u8]) -> Resul
     ensures { answered result ≡ leaves.global symbols.now (word_at words.now at) name.now }
 {
     match symbols.terms.get(name) {
-        None => Err(words.fault(NAME, at)),
+        None => Err(words.fault(FaultCode::Name, at)),
         Some(Meaning::Constant(_, sort, node)) => Ok(Leaf {
             op: Op::Known(*node),
             sort: *sort,
@@ -60,7 +59,7 @@ fn global(symbols: &Symbols, words: &FormWords, at: usize, name: &[u8]) -> Resul
             op: Op::Known(*node),
             sort: *sort,
         }),
-        Some(Meaning::Macro(_)) => Err(words.fault(SHAPE, at)),
+        Some(Meaning::Macro(_)) => Err(words.fault(FaultCode::Shape, at)),
     }
 }
 
@@ -74,7 +73,7 @@ fn named(
     ensures { answered result ≡ leaves.named symbols.now locals.now (word_at words.now at) }
 {
     let Some(name) = name_at(words, at) else {
-        return Err(words.fault(SHAPE, at));
+        return Err(words.fault(FaultCode::Shape, at));
     };
     if name == b"true".as_slice() {
         return Ok(Leaf {
@@ -89,7 +88,7 @@ fn named(
         });
     }
     if is_theory_symbol(name) {
-        return Err(words.fault(SHAPE, at));
+        return Err(words.fault(FaultCode::Shape, at));
     }
     match locals.locate(name) {
         Some((slot, sort)) => Ok(Leaf {
@@ -127,9 +126,12 @@ fn global_head(
     ensures { answered result ≡ leaves.global_head symbols.now (word_at words.now at) name.now }
 {
     match symbols.terms.locate(name) {
-        None => Err(words.fault(NAME, at)),
+        None => Err(words.fault(FaultCode::Name, at)),
         Some((place, Meaning::Macro(_))) => Ok(Head::Callee(Callee::Macro(place))),
-        Some((_, Meaning::Constant(..) | Meaning::Defined(..))) => Err(words.fault(SHAPE, at)),
+        Some((_, Meaning::Constant(..) | Meaning::Defined(..))) => Err(words.fault(
+            FaultCode::Shape,
+            at,
+        )),
     }
 }
 
@@ -147,7 +149,7 @@ fn named_head(
         return Ok(Head::Callee(Callee::Function(op)));
     }
     if is_theory_symbol(name) || locals.find(name).is_some() {
-        return Err(words.fault(SHAPE, at));
+        return Err(words.fault(FaultCode::Shape, at));
     }
     global_head(symbols, words, at, name)
 }
@@ -169,7 +171,7 @@ pub(crate) fn head_at(
         return Ok(Head::As);
     }
     match name_at(words, at) {
-        None => Err(words.fault(SHAPE, at)),
+        None => Err(words.fault(FaultCode::Shape, at)),
         Some(name) => named_head(symbols, locals, words, at, name),
     }
 }
@@ -180,10 +182,10 @@ pub(crate) fn constant(words: &FormWords, at: usize) -> Result<Signed, ScriptFau
     ensures { answered result ≡ leaves.constant (word_at words.now at) }
 {
     let Some(name) = name_at(words, at) else {
-        return Err(words.fault(SHAPE, at));
+        return Err(words.fault(FaultCode::Shape, at));
     };
     match constant_of(name) {
         Some(n) => Ok(n),
-        None => Err(words.fault(NUMBER, at)),
+        None => Err(words.fault(FaultCode::Number, at)),
     }
 }

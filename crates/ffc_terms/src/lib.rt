@@ -4,7 +4,6 @@
 mod callees;
 mod codes;
 mod environment;
-mod fault_codes;
 mod frames;
 mod leaves;
 mod named_words;

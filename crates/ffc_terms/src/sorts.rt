@@ -8,12 +8,11 @@ ghost use Rattle.ffc_terms.specs.Answers.{answered};
 ghost use Rattle.ffc_terms.specs.SortSteps as steps;
 
 use crate::environment::Names;
-use crate::fault_codes::{MODULUS, NAME, SHAPE};
 use crate::named_words::{is_named, is_word, name_at};
 use ffc_lex::TokenKind;
 use ffc_parts::order_of;
 use ffc_term::Sort;
-use ffc_words::{FormWords, ScriptFault};
+use ffc_words::{FaultCode, FormWords, ScriptFault};
 
 /// What the next word of a sort is to be.
 #[derive(Clone, Copy, PartialEq, Eq)]
@@ -38,14 +37,14 @@ fn named_sort(sorts: &Names<Sort>, words: &FormWords, at: usize) -> Result<SortS
     ensures { answered result ≡ steps.named sorts.now (word_at words.now at) }
 {
     let Some(name) = name_at(words, at) else {
-        return Err(words.fault(SHAPE, at));
+        return Err(words.fault(FaultCode::Shape, at));
     };
     if name == b"Bool".as_slice() {
         return Ok(SortStep::Whole(Sort::Bool));
     }
     match sorts.get(name) {
         Some(sort) => Ok(SortStep::Whole(*sort)),
-        None => Err(words.fault(NAME, at)),
+        None => Err(words.fault(FaultCode::Name, at)),
     }
 }
 
@@ -54,11 +53,11 @@ fn order(words: &FormWords, at: usize) -> Result<SortStep, ScriptFault>
     ensures { answered result ≡ steps.order (word_at words.now at) }
 {
     if words.kind(at) != TokenKind::Numeral {
-        return Err(words.fault(SHAPE, at));
+        return Err(words.fault(FaultCode::Shape, at));
     }
     match order_of(words.bytes(at)) {
         Some(p) => Ok(SortStep::More(SortStage::Close(p))),
-        None => Err(words.fault(MODULUS, at)),
+        None => Err(words.fault(FaultCode::Modulus, at)),
     }
 }
 
@@ -81,18 +80,18 @@ pub(crate) fn sort_step(
         SortStage::Underscore => if is_word(words, at, b"_") {
             Ok(SortStep::More(SortStage::Family))
         } else {
-            Err(words.fault(SHAPE, at))
+            Err(words.fault(FaultCode::Shape, at))
         },
         SortStage::Family => if is_named(words, at, b"FiniteField") {
             Ok(SortStep::More(SortStage::Order))
         } else {
-            Err(words.fault(SHAPE, at))
+            Err(words.fault(FaultCode::Shape, at))
         },
         SortStage::Order => order(words, at),
         SortStage::Close(p) => if words.kind(at) == TokenKind::RightParen {
             Ok(SortStep::Whole(Sort::Field(p)))
         } else {
-            Err(words.fault(SHAPE, at))
+            Err(words.fault(FaultCode::Shape, at))
         },
     }
 }
@@ -113,7 +112,7 @@ fn sort_from(
             Err(fault) => return Err(fault),
         }
     }
-    Err(words.fault(SHAPE, words.len()))
+    Err(words.fault(FaultCode::Shape, words.len()))
 }
 
 /// The sort that begins at this place, and the place after it.

@@ -11,14 +11,13 @@ ghost use Rattle.ffc_terms.specs.Walking as walking;
 
 use crate::codes::Op;
 use crate::environment::Names;
-use crate::fault_codes::SHAPE;
 use crate::scope::Symbols;
 use crate::walk::{Reader, Walk};
 use ffc_term::Sort;
-use ffc_words::{FormWords, TakeStop};
+use ffc_words::{FaultCode, FormWords, TakeStop};
 use std::alloc::Global;
 
-/// A term that was read: what makes its node, its sort, its height, its weight up to 2^32 - 1, and the place after it.
+/// A term that was read: its code, its sort, its height, its weight up to 2^32 - 1, and the place after it.
 #[derive(Debug, Drop)]
 pub struct TermRead {
     pub code: Vec<Op>,
@@ -49,7 +48,7 @@ fn term_from(reader: &Reader, locals: Names<Sort>, at: usize) -> Result<TermRead
             Err(stop) => return Err(stop),
         }
     }
-    Err(TakeStop::Fault(reader.words.fault(SHAPE, reader.words.len())))
+    Err(TakeStop::Fault(reader.words.fault(FaultCode::Shape, reader.words.len())))
 }
 
 /// The term that begins at this place, or its first fault, where these local variables are in scope.

@@ -8,7 +8,6 @@ ghost use Rattle.ffc_terms.specs.Walking.{AreFramesBelow, IsBelow, IsStageBelow,
 use crate::callees::{Callee, Parts};
 use crate::codes::Op;
 use crate::environment::Names;
-use crate::fault_codes::{DEPTH, SHAPE, SORT, TWICE};
 use crate::frames::{Frame, Frames, Place, Stage, place_at};
 use crate::leaves::{Head, constant, head_at, leaf_at};
 use crate::named_words::name_at;
@@ -18,7 +17,7 @@ use crate::values::Value;
 use ffc_lex::{TokenKind, is_theory_symbol};
 use ffc_parts::{Signed, residue_of};
 use ffc_term::Sort;
-use ffc_words::{FormWords, TakeStop};
+use ffc_words::{FaultCode, FormWords, TakeStop};
 use std::alloc::{AllocError, Global};
 use std::marker::Model;
 
@@ -113,7 +112,7 @@ impl Walk {
             None => Ok(Some(value)),
             Some(Frame::Call(place, callee, parts)) => {
                 if !callee.wanted(reader.symbols, parts).allows(value.sort) {
-                    return Err(TakeStop::Fault(value.place.fault(SORT)));
+                    return Err(TakeStop::Fault(value.place.fault(FaultCode::Sort)));
                 }
                 let parts = parts.with(value.sort, value.height, value.weight);
                 self.frames.push(Frame::Call(place, callee, parts))?;
@@ -150,7 +149,7 @@ impl Walk {
             (walking.plus_one weight) op self.old) result self.new }
     {
         if height >= reader.limit {
-            return Err(TakeStop::Fault(place.fault(DEPTH)));
+            return Err(TakeStop::Fault(place.fault(FaultCode::Depth)));
         }
         self.code.push(op)?;
         let value = Value {
@@ -172,7 +171,7 @@ impl Walk {
         match self.frames.pop() {
             Some(Frame::Call(place, callee, parts)) => {
                 if parts.count < callee.least(reader.symbols) {
-                    return Err(TakeStop::Fault(reader.words.fault(SHAPE, at)));
+                    return Err(TakeStop::Fault(reader.words.fault(FaultCode::Shape, at)));
                 }
                 let (height, weight) = callee.body(reader.symbols);
                 let sort = callee.result_sort(reader.symbols, parts);
@@ -181,7 +180,7 @@ impl Walk {
                 self.end(reader, place, sort, parts.height, parts.weight, op)
             }
             None | Some(Frame::Value(..) | Frame::Body(..)) => {
-                Err(TakeStop::Fault(reader.words.fault(SHAPE, at)))
+                Err(TakeStop::Fault(reader.words.fault(FaultCode::Shape, at)))
             }
         }
     }
@@ -229,7 +228,7 @@ impl Walk {
             return self.close(reader, at);
         }
         if self.takes_none(reader) {
-            return Err(TakeStop::Fault(reader.words.fault(SHAPE, at)));
+            return Err(TakeStop::Fault(reader.words.fault(FaultCode::Shape, at)));
         }
         if kind == TokenKind::LeftParen {
             self.stage = Stage::Head(place_at(reader.words, at));
@@ -292,12 +291,12 @@ impl Walk {
             }
             TokenKind::RightParen => {
                 if parts.count == 0 {
-                    return Err(TakeStop::Fault(reader.words.fault(SHAPE, at)));
+                    return Err(TakeStop::Fault(reader.words.fault(FaultCode::Shape, at)));
                 }
                 self.bind(reader, place, parts)?;
                 Ok(())
             }
-            _ => Err(TakeStop::Fault(reader.words.fault(SHAPE, at))),
+            _ => Err(TakeStop::Fault(reader.words.fault(FaultCode::Shape, at))),
         }
     }
 
@@ -324,16 +323,24 @@ impl Walk {
             (word_at reader.now.words.now at) self.old) result self.new }
     {
         let Some(name) = name_at(reader.words, at) else {
-            return Err(TakeStop::Fault(reader.words.fault(SHAPE, at)));
+            return Err(TakeStop::Fault(reader.words.fault(FaultCode::Shape, at)));
         };
         if is_theory_symbol(name) || self.is_late(parts.count, name) {
-            return Err(TakeStop::Fault(reader.words.fault(TWICE, at)));
+            return Err(TakeStop::Fault(reader.words.fault(FaultCode::Twice, at)));
         }
         let name = Vec::from_slice(reader.alloc, name)?;
         self.pending.push(reader.alloc, name, Sort::Bool)?;
         self.frames.push(Frame::Value(place, parts))?;
         self.stage = Stage::Term;
         Ok(())
+    }
+
+    /// So many local variables end.
+    fn unbind(&mut self, count: usize)
+        ensures { self.new ≡ record self.old { locals = drop count self.old.locals } }
+    {
+        let len = self.locals.len();
+        self.locals.cut(len.saturating_sub(count));
     }
 
     /// The parenthesis that closes a `let`.
@@ -351,10 +358,9 @@ impl Walk {
             (word_at reader.now.words.now at) self.old) result self.new }
     {
         if reader.words.kind(at) != TokenKind::RightParen {
-            return Err(TakeStop::Fault(reader.words.fault(SHAPE, at)));
+            return Err(TakeStop::Fault(reader.words.fault(FaultCode::Shape, at)));
         }
-        let count = self.locals.len();
-        self.locals.cut(count.saturating_sub(parts.count));
+        self.unbind(parts.count);
         self.end(
             reader,
             place,
@@ -403,7 +409,7 @@ impl Walk {
                 self.stage = Stage::Close(place, n, p);
                 Ok(())
             }
-            Ok(SortStep::Whole(Sort::Bool)) => Err(TakeStop::Fault(front.fault(SORT))),
+            Ok(SortStep::Whole(Sort::Bool)) => Err(TakeStop::Fault(front.fault(FaultCode::Sort))),
             Err(fault) => Err(TakeStop::Fault(fault)),
         }
     }
@@ -423,7 +429,7 @@ impl Walk {
             (word_at reader.now.words.now at) self.old) result self.new }
     {
         if reader.words.kind(at) != TokenKind::RightParen {
-            return Err(TakeStop::Fault(reader.words.fault(SHAPE, at)));
+            return Err(TakeStop::Fault(reader.words.fault(FaultCode::Shape, at)));
         }
         self.code.push(Op::Number(residue_or(n, p), p))?;
         let value = Value {
@@ -442,7 +448,7 @@ impl Walk {
             (word_at reader.now.words.now at) self.old) result self.new }
     {
         if reader.words.kind(at) != TokenKind::LeftParen {
-            return Err(TakeStop::Fault(reader.words.fault(SHAPE, at)));
+            return Err(TakeStop::Fault(reader.words.fault(FaultCode::Shape, at)));
         }
         self.stage = Stage::Bindings(place, Parts::none());
         Ok(())
@@ -461,7 +467,7 @@ impl Walk {
             (word_at reader.now.words.now at) self.old) result self.new }
     {
         if reader.words.kind(at) != TokenKind::RightParen {
-            return Err(TakeStop::Fault(reader.words.fault(SHAPE, at)));
+            return Err(TakeStop::Fault(reader.words.fault(FaultCode::Shape, at)));
         }
         self.stage = Stage::Bindings(place, parts);
         Ok(())

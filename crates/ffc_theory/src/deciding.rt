@@ -5,7 +5,7 @@ ghost use Rattle.ffc_cert.specs.WellFormed.{IsReadable};
 ghost use Rattle.ffc_rules.specs.Causes.{is_small};
 ghost use Rattle.ffc_rules.specs.Entries.{limits, EntryOk};
 ghost use Rattle.ffc_rules.specs.Laws.{IsValid};
-ghost use Rattle.ffc_check.specs.Judged.{node_check};
+ghost use Rattle.ffc_check.specs.Judged.{judged_check};
 ghost use Rattle.ffc_trials.specs.Parts.{IsConeOf};
 ghost use Rattle.ffc_trials.specs.Stops.{IsCaused, IsGiven, IsWithinLimits, IsVerdict, MayBeDecided};
 ghost use Rattle.ffc_trials.specs.Stops.{SpendsAll};
@@ -21,18 +21,6 @@ use std::alloc::Global;
 
 /// The most assignments that are tried before the engine is asked.
 const EARLY_TRIALS: u64 = 256;
-
-/// How many units were taken.
-fn spent(meter: &Meter) -> u64
-    ensures units { result ≡ total meter.now }
-    ensures within { result ≤ meter.now.budget }
-{
-    let _budget = meter.budget();
-    meter.count(Unit::Trial)
-        + meter.count(Unit::Reduction)
-        + meter.count(Unit::Assignment)
-        + meter.count(Unit::Chain)
-}
 
 /// The stop where all units were taken, by one meter or another.
 fn spent_by(trials: &Meter, engine: &Meter, steps: u64) -> DecideStop
@@ -51,12 +39,12 @@ fn spent_by(trials: &Meter, engine: &Meter, steps: u64) -> DecideStop
 /// Decides another check, as far as the budget reaches: a few assignments are tried, then the engine is asked, and what it leaves
 /// of the budget goes to further assignments. The engine leaves at least as many as are tried in any case.
 fn decide_large(alloc: Global, check: &Check, cone: &Cone, steps: u64) -> Result<Entry, DecideStop>
-    requires valid { IsValid (node_check check.now) }
-    requires cone { IsConeOf (node_check check.now) cone.now }
-    requires large { is_small limits (node_check check.now) steps ≡ false }
-    requires within { IsWithinLimits (node_check check.now) }
-    ensures given { IfOk result (IsGiven (node_check check.now)) }
-    ensures caused { IfErr result (IsCaused steps (node_check check.now)) }
+    requires valid { IsValid (judged_check check.now) }
+    requires cone { IsConeOf (judged_check check.now) cone.now }
+    requires large { is_small limits (judged_check check.now) steps ≡ false }
+    requires within { IsWithinLimits (judged_check check.now) }
+    ensures given { IfOk result (IsGiven (judged_check check.now)) }
+    ensures caused { IfErr result (IsCaused steps (judged_check check.now)) }
 {
     let first = first_count(cone.nodes.len(), steps);
     let early = first.min(EARLY_TRIALS);
@@ -69,7 +57,7 @@ fn decide_large(alloc: Global, check: &Check, cone: &Cone, steps: u64) -> Result
     if let Some(entry) = proposed(alloc, check, &mut engine)? {
         return Ok(entry);
     }
-    let left = steps - early - spent(&engine);
+    let left = steps - early - engine.spent();
     if enumeration.go_on(check, cone, left, &mut trials) {
         return Ok(Entry::Sat(enumeration.into_values(check)));
     }
@@ -86,12 +74,12 @@ fn decide_large(alloc: Global, check: &Check, cone: &Cone, steps: u64) -> Result
 ///
 /// A stop says why there is no entry: `IsCaused` has the condition of each but `Memory`, which may come at any time.
 pub fn decide(alloc: Global, check: &Check, steps: u64) -> Result<Entry, DecideStop>
-    requires valid { IsValid (node_check check.now) }
+    requires valid { IsValid (judged_check check.now) }
     ensures readable { IfOk result (IsReadable 2) }
-    ensures right { IfOk result (EntryOk (node_check check.now)) }
+    ensures right { IfOk result (EntryOk (judged_check check.now)) }
     ensures verdict { IfOk result IsVerdict }
-    ensures decided { OnOk result (MayBeDecided steps (node_check check.now)) }
-    ensures caused { IfErr result (IsCaused steps (node_check check.now)) }
+    ensures decided { OnOk result (MayBeDecided steps (judged_check check.now)) }
+    ensures caused { IfErr result (IsCaused steps (judged_check check.now)) }
 {
     let cone = Cone::of(alloc, check)?;
     if let Some(span) = small_span(check, &cone, steps) {

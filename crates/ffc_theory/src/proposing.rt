@@ -1,30 +1,30 @@
 //! Entries that the engine proposes, tested before they are given.
 ghost use Rattle.std.specs.Prelude.{◌≡◌, IfOk, IfErr, IfSome};
 ghost use Rattle.ffc_rules.specs.Laws.{IsValid};
-ghost use Rattle.ffc_check.specs.Judged.{node_check};
+ghost use Rattle.ffc_check.specs.Judged.{judged_check};
 ghost use Rattle.ffc_trials.specs.Stops.{IsGiven};
 
-use ffc_base::Meter;
+use ffc_base::{Meter, SearchStop};
 use ffc_cert::Entry;
-use ffc_engine::{EngineStop, propose};
+use ffc_engine::propose;
 use ffc_term::Check;
 use ffc_trials::{DecideStop, tested};
 use std::alloc::Global;
 
-/// What the engine proposes, where it may be given. None also where the meter is full.
+/// What the engine proposes, where it may be given. None also where the meter is full, and where the engine gave up.
 pub fn proposed(
     alloc: Global,
     check: &Check,
     meter: &mut Meter,
 ) -> Result<Option<Entry>, DecideStop>
-    requires valid { IsValid (node_check check.now) }
-    ensures given { IfOk result (λ found. IfSome found (IsGiven (node_check check.now))) }
+    requires valid { IsValid (judged_check check.now) }
+    ensures given { IfOk result (λ found. IfSome found (IsGiven (judged_check check.now))) }
     ensures only { IfErr result (λ stop. stop ≡ DecideStop.Memory) }
     ensures same_budget { meter.new.budget ≡ meter.old.budget }
 {
     match propose(alloc, check, meter) {
         Ok(Some(entry)) => tested(alloc, check, entry),
-        Ok(None) | Err(EngineStop::Spent) => Ok(None),
-        Err(EngineStop::Memory) => Err(DecideStop::Memory),
+        Ok(None) | Err(SearchStop::Spent | SearchStop::GaveUp) => Ok(None),
+        Err(SearchStop::Memory) => Err(DecideStop::Memory),
     }
 }

@@ -3,7 +3,7 @@ ghost use Rattle.std.specs.Prelude.{◌≡◌, ◌<◌, ◌^◌, length, filter,
 ghost use Rattle.ffc_term.specs.Nodes.{is_constant, node_at};
 ghost use Rattle.ffc_term.specs.Measuring.{span_of};
 ghost use Rattle.ffc_rules.specs.Laws.{IsValid};
-ghost use Rattle.ffc_check.specs.Judged.{node_check};
+ghost use Rattle.ffc_check.specs.Judged.{judged_check};
 ghost use Rattle.ffc_trials.specs.Parts.{IsConeOf};
 
 use ffc_term::{Check, NodeId, NodeTable, distinct};
@@ -41,8 +41,8 @@ fn constants_among(
 impl Cone {
     /// The cone of a check. The table is walked once.
     pub fn of(alloc: Global, check: &Check) -> Result<Cone, AllocError>
-        requires valid { IsValid (node_check check.now) }
-        ensures { IfOk result (IsConeOf (node_check check.now)) }
+        requires valid { IsValid (judged_check check.now) }
+        ensures { IfOk result (IsConeOf (judged_check check.now)) }
     {
         let nodes = check.table.nodes_of(check.in_force)?;
         let assertions = distinct(alloc, check.in_force)?;

@@ -4,7 +4,7 @@ ghost use Rattle.ffc_base.specs.Metering.{total};
 ghost use Rattle.ffc_term.specs.declared.value.Value.TheVariants as value;
 ghost use Rattle.ffc_rules.specs.Assignments.{are_true};
 ghost use Rattle.ffc_rules.specs.Laws.{IsValid};
-ghost use Rattle.ffc_check.specs.Judged.{node_check};
+ghost use Rattle.ffc_check.specs.Judged.{judged_check};
 ghost use Rattle.ffc_trials.specs.Enumerating.{IsReached, IsModelFound, with_zeros};
 ghost use Rattle.ffc_trials.specs.Parts.{IsConeOf};
 ghost use Rattle.ffc_trials.specs.Stops.{AreModelValues};
@@ -46,9 +46,9 @@ fn with_zeros(alloc: Global, ids: &[NodeId]) -> Result<Vec<(u32, u64)>, AllocErr
 impl Enumeration {
     /// Before the first assignment.
     pub fn new(alloc: Global, check: &Check, cone: &Cone) -> Result<Enumeration, AllocError>
-        requires valid { IsValid (node_check check.now) }
-        requires cone { IsConeOf (node_check check.now) cone.now }
-        ensures { IfOk result (IsReached (node_check check.now) 0) }
+        requires valid { IsValid (judged_check check.now) }
+        requires cone { IsConeOf (judged_check check.now) cone.now }
+        ensures { IfOk result (IsReached (judged_check check.now) 0) }
     {
         let count = check.table.len() as usize;
         Ok(Enumeration {
@@ -61,8 +61,8 @@ impl Enumeration {
 
     /// Whether all assertions are true under the next assignment. The nodes are evaluated up to the first assertion that is false.
     fn is_model(&mut self, check: &Check, cone: &Cone) -> bool
-        requires valid { IsValid (node_check check.now) }
-        requires cone { IsConeOf (node_check check.now) cone.now }
+        requires valid { IsValid (judged_check check.now) }
+        requires cone { IsConeOf (judged_check check.now) cone.now }
         requires long { length self.old.out.items ≡ length check.now.table.now }
         ensures model { result ≡ are_true check.now.table.now check.now.in_force.now self.old.values.items }
         ensures values { self.new.values.items ≡ self.old.values.items }
@@ -84,12 +84,12 @@ impl Enumeration {
     /// Goes through so many more assignments, up to the first under which all assertions are true, and says whether there is one.
     /// Each is one Trial. It takes no memory.
     pub fn go_on(&mut self, check: &Check, cone: &Cone, tries: u64, meter: &mut Meter) -> bool
-        requires valid { IsValid (node_check check.now) }
-        requires cone { IsConeOf (node_check check.now) cone.now }
-        requires reached { IsReached (node_check check.now) (total meter.old) self.old }
+        requires valid { IsValid (judged_check check.now) }
+        requires cone { IsConeOf (judged_check check.now) cone.now }
+        requires reached { IsReached (judged_check check.now) (total meter.old) self.old }
         requires room { total meter.old + tries ≤ meter.old.budget }
-        ensures found { IsTrue result → IsModelFound (node_check check.now) self.new }
-        ensures none { result ≡ false → IsReached (node_check check.now) (total meter.new) self.new }
+        ensures found { IsTrue result → IsModelFound (judged_check check.now) self.new }
+        ensures none { result ≡ false → IsReached (judged_check check.now) (total meter.new) self.new }
         ensures spent { result ≡ false → total meter.new ≡ total meter.old + tries }
         ensures same_budget { meter.new.budget ≡ meter.old.budget }
     {
@@ -111,9 +111,9 @@ impl Enumeration {
 
     /// What the model that was found gives the declared constants.
     pub fn into_values(self, check: &Check) -> Sequence<(u32, u64)>
-        requires valid { IsValid (node_check check.now) }
-        requires found { IsModelFound (node_check check.now) self }
-        ensures { AreModelValues (node_check check.now) result }
+        requires valid { IsValid (judged_check check.now) }
+        requires found { IsModelFound (judged_check check.now) self }
+        ensures { AreModelValues (judged_check check.now) result }
     {
         let Enumeration {
             values,

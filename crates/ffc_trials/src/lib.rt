@@ -1,7 +1,8 @@
 //! What is decided of a check without the engine over polynomials, and the test of what that engine proposes.
 //!
-//! A check with few assignments is decided by trying all of them (`decide_small`); `small_span` says which checks are so. Of any
-//! other check some assignments are tried (`Enumeration`), and `check_limits` says whether its equalities are within the limits
+//! A `Cone` has the nodes and constants that a check rests on. A check with few assignments is decided by trying all of them
+//! (`decide_small`); `small_span` says which checks are so. Of any other check the first assignments are tried (`Enumeration`, at
+//! least `first_count` of them), and `check_limits` says whether its equalities are within the limits
 //! of polynomials. `tested` gives an entry only where it is readable and the checker accepts it. `DecideStop` says why a check is
 //! left undecided.
 #![tactic(auto)]

@@ -8,7 +8,7 @@ ghost use Rattle.ffc_rules.specs.Causes.{is_small};
 ghost use Rattle.ffc_rules.specs.Cones.{is_equality};
 ghost use Rattle.ffc_rules.specs.Entries.{limits};
 ghost use Rattle.ffc_rules.specs.Laws.{IsValid};
-ghost use Rattle.ffc_check.specs.Judged.{node_check};
+ghost use Rattle.ffc_check.specs.Judged.{judged_check};
 ghost use Rattle.ffc_trials.specs.Parts.{IsConeOf};
 ghost use Rattle.ffc_trials.specs.Stops.{IsWithinLimits, IsPassed, IsSmallSpan};
 
@@ -61,9 +61,9 @@ fn passes_length(table: &NodeTable, nodes: &[NodeId]) -> bool
 
 /// Whether the equalities of a check are within the limits of polynomials, or which limit is passed.
 pub fn check_limits(check: &Check, cone: &Cone) -> Result<(), DecideStop>
-    requires cone { IsConeOf (node_check check.now) cone.now }
-    ensures within { OnOk result (IsWithinLimits (node_check check.now)) }
-    ensures passed { IfErr result (IsPassed (node_check check.now)) }
+    requires cone { IsConeOf (judged_check check.now) cone.now }
+    ensures within { OnOk result (IsWithinLimits (judged_check check.now)) }
+    ensures passed { IfErr result (IsPassed (judged_check check.now)) }
 {
     if passes_degree(check.table, cone.nodes.as_slice()) {
         return Err(DecideStop::TooHigh);
@@ -76,10 +76,10 @@ pub fn check_limits(check: &Check, cone: &Cone) -> Result<(), DecideStop>
 
 /// How many assignments the constants of a check have, where it is small within the budget.
 pub fn small_span(check: &Check, cone: &Cone, steps: u64) -> Option<u64>
-    requires valid { IsValid (node_check check.now) }
-    requires cone { IsConeOf (node_check check.now) cone.now }
-    ensures small { IfSome result (IsSmallSpan (node_check check.now) steps) }
-    ensures large { IfNone result (is_small limits (node_check check.now) steps ≡ false) }
+    requires valid { IsValid (judged_check check.now) }
+    requires cone { IsConeOf (judged_check check.now) cone.now }
+    ensures small { IfSome result (IsSmallSpan (judged_check check.now) steps) }
+    ensures large { IfNone result (is_small limits (judged_check check.now) steps ≡ false) }
 {
     let span = span_among(check.table, cone.constants.as_slice());
     if span * cone.nodes.len() as u128 > MOST_WORK {

@@ -1,7 +1,7 @@
 //! Deciding a check that has few assignments.
 ghost use Rattle.std.specs.Prelude.{◌≡◌, IfOk, IfErr};
 ghost use Rattle.ffc_rules.specs.Laws.{IsValid};
-ghost use Rattle.ffc_check.specs.Judged.{node_check};
+ghost use Rattle.ffc_check.specs.Judged.{judged_check};
 ghost use Rattle.ffc_trials.specs.Parts.{IsConeOf};
 ghost use Rattle.ffc_trials.specs.Stops.{IsGiven, IsSmallSpan};
 
@@ -13,7 +13,7 @@ use ffc_cert::Entry;
 use ffc_term::Check;
 use std::alloc::Global;
 
-/// Decides a check that is small within the budget, by going through all its assignments, so many.
+/// Decides a check that is small within the budget of `steps` by going through all `span` assignments of its constants.
 pub fn decide_small(
     alloc: Global,
     check: &Check,
@@ -21,10 +21,10 @@ pub fn decide_small(
     span: u64,
     steps: u64,
 ) -> Result<Entry, DecideStop>
-    requires valid { IsValid (node_check check.now) }
-    requires cone { IsConeOf (node_check check.now) cone.now }
-    requires small { IsSmallSpan (node_check check.now) steps span }
-    ensures given { IfOk result (IsGiven (node_check check.now)) }
+    requires valid { IsValid (judged_check check.now) }
+    requires cone { IsConeOf (judged_check check.now) cone.now }
+    requires small { IsSmallSpan (judged_check check.now) steps span }
+    ensures given { IfOk result (IsGiven (judged_check check.now)) }
     ensures only { IfErr result (λ stop. stop ≡ DecideStop.Memory) }
 {
     let mut trials = Meter::new(steps);

@@ -3,7 +3,7 @@ ghost use Rattle.std.specs.Prelude.{◌≡◌, IsTrue, IfOk, IfErr, IfSome};
 ghost use Rattle.ffc_cert.specs.WellFormed.{IsReadable};
 ghost use Rattle.ffc_rules.specs.Entries.{EntryOk};
 ghost use Rattle.ffc_rules.specs.Laws.{IsValid};
-ghost use Rattle.ffc_check.specs.Judged.{node_check};
+ghost use Rattle.ffc_check.specs.Judged.{judged_check};
 ghost use Rattle.ffc_trials.specs.Stops.{IsGiven, IsVerdict};
 
 use crate::readable::is_readable;
@@ -28,9 +28,9 @@ fn is_verdict(entry: &Entry) -> bool
 
 /// Whether the checker accepts an entry.
 fn is_accepted(alloc: Global, check: &Check, entry: &Entry) -> Result<bool, DecideStop>
-    requires valid { IsValid (node_check check.now) }
+    requires valid { IsValid (judged_check check.now) }
     requires readable { IsReadable 2 entry.now }
-    ensures accepted { IfOk result (λ accepted. IsTrue accepted → EntryOk (node_check check.now) entry.now) }
+    ensures accepted { IfOk result (λ accepted. IsTrue accepted → EntryOk (judged_check check.now) entry.now) }
     ensures only { IfErr result (λ stop. stop ≡ DecideStop.Memory) }
 {
     match check_entry(alloc, check, entry, FIRST_LINE) {
@@ -42,8 +42,8 @@ fn is_accepted(alloc: Global, check: &Check, entry: &Entry) -> Result<bool, Deci
 
 /// The entry, where it may be given: it says whether the check has a model, is readable, and the checker accepts it.
 pub fn tested(alloc: Global, check: &Check, entry: Entry) -> Result<Option<Entry>, DecideStop>
-    requires valid { IsValid (node_check check.now) }
-    ensures given { IfOk result (λ found. IfSome found (IsGiven (node_check check.now))) }
+    requires valid { IsValid (judged_check check.now) }
+    ensures given { IfOk result (λ found. IfSome found (IsGiven (judged_check check.now))) }
     ensures only { IfErr result (λ stop. stop ≡ DecideStop.Memory) }
 {
     if !is_verdict(&entry) {

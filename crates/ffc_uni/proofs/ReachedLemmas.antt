@@ -3,7 +3,7 @@ use Rattle.std.proofs.Common.{◌≡◌, ℕ, suc, ◌+◌, ◌-◌, ◌/◌, �
 use Rattle.std.specs.Int.Count.{count_leading_zeros}
 use Rattle.std.proofs.lemmas.Nat.{leading_top}
 use Rattle.ffc_base.specs.Metering.{Spending, total}
-use Rattle.ffc_uni.specs.declared.stop.UniStop.{UniStop}
+use Rattle.ffc_base.specs.declared.stop.Stop.{Stop}
 use Rattle.ffc_uni.specs.Univariate.{Coefficients, indeterminate}
 use Rattle.ffc_uni.specs.Chains.{Pair, binary, digits_of, pairs_over, pair_count, IsChainFrom, IsChain, IsWithDigit, AreLower}
 use Rattle.ffc_uni.specs.Units.{chained, IsStopped}
@@ -70,7 +70,7 @@ reached_next p f place i steps more d old middle new reached here digit added ta
     }
 
 -- a stop at a digit is one of the whole chain
-pub reached_stop : (p : ℕ) (f : Coefficients) (place i : ℕ) (steps : List Pair) (d : Bool) (old middle new : Spending) (stop : UniStop) →
+pub reached_stop : (p : ℕ) (f : Coefficients) (place i : ℕ) (steps : List Pair) (d : Bool) (old middle new : Spending) (stop : Stop) →
     IsReached p f place steps old middle → place ≡ suc i → d ≡ (p / 2 ^ i % 2 == 1)
     → IsStopped (pairs_over (d ∷ [])) middle new stop → IsStopped (pair_count p) old new stop
 reached_stop p f place i steps d old middle new stop reached here digit stopped =

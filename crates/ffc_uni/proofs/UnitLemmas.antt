@@ -1,8 +1,8 @@
 -- Units taken one after another.
 use Rattle.std.proofs.Common.{◌≡◌, ℕ, ◌+◌, ◌≤◌, sym, ap, ◌∙◌, subst, arith, add_assoc, add-zero}
 use Rattle.ffc_base.specs.Metering.{Spending, total}
-use Rattle.ffc_uni.specs.declared.stop.UniStop.{UniStop}
-use Rattle.ffc_uni.specs.declared.stop.UniStop.TheVariants.{Spent, Memory}
+use Rattle.ffc_base.specs.declared.stop.Stop.{Stop}
+use Rattle.ffc_base.specs.declared.stop.Stop.TheVariants.{Spent, Memory}
 use Rattle.ffc_uni.specs.Units.{chained, IsStopped, IsAtMost}
 
 pub chained-chained : (s : Spending) (k n : ℕ) → chained (chained s k) n ≡ chained s (k + n)
@@ -15,7 +15,7 @@ pub chained_later : (a b c : Spending) (k n : ℕ) → b ≡ chained a k → c �
 chained_later a b c k n first second = second ∙ ap (λ s. chained s n) first ∙ chained-chained a k n
 
 -- what stops later than some units has taken these too
-pub stopped_later : (needed k m : ℕ) (a b c : Spending) (stop : UniStop) → k + m ≤ needed → b ≡ chained a k → IsStopped m b c stop → IsStopped needed a c stop
+pub stopped_later : (needed k m : ℕ) (a b c : Spending) (stop : Stop) → k + m ≤ needed → b ≡ chained a k → IsStopped m b c stop → IsStopped needed a c stop
 stopped_later needed k m a b c Spent within first later =
     (k + later.0, omega (arith, later.1), chained_later a b c k later.0 first later.2, later.3)
 stopped_later needed k m a b c Memory within first later =
@@ -29,7 +29,7 @@ at_most_later j k a b c first second =
 pub at_most_more : (j k : ℕ) (a b : Spending) → j ≤ k → IsAtMost j a b → IsAtMost k a b
 at_most_more j k a b more some = (some.0, omega (arith, some.1), some.2)
 
-pub stopped_at_most : (k : ℕ) (a b : Spending) (stop : UniStop) → IsStopped k a b stop → IsAtMost k a b
+pub stopped_at_most : (k : ℕ) (a b : Spending) (stop : Stop) → IsStopped k a b stop → IsAtMost k a b
 stopped_at_most k a b Spent stopped = (stopped.0, omega (arith, stopped.1), stopped.2)
 stopped_at_most k a b Memory stopped = (stopped.0, stopped.1, stopped.2)
 

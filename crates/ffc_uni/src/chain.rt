@@ -1,7 +1,6 @@
 //! The power of X to the field's order, modulo a polynomial.
 ghost use Rattle.std.specs.Prelude.{◌≡◌, ◌≢◌, ℕ, ◌+◌, ◌-◌, ◌<◌, ◌≤◌, [], ◌∷◌, ◌++◌, length, IfOk, OnOk, OnErr, IsErrOf};
-ghost use Rattle.ffc_base.specs.Metering.{total};
-ghost use Rattle.ffc_uni.specs.declared.stop.UniStop.TheVariants as stops;
+ghost use Rattle.ffc_base.specs.Metering.{Metered, total};
 ghost use Rattle.ffc_uni.specs.Univariate.{SameUnivariate, times};
 ghost use Rattle.ffc_uni.specs.Univariate as polynomials;
 ghost use Rattle.ffc_uni.specs.Chains.{IsDivision, IsChain, IsWithDigit, AreLower, last_remainder, pairs_over};
@@ -11,9 +10,8 @@ ghost use Rattle.ffc_uni.specs.Rows.{leading};
 ghost use Rattle.ffc_uni.specs.Units.{chained, IsCounted};
 
 use crate::row;
-use crate::stop::UniStop;
 use crate::uni::Uni;
-use ffc_base::{Meter, Unit};
+use ffc_base::{Meter, Stop, Unit};
 use ffc_field::Field;
 use std::alloc::{AllocError, Global};
 use std::marker::Model;
@@ -98,7 +96,7 @@ pub(crate) fn divided_product<F: Field>(
     inverse: F,
     buffer: &mut Vec<F>,
     meter: &mut Meter,
-) -> Result<(Uni<F>, Uni<F>), UniStop>
+) -> Result<(Uni<F>, Uni<F>), Stop>
     requires f { f.now ≢ [] }
     requires inverse { mul_mod F.ORDER (leading f.now) (F.value inverse) ≡ 1 }
     ensures division { IfOk result (λ s. IsDivision F.ORDER f.now (times a.now b.now) s) }
@@ -118,7 +116,7 @@ pub(crate) fn divided_square<F: Field>(
     inverse: F,
     buffer: &mut Vec<F>,
     meter: &mut Meter,
-) -> Result<(Uni<F>, Uni<F>), UniStop>
+) -> Result<(Uni<F>, Uni<F>), Stop>
     requires f { f.now ≢ [] }
     requires inverse { mul_mod F.ORDER (leading f.now) (F.value inverse) ≡ 1 }
     ensures division { IfOk result (λ s. IsDivision F.ORDER f.now (times a.now a.now) s) }
@@ -140,7 +138,7 @@ fn append_digit<F: Field>(
     one: bool,
     buffer: &mut Vec<F>,
     meter: &mut Meter,
-) -> Result<(), UniStop>
+) -> Result<(), Stop>
     requires x { SameUnivariate F.ORDER x.now polynomials.indeterminate }
     requires short { length x.now ≤ 2 }
     requires f { 2 ≤ length f.now }
@@ -159,7 +157,7 @@ fn append_digit<F: Field>(
 }
 
 /// The steps of the order's binary digits after the first, from the highest.
-fn digit_steps<F: Field>(alloc: Global, f: &Uni<F>, meter: &mut Meter) -> Result<Steps<F>, UniStop>
+fn digit_steps<F: Field>(alloc: Global, f: &Uni<F>, meter: &mut Meter) -> Result<Steps<F>, Stop>
     requires { 2 ≤ length f.now }
     ensures chain { IfOk result (λ steps. IsChain F.ORDER f.now steps) }
     ensures lower { IfOk result (λ steps. AreLower f.now steps) }
@@ -188,14 +186,14 @@ pub fn pow_mod_chain<F: Field>(
     alloc: Global,
     f: &Uni<F>,
     meter: &mut Meter,
-) -> Result<Chain<F>, UniStop>
+) -> Result<Chain<F>, Stop>
     requires { 2 ≤ length f.now }
     ensures chain { IfOk result (λ c. IsChain F.ORDER f.now c.steps) }
     ensures lower { IfOk result (λ c. AreLower f.now c.steps) }
     ensures units { OnOk result (meter.new ≡ chained meter.old (pair_count F.ORDER)) }
     ensures enough { OnOk result (total meter.old + pair_count F.ORDER ≤ meter.old.budget) }
-    ensures spent { IsErrOf result stops.Spent → meter.old.budget < total meter.old + pair_count F.ORDER }
-    ensures full { IsErrOf result stops.Spent → total meter.new ≡ meter.new.budget }
+    ensures spent { IsErrOf result Stop.Spent → meter.old.budget < total meter.old + pair_count F.ORDER }
+    ensures metered { Metered Stop.Spent result meter.old meter.new }
     ensures only_chains { (n : ℕ) × (n ≤ pair_count F.ORDER) × (meter.new ≡ chained meter.old n) }
 {
     let steps = digit_steps(alloc, f, meter)?;

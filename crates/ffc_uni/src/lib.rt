@@ -6,10 +6,8 @@ mod coefficient;
 pub mod laws;
 mod power;
 mod row;
-mod stop;
 mod uni;
 
 pub use chain::{Chain, Steps, pow_mod_chain};
 pub use power::pow_mod;
-pub use stop::UniStop;
 pub use uni::Uni;

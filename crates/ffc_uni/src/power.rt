@@ -1,16 +1,14 @@
 //! Powers of polynomials modulo a polynomial.
-ghost use Rattle.std.specs.Prelude.{◌≡◌, ◌≢◌, ◌<◌, ◌≤◌, [], ◌∷◌, length, IfOk, OnOk, IsErrOf};
-ghost use Rattle.ffc_base.specs.Metering.{total};
+ghost use Rattle.std.specs.Prelude.{◌≡◌, ◌≢◌, ◌<◌, ◌≤◌, [], ◌∷◌, length, IfOk, OnOk};
+ghost use Rattle.ffc_base.specs.Metering.{Metered, total};
 ghost use Rattle.ffc_field.specs.Modular.{mul_mod};
-ghost use Rattle.ffc_uni.specs.declared.stop.UniStop.TheVariants as stops;
 ghost use Rattle.ffc_uni.specs.Rows.{leading};
 ghost use Rattle.ffc_uni.specs.Univariate.{Coefficients, SameUnivariate, IsRemainder, raised, with_factor};
 ghost use Rattle.ffc_uni.specs.Units.{chained, IsAtMost};
 
 use crate::chain::{divided_product, divided_square};
-use crate::stop::UniStop;
 use crate::uni::Uni;
-use ffc_base::Meter;
+use ffc_base::{Meter, Stop};
 use ffc_field::Field;
 use std::alloc::{AllocError, Global};
 
@@ -34,7 +32,7 @@ fn next_power<F: Field>(
     inverse: F,
     buffer: &mut Vec<F>,
     meter: &mut Meter,
-) -> Result<Uni<F>, UniStop>
+) -> Result<Uni<F>, Stop>
     requires f { f.now ≢ [] }
     requires inverse { mul_mod F.ORDER (leading f.now) (F.value inverse) ≡ 1 }
     ensures power { IfOk result (λ r. (a : Coefficients) → IsRemainder F.ORDER f.now a power.now
@@ -43,7 +41,7 @@ fn next_power<F: Field>(
     ensures units { IsAtMost 2 meter.old meter.new }
     ensures taken { OnOk result (total meter.old < total meter.new) }
     ensures within { OnOk result (total meter.new ≤ meter.new.budget) }
-    ensures full { IsErrOf result stops.Spent → total meter.new ≡ meter.new.budget }
+    ensures metered { Metered Stop.Spent result meter.old meter.new }
 {
     let (_, square) = divided_square(power, f, inverse, buffer, meter)?;
     if !one_more {
@@ -65,14 +63,14 @@ pub fn pow_mod<F: Field>(
     exponent: u64,
     f: &Uni<F>,
     meter: &mut Meter,
-) -> Result<Uni<F>, UniStop>
+) -> Result<Uni<F>, Stop>
     requires { 2 ≤ length f.now }
     ensures power { IfOk result (λ r. IsRemainder F.ORDER f.now (raised base.now exponent) r) }
     ensures lower { IfOk result (λ r. length r < length f.now) }
     ensures units { IsAtMost 128 meter.old meter.new }
     ensures taken { OnOk result (0 < exponent → total meter.old < total meter.new) }
     ensures within { OnOk result (0 < exponent → total meter.new ≤ meter.new.budget) }
-    ensures full { IsErrOf result stops.Spent → total meter.new ≡ meter.new.budget }
+    ensures metered { Metered Stop.Spent result meter.old meter.new }
 {
     let inverse = f.leading_inverse();
     let mut power = one(alloc)?;

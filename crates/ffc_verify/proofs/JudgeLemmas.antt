@@ -17,7 +17,7 @@ use Rattle.ffc_verify.specs.declared.judge.Beside.{Beside}
 use Rattle.ffc_verify.specs.declared.verdicts.Tally.{Tally}
 use Rattle.ffc_verify.specs.Due.{cores_text}
 use Rattle.ffc_verify.specs.Reading.{MovesOn, IsOpen, Grows}
-use Rattle.ffc_verify.specs.Judged.{counts_in, entries_given, AreJudged, cores_after, TakesUp, IsTaken}
+use Rattle.ffc_verify.specs.Judged.{counts_in, entries_given, AreJudged, cores_after, TakesUp, IsTakenUp}
 use Rattle.ffc_verify.specs.Walking.{GivesCheck}
 use Rattle.ffc_verify.proofs.CertLemmas.{reading_front}
 use Rattle.ffc_verify.proofs.BrokenLemmas.{broken_none, broken_more, broken_there, counts_more, cores_more}
@@ -104,7 +104,7 @@ module _ (w : ℕ) (cs : List NodeCheck) (old new more : List ℕ) (grows : new 
       all_here : E w new ≡ take n (E w old)
       all_here = sym (take_all n (E w new) (no_entry (E w new) n none)) ∙ first_stay
 
-      none_broken : (ds : List NodeCheck) → first_broken limits (cs ++ ds) (E w new) ≡ None
+      pub none_broken : (ds : List NodeCheck) → first_broken limits (cs ++ ds) (E w new) ≡ None
       none_broken ds = ap (first_broken limits (cs ++ ds)) all_here ∙ broken_none limits cs ds (take n (E w old)) as_long kept
 
       pub form_refused : (W : List ℕ) (ds : List NodeCheck) (f : CertFault) → reading_of w W ≡ reading_of w new → ((reading_of w new).end ≡ Stopped f) ⊎ ((reading_of w new).end ≡ Open f)
@@ -157,7 +157,7 @@ cores_then true cs c es e long = cores_more cs c es e long
 
 -- the check of a reader, as its entry is judged by it
 pub record IsShown (b : Beside) (cores : Bool) (c : TableCheck) : Type 0 where
-  pub nodes : shown.node_check b.check ≡ node_check c
+  pub nodes : shown.judged_check b.check ≡ node_check c
   pub names : b.names.now ≡ names_in_force c
   pub cores_is : b.cores ≡ cores
 
@@ -196,7 +196,7 @@ module _ (cores : Bool) (P : List TableCheck) (here : TableCheck) (es : List Num
 
 module _ (script : List ℕ) (checks : ℕ) (cores : Bool) (left : Option (List ℕ)) (p : Progress) (c : Certificate) (now : Option (List ℕ)) (t : Tally) (h : IsUnderway script checks cores left p c now t)
     (q : Progress) (g : GivesCheck p q) (d : Certificate) (grows : Grows c d) (later : Option (List ℕ)) (moves : MovesOn c.text now d.text later)
-    (b : Beside) (s : IsShown b cores (check_now (known_at q))) (u : Tally) (k : IsTaken b c d t u) where
+    (b : Beside) (s : IsShown b cores (check_now (known_at q))) (u : Tally) (k : IsTakenUp b c d t u) where
   abbrev P : List TableCheck
   P = table_checks (steps_of p)
 

@@ -1,11 +1,14 @@
 pub mod CertLemmas
 pub mod FewLemmas
 pub mod PieceLemmas
+pub mod TakenLemmas
 pub mod WalkLemmas
 pub mod BrokenLemmas
 pub mod JudgeLemmas
 pub mod VerdictLemmas
 pub mod DueLemmas
+pub mod EnoughLemmas
+pub mod CodeLemmas
 pub mod LineLemmas
 pub mod StopLemmas
 pub mod ArgumentLemmas

@@ -13,7 +13,7 @@ use Rattle.ffc_check.specs.Judged.{IsReadableEntry}
 use Rattle.ffc_verify.specs.declared.entries.NextEntry.{NextEntry}
 use Rattle.ffc_verify.specs.declared.entries.NextEntry.TheVariants as next
 use Rattle.ffc_verify.specs.Status.{TakesFront}
-use Rattle.ffc_verify.specs.Reading.{MovesOn, IsAtEnd, IsWhole, IsOpen, Grows, IsNext, EndsAs}
+use Rattle.ffc_verify.specs.Reading.{MovesOn, IsAtEnd, IsReadWhole, IsOpen, Grows, IsNext, EndsAs}
 
 -- the text is what was read of the bytes that were left first, and the others are left now
 abbrev pub HasRead : Option (List ℕ) → Option (List ℕ) → List ℕ → Type 0
@@ -105,7 +105,7 @@ pub grows_further : (a b c : Certificate) → Grows a b → Grows b c → Grows 
 grows_further a b c one two = (one.0 ++ two.0, two.1 ∙ ap (λ t. t ++ two.0) one.1 ∙ append_assoc a.text one.0 two.0)
 
 -- at the end of what is left the text is whole
-pub whole_at_end : (text later : List ℕ) (left now : Option (List ℕ)) → MovesOn text left later now → IsAtEnd now → IsWhole text left later
+pub whole_at_end : (text later : List ℕ) (left now : Option (List ℕ)) → MovesOn text left later now → IsAtEnd now → IsReadWhole text left later
 whole_at_end text later left now moves end = λ rest e.
     let m = moves rest e in
     sym (m.2 ∙ ap (λ more. later ++ more) (end m.0 m.1) ∙ append-nil later)
@@ -162,7 +162,7 @@ module _ (old : Certificate) (left : Option (List ℕ)) (ready : IsOpen old) (no
       let entry : next_entry_of now.wanted now.text now.given ≡ None = ap (λ o. due_entry o now.wanted now.text now.given) (sym no_fault) ∙ sym none in (
         ap (λ t. next_entry_of old.wanted t old.given) text ∙ ap (λ w. next_entry_of w now.text old.given) (sym wanted) ∙ ap (λ n. next_entry_of now.wanted now.text n) (sym given) ∙ entry,
         ap (λ t. (reading_of old.wanted t).end) text ∙ ap (λ w. (reading_of w now.text).end) (sym wanted) ∙ ends,
-        subst (IsWhole old.text left) (sym text) (whole_at_end old.text now.text left left_now on.moves end),
+        subst (IsReadWhole old.text left) (sym text) (whole_at_end old.text now.text left left_now on.moves end),
       )
   end_next new (next.Fault f) none ends text end =
       let wanted : now.wanted ≡ old.wanted = ap (λ c. c.wanted) on.same in
@@ -171,7 +171,7 @@ module _ (old : Certificate) (left : Option (List ℕ)) (ready : IsOpen old) (no
         ap (λ t. next_entry_of old.wanted t old.given) text ∙ ap (λ w. next_entry_of w now.text old.given) (sym wanted) ∙ ap (λ n. next_entry_of now.wanted now.text n) (sym given) ∙ entry,
         inr (
           ap (λ t. (reading_of old.wanted t).end) text ∙ ap (λ w. (reading_of w now.text).end) (sym wanted) ∙ ends,
-          subst (IsWhole old.text left) (sym text) (whole_at_end old.text now.text left left_now on.moves end),
+          subst (IsReadWhole old.text left) (sym text) (whole_at_end old.text now.text left left_now on.moves end),
         ),
       )
 

@@ -1,7 +1,6 @@
 -- The verdict on a certificate, from what is known between two checks.
-use Rattle.std.proofs.Common.{◌≡◌, ◌⊎◌, inl, inr, ℕ, suc, ◌+◌, ◌-◌, ◌<◌, ◌≤◌, ◌^◌, Bool, List, [], ◌∷◌, ◌++◌, length, take, map, Some, None, Option, Result, Ok, Err, IfSome, IfOk, OnOk, Contains, refl, sym, ap, ◌∙◌, subst, arith, append-nil, append_assoc}
+use Rattle.std.proofs.Common.{◌≡◌, ◌⊎◌, inl, inr, ℕ, suc, ◌+◌, ◌-◌, ◌<◌, ◌≤◌, ◌^◌, Bool, List, [], ◌∷◌, ◌++◌, length, take, map, Some, None, Option, Result, Ok, Err, IfSome, IfOk, OnOk, refl, sym, ap, ◌∙◌, subst, arith, append-nil, append_assoc}
 use Rattle.std.proofs.lemmas.List.{length-append, length-map, map-append, length_push}
-use Rattle.std.proofs.lemmas.List.Elements.{Contains-push}
 use Rattle.ffc_cert.specs.Certificate.{Certificate}
 use Rattle.ffc_cert.specs.Reading.{Open, Stopped, reading_of}
 use Rattle.ffc_check.specs.Judged as shown
@@ -9,7 +8,6 @@ use Rattle.ffc_smt.specs.Scripts.{reads}
 use Rattle.ffc_smt.specs.TableChecks.{TableCheck, table_checks}
 use Rattle.ffc_elab.specs.Histories.{check_now}
 use Rattle.ffc_script.specs.Progress.{Progress, steps_of, known_at}
-use Rattle.ffc_script.specs.Answers.{IsAtCheck}
 use Rattle.ffc_script.specs.Kept.{AreFirst}
 use Rattle.ffc_script.proofs.StepLemmas.{checks_append}
 use Rattle.ffc_rules.specs.Entries.{NodeCheck, limits, entry_fault_within}
@@ -26,7 +24,7 @@ use Rattle.ffc_verify.specs.declared.verdicts.Verdict.{Verdict}
 use Rattle.ffc_verify.specs.declared.verdicts.Verdict.TheVariants as verdict
 use Rattle.ffc_verify.specs.declared.entries.NextEntry.TheVariants as next
 use Rattle.ffc_verify.specs.Due.{cores_text}
-use Rattle.ffc_verify.specs.Reading.{MovesOn, IsWhole, Grows, IsNext}
+use Rattle.ffc_verify.specs.Reading.{MovesOn, IsReadWhole, Grows, IsNext}
 use Rattle.ffc_verify.specs.Judged.{cause_of, IsVerdict, IsFormRefused, IsRefusedFor, EndsAsVerdict}
 use Rattle.ffc_verify.specs.Walking.{GivesCheck, IsThrough, IsCounted}
 use Rattle.ffc_verify.proofs.CertLemmas.{reading_front}
@@ -82,11 +80,11 @@ module _ (script : List ℕ) (checks : ℕ) (cores : Bool) (left : Option (List 
         ∙ form_refused c.wanted cs c.text d.text grows.0 grows.1 c.given h.judged.within long h.judged.kept ends.0 W (map node_check ds) f (same whole ends.1) (either ends.1)
         ∙ ap (λ (r : Refusal). Refused r.entry r.line (cause_of r.cause)) (sym is)
       where
-        same : W ≡ d.text ++ (moves (h.moves W stated).0 (h.moves W stated).1).0 → ((reading_of c.wanted d.text).end ≡ Stopped f) ⊎ (((reading_of c.wanted d.text).end ≡ Open f) × IsWhole c.text now d.text) → reading_of c.wanted W ≡ reading_of c.wanted d.text
+        same : W ≡ d.text ++ (moves (h.moves W stated).0 (h.moves W stated).1).0 → ((reading_of c.wanted d.text).end ≡ Stopped f) ⊎ (((reading_of c.wanted d.text).end ≡ Open f) × IsReadWhole c.text now d.text) → reading_of c.wanted W ≡ reading_of c.wanted d.text
         same whole (inl s) = let front = reading_front c.wanted d.text (moves (h.moves W stated).0 (h.moves W stated).1).0 in ap (reading_of c.wanted) whole ∙ front.stopped f s
         same whole (inr o) = ap (reading_of c.wanted) ((h.moves W stated).2 ∙ sym (o.1 (h.moves W stated).0 (h.moves W stated).1))
 
-        either : ((reading_of c.wanted d.text).end ≡ Stopped f) ⊎ (((reading_of c.wanted d.text).end ≡ Open f) × IsWhole c.text now d.text) → ((reading_of c.wanted d.text).end ≡ Stopped f) ⊎ ((reading_of c.wanted d.text).end ≡ Open f)
+        either : ((reading_of c.wanted d.text).end ≡ Stopped f) ⊎ (((reading_of c.wanted d.text).end ≡ Open f) × IsReadWhole c.text now d.text) → ((reading_of c.wanted d.text).end ≡ Stopped f) ⊎ ((reading_of c.wanted d.text).end ≡ Open f)
         either (inl s) = inl s
         either (inr o) = inr o.0
 
@@ -125,10 +123,7 @@ module _ (script : List ℕ) (checks : ℕ) (cores : Bool) (left : Option (List 
     abbrev here : TableCheck
     here = check_now (known_at q)
 
-    pub at_check : IsAtCheck q
-    at_check = subst (λ xs. Contains xs here) (sym g.checks) (Contains-push P here)
-
-    later_checks : (ds : List TableCheck) × (table_checks (reads script).steps ≡ P ++ here ∷ ds)
+    pub later_checks : (ds : List TableCheck) × (table_checks (reads script).steps ≡ P ++ here ∷ ds)
     later_checks =
         let rest = first [] in
         let steps : (reads script).steps ≡ steps_of q ++ rest.0 = ap (λ b. (reads b).steps) (sym (append-nil q.text ∙ g.text ∙ h.text)) ∙ rest.1 in
@@ -149,7 +144,7 @@ module _ (script : List ℕ) (checks : ℕ) (cores : Bool) (left : Option (List 
         smaller_by (length (table_checks (steps_of q))) (length P) (length (steps_of q)) (length q.text) (length script) (ap length g.checks ∙ length_push P here) (checks_few (steps_of q)) few s short
 
     module _ (b : Beside) (s : IsShown b cores here) (d : Certificate) (grows : Grows c d) (W : List ℕ) (stated : left ≡ Some W) (later : Option (List ℕ)) (moves : MovesOn c.text now d.text later) where
-      pub check_refused : (r : Refusal) → IsRefusedFor (shown.node_check b.check) c d now r → IsVerdict cores script W (verdict.Refused r)
+      pub check_refused : (r : Refusal) → IsRefusedFor (shown.judged_check b.check) c d now r → IsVerdict cores script W (verdict.Refused r)
       check_refused r (inr form) = let l = later_checks in form_is d grows W stated (here ∷ l.0) l.1 later moves r form
       check_refused r (inl rule) =
           let l = later_checks in

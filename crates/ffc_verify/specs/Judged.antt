@@ -4,7 +4,7 @@ use Rattle.ffc_cert.specs.declared.entries.Numbered.{Numbered}
 use Rattle.ffc_cert.specs.declared.entries.CertFault.{CertFault}
 use Rattle.ffc_cert.specs.Certificate.{Certificate, next_entry_of}
 use Rattle.ffc_cert.specs.Reading.{reading_of}
-use Rattle.ffc_check.specs.Judged.{node_check}
+use Rattle.ffc_check.specs.Judged.{judged_check}
 use Rattle.ffc_smt.specs.Terms.{Name}
 use Rattle.ffc_smt.specs.Scripts.{reads}
 use Rattle.ffc_smt.specs.TableChecks.{TableCheck, table_checks}
@@ -65,13 +65,13 @@ refusal_for f = record { entry = f.entry; line = f.line; cause = cause.Format f.
 
 -- The entry breaks no rule, and the tally is with it.
 pub record TakesUp (b : Beside) (entry : Numbered) (before after : Tally) : Type 0 where
-  pub kept : entry_fault (node_check b.check) entry.entry entry.first_line ≡ None
+  pub kept : entry_fault (judged_check b.check) entry.entry entry.first_line ≡ None
   pub counts : counts_in after ≡ judging.counted entry.entry (counts_in before)
   pub all : after.sat + after.unsat + after.unknown ≡ before.sat + before.unsat + before.unknown + 1
   pub lines : after.cores.items ≡ before.cores.items ++ cores_after b.cores b.names.now (length b.check.in_force.now) entry
 
 -- The next entry was read, breaks no rule, and was taken up.
-pub record IsTaken (b : Beside) (old new : Certificate) (before after : Tally) : Type 0 where
+pub record IsTakenUp (b : Beside) (old new : Certificate) (before after : Tally) : Type 0 where
   pub entry : Numbered
   pub due : next_entry_of old.wanted new.text old.given ≡ Some entry
   pub given : new ≡ record old { text = new.text; given = old.given + 1 }

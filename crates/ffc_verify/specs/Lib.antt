@@ -6,3 +6,4 @@ pub mod Reading
 pub mod Judged
 pub mod Walking
 pub mod Ending
+pub mod Laws

@@ -1,9 +1,12 @@
 -- How a run of the checker ends: its statuses, and what each of them leaves.
-use Rattle.std.specs.Prelude.{◌≡◌, ℕ, ◌≤◌, List, ◌++◌, length, Option}
+use Rattle.std.specs.Prelude.{◌≡◌, ◌⊎◌, ℕ, ◌<◌, ◌≤◌, List, [], ◌++◌, length, Option, None}
 use Rattle.ffc_base.specs.Outside.{Appends, AppendsPrefix}
 use Rattle.ffc_smt.specs.Scripts.{Done, AtFault, reads}
 use Rattle.ffc_smt.specs.TableChecks.{TableCheck, table_checks}
 use Rattle.std.specs.Prelude.{Some, slice_get}
+use Rattle.ffc_cert.specs.Reading.{reading_of, stop_fault}
+use Rattle.ffc_rules.specs.Entries.{limits}
+use Rattle.ffc_rules.specs.Judging.{checks_in, first_broken}
 use Rattle.ffc_rules.specs.Laws.{HasEntry}
 use Rattle.ffc_verify.specs.declared.verify.CheckStatus.{CheckStatus}
 use Rattle.ffc_verify.specs.declared.verify.CheckStatus.TheVariants.{Accepted, Refused, Usage, ScriptRefused, ReadFault, CertFault, WriteFault, Memory}
@@ -59,6 +62,43 @@ pub record TakesFront (script : List ℕ) (new : Option (List ℕ)) : Type 0 whe
   pub split : script ≡ text ++ rest
   pub left : new ≡ Some rest
   pub few : length text ≤ 67108865
+
+-- A front of a certificate is not enough for the judgement. A line is judged once it is whole or has too many bytes, and a byte
+-- after the entries of all checks at once: none in the front is at fault. And no entry that is whole in it breaks a rule of its
+-- check. So an entry is not whole yet, or all are, and it is not known yet whether the text ends here.
+pub record IsNotEnough (script front : List ℕ) : Type 0 where
+  pub form : stop_fault (reading_of (length (checks_in script)) front).end ≡ None
+  pub rules : first_broken limits (checks_in script) (reading_of (length (checks_in script)) front).entries ≡ None
+
+-- without its last 4,096 bytes, or fewer, what was read is not enough
+pub record IsLastRead (script text : List ℕ) : Type 0 where
+  pub front : List ℕ
+  pub piece : List ℕ
+  pub split : text ≡ front ++ piece
+  pub some : 0 < length piece
+  pub few : length piece ≤ 4096
+  pub more : IsNotEnough script front
+
+-- No more of a certificate was read than was needed: a front of it, which is empty, or was not enough without its last read. The
+-- rest is left.
+pub record ReadsAsNeeded (script certificate : List ℕ) (new : Option (List ℕ)) : Type 0 where
+  pub text : List ℕ
+  pub rest : List ℕ
+  pub split : certificate ≡ text ++ rest
+  pub left : new ≡ Some rest
+  pub last : (text ≡ []) ⊎ IsLastRead script text
+
+-- What a status says of what is left of the certificate, before and after the run: where it was opened, no more of it was
+-- read than was needed.
+abbrev pub IsReadAt : CheckStatus → List ℕ → List ℕ → Option (List ℕ) → Option (List ℕ) → Type 0
+IsReadAt Accepted script certificate old new = ReadsAsNeeded script certificate new
+IsReadAt Refused script certificate old new = ReadsAsNeeded script certificate new
+IsReadAt CertFault script certificate old new = (new ≡ old) ⊎ ReadsAsNeeded script certificate new
+IsReadAt WriteFault script certificate old new = (new ≡ old) ⊎ ReadsAsNeeded script certificate new
+IsReadAt Memory script certificate old new = (new ≡ old) ⊎ ReadsAsNeeded script certificate new
+IsReadAt Usage script certificate old new = new ≡ old
+IsReadAt ScriptRefused script certificate old new = new ≡ old
+IsReadAt ReadFault script certificate old new = new ≡ old
 
 -- each check of the script has an entry in the certificate, and the entry is true of it
 abbrev pub AllHaveEntries : List ℕ → List ℕ → Type 0

@@ -1,8 +1,8 @@
 //! The entries of a certificate, read from a source.
-ghost use Rattle.std.specs.Prelude.{◌≡◌, ◌≤◌, false, IfOk, IfErr, OnOk, IsErrOf};
+ghost use Rattle.std.specs.Prelude.{◌≡◌, ◌≤◌, false, IfOk, IfErr, IfSome, OnOk, IsErrOf};
 ghost use Rattle.ffc_base.specs.Outside.{Rose};
 ghost use Rattle.ffc_cert.specs.Certificate.{IsRead};
-ghost use Rattle.ffc_verify.specs.Reading.{EndsAs, Grows, HasLine, IsAtEnd, IsNext, IsOpen, MovesOn};
+ghost use Rattle.ffc_verify.specs.Reading.{EndsAs, Grows, HasLine, IsAtEnd, IsNext, IsOpen, MovesOn, TakesPiece, TakesPieces};
 
 use crate::stop::{PIECE, Stop};
 use ffc_base::Source;
@@ -21,6 +21,7 @@ pub(crate) enum NextEntry {
 fn read_piece<C: Source>(entries: &mut CertReader, cert: &mut C) -> Result<bool, Stop>
     requires { IsOpen entries.old }
     ensures moves { OnOk result (MovesOn entries.old.text (C.left cert.old) entries.new.text (C.left cert.new)) }
+    ensures taken { IfSome (C.left cert.old) (λ bytes. TakesPiece bytes (C.left cert.new)) }
     ensures grows { Grows entries.old entries.new }
     ensures only { entries.new ≡ record entries.old { text = entries.new.text } }
     ensures end { IfOk result (λ got. got ≡ false → (entries.new ≡ entries.old) × IsAtEnd (C.left cert.old)) }
@@ -66,6 +67,7 @@ pub(crate) fn next_entry<C: Source>(
     ensures next { IfOk result (IsNext entries.old entries.new (C.left cert.old)) }
     ensures line { IfOk result HasLine }
     ensures moves { OnOk result (MovesOn entries.old.text (C.left cert.old) entries.new.text (C.left cert.new)) }
+    ensures taken { IfSome (C.left cert.old) (λ bytes. TakesPieces entries.old bytes (C.left cert.new)) }
     ensures grows { Grows entries.old entries.new }
     ensures later { C.faults cert.old ≤ C.faults cert.new }
     ensures cause { IsErrOf result Stop.Failed → Rose (C.faults cert.old) (C.faults cert.new) }

@@ -2,14 +2,15 @@
 ghost use Rattle.std.specs.Prelude.{◌≡◌, ◌+◌, ◌<◌, ◌≤◌, ◌^◌, ◌++◌, length, true, false, None, IfOk, IfErr, OnOk};
 ghost use Rattle.std.specs.Prelude.{IfSome, IfNone, IsErrOf};
 ghost use Rattle.ffc_base.specs.Outside.{Rose};
-ghost use Rattle.ffc_check.specs.Judged.{IsReadableEntry, node_check};
+ghost use Rattle.ffc_check.specs.Judged.{IsReadableEntry, judged_check};
 ghost use Rattle.ffc_rules.specs.Judging as judging;
 ghost use Rattle.ffc_rules.specs.Entries.{entry_fault};
 ghost use Rattle.ffc_rules.specs.Laws.{IsValid};
 ghost use Rattle.ffc_smt.specs.Scripts.{reads, Done};
-ghost use Rattle.ffc_verify.specs.Judged.{EndsAsVerdict, IsBrokenBy, IsRefusedFor, IsTaken, IsVerdict, TakesUp};
+ghost use Rattle.ffc_verify.specs.Judged.{EndsAsVerdict, IsBrokenBy, IsRefusedFor, IsTakenUp, IsVerdict, TakesUp};
 ghost use Rattle.ffc_verify.specs.Judged.{cores_after, counts_in, refusal_for};
-ghost use Rattle.ffc_verify.specs.Reading.{Grows, IsOpen, MovesOn};
+ghost use Rattle.ffc_verify.specs.Reading.{Grows, IsOpen, MovesOn, TakesPieces};
+ghost use Rattle.ffc_verify.specs.Status.{ReadsAsNeeded};
 ghost use Rattle.ffc_verify.specs.Walking.{GivesCheck, IsCounted, IsThrough};
 
 use crate::entries::{NextEntry, next_entry};
@@ -71,13 +72,13 @@ impl Tally {
 
 /// Why an entry is refused, if it breaks a rule.
 fn judge_entry(alloc: Global, beside: &Beside, entry: &Numbered) -> Result<Option<Refusal>, Stop>
-    requires valid { IsValid (node_check beside.now.check) }
+    requires valid { IsValid (judged_check beside.now.check) }
     requires readable { IsReadableEntry entry.now.entry }
     requires line { entry.now.first_line < 2 ^ 63 }
     ensures none { IfOk result
-        (λ found. IfNone found (entry_fault (node_check beside.now.check) entry.now.entry entry.now.first_line
+        (λ found. IfNone found (entry_fault (judged_check beside.now.check) entry.now.entry entry.now.first_line
         ≡ None)) }
-    ensures some { IfOk result (λ found. IfSome found (IsBrokenBy (node_check beside.now.check) entry.now)) }
+    ensures some { IfOk result (λ found. IfSome found (IsBrokenBy (judged_check beside.now.check) entry.now)) }
     ensures memory { IfErr result (λ stop. stop ≡ Stop.Memory) }
 {
     match check_entry(alloc, &beside.check, &entry.entry, entry.first_line) {
@@ -98,12 +99,12 @@ fn take_entry(
     entry: &Numbered,
     tally: &mut Tally,
 ) -> Result<Option<Refusal>, Stop>
-    requires valid { IsValid (node_check beside.now.check) }
+    requires valid { IsValid (judged_check beside.now.check) }
     requires readable { IsReadableEntry entry.now.entry }
     requires line { entry.now.first_line < 2 ^ 63 }
     requires few { tally.old.sat + tally.old.unsat + tally.old.unknown < 2 ^ 32 }
     ensures none { IfOk result (λ found. IfNone found (TakesUp beside.now entry.now tally.old tally.new)) }
-    ensures some { IfOk result (λ found. IfSome found (IsBrokenBy (node_check beside.now.check) entry.now)) }
+    ensures some { IfOk result (λ found. IfSome found (IsBrokenBy (judged_check beside.now.check) entry.now)) }
     ensures memory { IfErr result (λ stop. stop ≡ Stop.Memory) }
 {
     match judge_entry(alloc, beside, entry) {
@@ -135,15 +136,16 @@ fn judge_next<C: Source>(
     cert: &mut C,
     tally: &mut Tally,
 ) -> Result<Option<Refusal>, Stop>
-    requires valid { IsValid (node_check beside.now.check) }
+    requires valid { IsValid (judged_check beside.now.check) }
     requires open { IsOpen entries.old }
     requires few { tally.old.sat + tally.old.unsat + tally.old.unknown < 2 ^ 32 }
     requires awaited { entries.old.given < entries.old.wanted }
     ensures none { IfOk result
-        (λ found. IfNone found (IsTaken beside.now entries.old entries.new tally.old tally.new)) }
+        (λ found. IfNone found (IsTakenUp beside.now entries.old entries.new tally.old tally.new)) }
     ensures some { IfOk result
-        (λ found. IfSome found (IsRefusedFor (node_check beside.now.check) entries.old entries.new (C.left cert.old))) }
+        (λ found. IfSome found (IsRefusedFor (judged_check beside.now.check) entries.old entries.new (C.left cert.old))) }
     ensures moves { OnOk result (MovesOn entries.old.text (C.left cert.old) entries.new.text (C.left cert.new)) }
+    ensures taken { IfSome (C.left cert.old) (λ bytes. TakesPieces entries.old bytes (C.left cert.new)) }
     ensures grows { Grows entries.old entries.new }
     ensures later { C.faults cert.old ≤ C.faults cert.new }
     ensures cause { IsErrOf result Stop.Failed → Rose (C.faults cert.old) (C.faults cert.new) }
@@ -166,6 +168,7 @@ fn judge_end<C: Source>(
     requires all { entries.old.given ≡ entries.old.wanted }
     ensures ok { IfOk result (EndsAsVerdict entries.old entries.new (C.left cert.old) tally) }
     ensures moves { OnOk result (MovesOn entries.old.text (C.left cert.old) entries.new.text (C.left cert.new)) }
+    ensures taken { IfSome (C.left cert.old) (λ bytes. TakesPieces entries.old bytes (C.left cert.new)) }
     ensures grows { Grows entries.old entries.new }
     ensures later { C.faults cert.old ≤ C.faults cert.new }
     ensures cause { IsErrOf result Stop.Failed → Rose (C.faults cert.old) (C.faults cert.new) }
@@ -205,6 +208,7 @@ pub(crate) fn judge<C: Source>(
     requires counted { IsCounted script.now checks }
     ensures ok { IfOk result
         (λ verdict. IfSome (C.left cert.old) (λ certificate. IsVerdict cores script.now certificate verdict)) }
+    ensures read { IfSome (C.left cert.old) (λ certificate. ReadsAsNeeded script.now certificate (C.left cert.new)) }
     ensures later { C.faults cert.old ≤ C.faults cert.new }
     ensures cause { IsErrOf result Stop.Failed → Rose (C.faults cert.old) (C.faults cert.new) }
 {

@@ -4,6 +4,7 @@
 mod arguments;
 mod entries;
 mod judge;
+pub mod laws;
 mod lines;
 mod script;
 mod stop;

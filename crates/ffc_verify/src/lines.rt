@@ -34,7 +34,7 @@ pub(crate) fn append_fault(fault: ScriptFault, out: &mut Vec<u8>) -> Result<(), 
     out.push(b':')?;
     append_number(fault.column, out)?;
     out.push(b' ')?;
-    append_number(u64::from(fault.code), out)?;
+    append_number(u64::from(fault.code.number()), out)?;
     out.extend_from_slice(b"\")\n")
 }
 

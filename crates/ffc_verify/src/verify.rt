@@ -4,7 +4,7 @@ ghost use Rattle.ffc_base.specs.Outside.{Rose};
 ghost use Rattle.ffc_smt.specs.Scripts.{Done, reads};
 ghost use Rattle.ffc_verify.specs.Arguments.{AreTaken, cert_name, wants_cores};
 ghost use Rattle.ffc_verify.specs.Due.{due};
-ghost use Rattle.ffc_verify.specs.Status.{AllHaveEntries, IsLeft, SaysOfScript, TakesFront, code_of};
+ghost use Rattle.ffc_verify.specs.Status.{AllHaveEntries, IsLeft, IsReadAt, SaysOfScript, TakesFront, code_of};
 ghost use Rattle.ffc_verify.specs.Ending.{EndsWith, IsEndedAs, due_of, status_at, status_of, verdict_due};
 ghost use Rattle.ffc_verify.specs.Texts.{fault_line};
 ghost use Rattle.ffc_verify.specs.Walking.{IsCounted};
@@ -163,6 +163,10 @@ fn certificate_answer<C: NamedSource>(
     ensures ok { IfOk result (λ answer. IfSome (C.contents cert.old plan.now.cert.now) (λ certificate. due_of answer
         ≡ due plan.now.cores script.now certificate)) }
     ensures ending { IfOk result (λ answer. IsEndedAs answer (reads script.now).end) }
+    ensures read { IfOk result (λ answer. IfSome (C.contents cert.old plan.now.cert.now) (λ certificate.
+        IsReadAt (status_of answer.ending) script.now certificate (C.left cert.old) (C.left cert.new))) }
+    ensures stopped { IfErr result (λ stop. IfSome (C.contents cert.old plan.now.cert.now) (λ certificate.
+        IsReadAt (status_at stop) script.now certificate (C.left cert.old) (C.left cert.new))) }
     ensures cause { IsErrOf result AnswerStop.CertFault → Rose (C.faults cert.old) (C.faults cert.new) }
     ensures only { IsErrOf result AnswerStop.ReadFault → ⊥ }
 {
@@ -192,6 +196,12 @@ fn find_answer<S: Source, C: NamedSource>(
     ensures opened { IsErrOf result AnswerStop.CertFault → IfSome (S.left script.old) (λ bytes. (reads bytes).end
         ≡ Done) }
     ensures taken { IfSome (S.left script.old) (λ bytes. TakesFront bytes (S.left script.new)) }
+    ensures read { IfOk result
+        (λ answer. IfSome (S.left script.old) (λ bytes. IfSome (C.contents cert.old plan.now.cert.now)
+        (λ certificate. IsReadAt (status_of answer.ending) bytes certificate (C.left cert.old) (C.left cert.new)))) }
+    ensures stopped { IfErr result
+        (λ stop. IfSome (S.left script.old) (λ bytes. IfSome (C.contents cert.old plan.now.cert.now)
+        (λ certificate. IsReadAt (status_at stop) bytes certificate (C.left cert.old) (C.left cert.new)))) }
     ensures unread { IsErrOf result AnswerStop.ReadFault → cert.new ≡ cert.old }
     ensures unopened { IfOk result (λ answer. answer.ending ≡ Ending.ScriptRefused → cert.new ≡ cert.old) }
     ensures read_fault { IsErrOf result AnswerStop.ReadFault → Rose (S.faults script.old) (S.faults script.new) }
@@ -204,8 +214,10 @@ fn find_answer<S: Source, C: NamedSource>(
     };
     match count_checks(alloc, text.as_slice()) {
         Ok(checks) => certificate_answer(alloc, plan, text.as_slice(), checks, cert),
-        Err(ScriptStop::Fault(fault)) => fault_answer(alloc, fault),
-        Err(ScriptStop::Memory) => Err(AnswerStop::Memory),
+        Err(stop) => match stop {
+            ScriptStop::Fault(fault) => fault_answer(alloc, fault),
+            ScriptStop::Memory => Err(AnswerStop::Memory),
+        },
     }
 }
 
@@ -247,6 +259,8 @@ fn run_plan<S: Source, C: NamedSource, O: Sink>(
     ensures script { IfSome (S.left script.old) (λ bytes. SaysOfScript result bytes (O.holds out.old)
         (O.holds out.new)) }
     ensures taken { IfSome (S.left script.old) (λ bytes. TakesFront bytes (S.left script.new)) }
+    ensures read { IfSome (S.left script.old) (λ bytes. IfSome (C.contents cert.old plan.now.cert.now) (λ certificate.
+        IsReadAt result bytes certificate (C.left cert.old) (C.left cert.new))) }
     ensures unread { result ≡ CheckStatus.ReadFault → (out.new ≡ out.old) × (cert.new ≡ cert.old) }
     ensures unanswered { result ≡ CheckStatus.CertFault → out.new ≡ out.old }
     ensures unopened { result ≡ CheckStatus.ScriptRefused → cert.new ≡ cert.old }
@@ -293,6 +307,12 @@ pub fn check_main<'a, S: Source, C: NamedSource, O: Sink>(
 
     // Whatever the status is, a front of the script was taken, of 67,108,865 bytes at most.
     ensures taken { IfSome (S.left script.old) (λ bytes. TakesFront bytes (S.left script.new)) }
+
+    // Of a certificate that was opened no more was read than was needed: without the last 4,096 bytes, or fewer, it was not
+    // enough.
+    ensures read { IfSome (S.left script.old)
+        (λ bytes. IfSome (C.contents cert.old (cert_name (map (λ w. w.now) words.now))) (λ certificate.
+        IsReadAt result bytes certificate (C.left cert.old) (C.left cert.new))) }
 
     // What a run did not reach is as it was.
     ensures unread { result ≡ CheckStatus.ReadFault → (out.new ≡ out.old) × (cert.new ≡ cert.old) }

@@ -4,7 +4,7 @@ use Rattle.ffc_lex.specs.declared.tokens.TokenKind.TheVariants.{RightParen}
 use Rattle.ffc_smt.specs.Trees.{Word, Tree, Trees, tokens_of, tokens_of_items}
 use Rattle.ffc_smt.specs.TreeShapes.{IsProper, AreProper}
 use Rattle.ffc_smt.specs.Faults.{Fault}
-use Rattle.ffc_words.specs.declared.faults.ScriptFault.{ScriptFault}
+use Rattle.ffc_lex.specs.declared.faults.ScriptFault.{ScriptFault}
 
 -- where there is none
 abbrev pub no_word : Word

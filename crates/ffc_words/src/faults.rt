@@ -1,15 +1,7 @@
-//! The faults of commands.
+//! Why a command is not taken.
+use ffc_lex::ScriptFault;
 use std::alloc::{AllocError, AllocFailed};
 use thiserror::Error;
-
-/// A command's fault: where it is, and which.
-#[derive(Clone, Copy, Debug, PartialEq, Eq, Error)]
-#[error("line {line}, column {column}: fault {code}")]
-pub struct ScriptFault {
-    pub line: u64,
-    pub column: u64,
-    pub code: u8,
-}
 
 /// Why a command was not taken.
 #[derive(Clone, Copy, Debug, PartialEq, Eq, Error)]

@@ -2,14 +2,14 @@
 ghost use Rattle.std.specs.Prelude.{◌≡◌, ◌+◌, ◌-◌, ◌^◌, ◌<◌, List, length, map};
 ghost use Rattle.ffc_smt.specs.Trees.{Tree, Word, tokens_of, word_of};
 ghost use Rattle.std.specs.List.{AllPairs};
+ghost use Rattle.ffc_lex.specs.Faults.{code_number};
 ghost use Rattle.ffc_smt.specs.FaultLaws.{IsWordBefore};
 ghost use Rattle.ffc_smt.specs.Faults.{word_fault};
 ghost use Rattle.ffc_words.specs.Given.{IsGiven};
 ghost use Rattle.ffc_words.specs.Skipping as skipping;
 ghost use Rattle.ffc_words.specs.Words.{IsTreeAt, fault_of, word_at};
 
-use crate::faults::ScriptFault;
-use ffc_lex::{Form, Lexer, Token, TokenKind};
+use ffc_lex::{FaultCode, Form, Lexer, ScriptFault, Token, TokenKind};
 use std::marker::Model;
 
 /// The tokens of the last form that a lexer gave, with their bytes. Clauses see them as words.
@@ -85,24 +85,38 @@ impl<'a> FormWords<'a> {
         }
     }
 
-    /// A fault of this code at a word.
-    pub fn fault(&self, code: u8, at: usize) -> ScriptFault
-        ensures { fault_of result ≡ word_fault code (word_at self.now at) }
+    /// The line of a word; past the end, 0.
+    pub fn line(&self, at: usize) -> u64
+        ensures { result ≡ (word_at self.now at).line }
     {
         let tokens = self.tokens;
         if at < tokens.len() {
-            let token = tokens[at];
-            ScriptFault {
-                line: token.line,
-                column: token.column,
-                code,
-            }
+            tokens[at].line
         } else {
-            ScriptFault {
-                line: 0,
-                column: 0,
-                code,
-            }
+            0
+        }
+    }
+
+    /// The column of a word; past the end, 0.
+    pub fn column(&self, at: usize) -> u64
+        ensures { result ≡ (word_at self.now at).column }
+    {
+        let tokens = self.tokens;
+        if at < tokens.len() {
+            tokens[at].column
+        } else {
+            0
+        }
+    }
+
+    /// A fault of this code at a word.
+    pub fn fault(&self, code: FaultCode, at: usize) -> ScriptFault
+        ensures { fault_of result ≡ word_fault (code_number code) (word_at self.now at) }
+    {
+        ScriptFault {
+            line: self.line(at),
+            column: self.column(at),
+            code,
         }
     }
 

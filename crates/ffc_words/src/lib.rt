@@ -4,5 +4,6 @@
 mod faults;
 mod form_words;
 
-pub use faults::{ScriptFault, TakeStop};
+pub use faults::TakeStop;
+pub use ffc_lex::{FaultCode, ScriptFault};
 pub use form_words::FormWords;

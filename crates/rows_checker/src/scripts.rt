@@ -74,11 +74,13 @@ fn term(alloc: Global, form: &Form, lexer: &Lexer, limit: u32) -> Finding
             let weight = read.weight;
             format!(in alloc; "height {height}, weight {weight}")
         }
-        Err(TakeStop::Fault(fault)) => {
-            let code = fault.code;
-            format!(in alloc; "fault {code}")
-        }
-        Err(TakeStop::Memory) => say(alloc, OUT_OF_MEMORY),
+        Err(stop) => match stop {
+            TakeStop::Fault(fault) => {
+                let code = fault.code;
+                format!(in alloc; "fault {code}")
+            }
+            TakeStop::Memory => say(alloc, OUT_OF_MEMORY),
+        },
     }
 }
 
@@ -127,18 +129,25 @@ fn size(alloc: Global, context: &Context) -> Finding {
     format!(in alloc; "nodes {nodes}, active {active}")
 }
 
+/// Why a form was not taken, and the context's size.
+fn refused(alloc: Global, context: &Context, stop: TakeStop) -> Finding {
+    match stop {
+        TakeStop::Fault(fault) => {
+            let code = fault.code;
+            let size = size(alloc, context)?;
+            format!(in alloc; "fault {code}, {size}")
+        }
+        TakeStop::Memory => say(alloc, OUT_OF_MEMORY),
+    }
+}
+
 /// Takes a form: its fault, if it has one, and how many nodes and active terms there are after it.
 fn take(alloc: Global, context: &mut Context, form: &Form, lexer: &Lexer) -> Finding
     requires { IsGiven form.now lexer.now }
 {
     match context.take(form, lexer) {
-        Ok(_) => size(alloc, context),
-        Err(TakeStop::Fault(fault)) => {
-            let code = fault.code;
-            let size = size(alloc, context)?;
-            format!(in alloc; "fault {code}, {size}")
-        }
-        Err(TakeStop::Memory) => say(alloc, OUT_OF_MEMORY),
+        Ok(_command) => size(alloc, context),
+        Err(stop) => refused(alloc, context, stop),
     }
 }
 

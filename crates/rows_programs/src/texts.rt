@@ -81,7 +81,7 @@ impl Texts {
         if size == 0 || size > MOST_MADE {
             return Ok(false);
         }
-        self.script = make_script(self.alloc, size)?.into_bytes();
+        self.script = make_script(self.alloc, size)?.into_vec();
         Ok(true)
     }
 

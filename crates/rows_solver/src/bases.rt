@@ -3,8 +3,8 @@ use crate::naming::named;
 use crate::page::Page;
 use crate::reading::{Words, poly, polys, words_of};
 use crate::writing::{write_monomial, write_poly};
-use ffc_base::Meter;
-use ffc_basis::{Basis, BasisStop, Completion, Line, LineId, Progress, Reduced};
+use ffc_base::{Meter, Stop};
+use ffc_basis::{Basis, Completion, Line, LineId, Progress, Reduced};
 use ffc_field::Field;
 use ffc_mono::{Mono, MonoOrder, MonoRef};
 use ffc_poly::Poly;
@@ -170,7 +170,7 @@ pub fn write_completion(page: &mut Page, completion: &Completion) {
 }
 
 /// Writes what a completion found, or why it stopped.
-fn write_completion_or(page: &mut Page, found: &Result<Completion, BasisStop>) {
+fn write_completion_or(page: &mut Page, found: &Result<Completion, Stop>) {
     match found {
         Ok(completion) => write_completion(page, completion),
         Err(stop) => page.show(stop),
@@ -178,7 +178,7 @@ fn write_completion_or(page: &mut Page, found: &Result<Completion, BasisStop>) {
 }
 
 /// Writes what a part of a completion found, or why it stopped.
-pub fn write_progress(page: &mut Page, found: &Result<Progress, BasisStop>) {
+pub fn write_progress(page: &mut Page, found: &Result<Progress, Stop>) {
     match found {
         Ok(Progress::Done(completion)) => write_completion(page, completion),
         Ok(Progress::Left) => page.say("pairs are left"),

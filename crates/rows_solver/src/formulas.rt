@@ -5,8 +5,8 @@ ghost use Rattle.ffc_cdcl.specs.State.{AreListed};
 use crate::naming::named;
 use crate::page::Page;
 use crate::reading::{Words, words_of};
-use ffc_base::Meter;
-use ffc_cdcl::{CdclStop, Lit, Literals, Outcome, Solver, Theory, TheoryAnswer};
+use ffc_base::{Meter, SearchStop};
+use ffc_cdcl::{Lit, Literals, Outcome, Solver, Theory, TheoryAnswer};
 use std::alloc::Global;
 
 /// A theory with no lemmas, which agrees with every trail.
@@ -20,7 +20,7 @@ impl Theory for Agreeing {
 
     ghost fits = { λ _ _. Unit {0} };
 
-    fn check(&mut self, _trail: &[Lit], _meter: &mut Meter) -> Result<TheoryAnswer, CdclStop> {
+    fn check(&mut self, _trail: &[Lit], _meter: &mut Meter) -> Result<TheoryAnswer, SearchStop> {
         Ok(TheoryAnswer::Agreed)
     }
 }
@@ -50,7 +50,7 @@ impl Theory for NotBoth {
 
     ghost fits = { λ _ _. Unit {0} };
 
-    fn check(&mut self, trail: &[Lit], _meter: &mut Meter) -> Result<TheoryAnswer, CdclStop> {
+    fn check(&mut self, trail: &[Lit], _meter: &mut Meter) -> Result<TheoryAnswer, SearchStop> {
         if !has(trail, plus(0)) || !has(trail, plus(1)) {
             return Ok(TheoryAnswer::Agreed);
         }
@@ -214,7 +214,7 @@ fn write_outcome(page: &mut Page, wanted: Wanted, number: u32, outcome: &Outcome
 }
 
 /// Solves within so many units.
-fn solve<T: Theory>(solver: &mut Solver, theory: &mut T, units: u64) -> Result<Outcome, CdclStop>
+fn solve<T: Theory>(solver: &mut Solver, theory: &mut T, units: u64) -> Result<Outcome, SearchStop>
     requires { AreListed (T.lemmas theory.old) solver.old.lemmas }
     ensures lemmas { AreListed (T.lemmas theory.new) solver.new.lemmas }
     ensures scopes { solver.new.scopes ≡ solver.old.scopes }
@@ -227,7 +227,7 @@ fn write_outcome_or(
     page: &mut Page,
     wanted: Wanted,
     number: u32,
-    found: &Result<Outcome, CdclStop>,
+    found: &Result<Outcome, SearchStop>,
 ) {
     match found {
         Ok(outcome) => write_outcome(page, wanted, number, outcome),
@@ -241,7 +241,7 @@ fn in_scope<T: Theory>(
     theory: &mut T,
     units: u64,
     clauses: &[Literals],
-) -> Option<Result<Outcome, CdclStop>>
+) -> Option<Result<Outcome, SearchStop>>
     requires { AreListed (T.lemmas theory.old) solver.old.lemmas }
     ensures { AreListed (T.lemmas theory.new) solver.new.lemmas }
 {

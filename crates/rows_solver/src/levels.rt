@@ -4,8 +4,8 @@ use crate::naming::named;
 use crate::page::Page;
 use crate::reading::{Words, poly, polys, words_of};
 use crate::writing::write_poly;
-use ffc_base::Meter;
-use ffc_basis::{BasisStop, Completion, LineId, Progress};
+use ffc_base::{Meter, Stop};
+use ffc_basis::{Completion, LineId, Progress};
 use ffc_field::Field;
 use ffc_mono::MonoOrder;
 use ffc_poly::Poly;
@@ -63,7 +63,7 @@ fn write_constant<F: Field, O: MonoOrder>(
 fn write_pushed<F: Field, O: MonoOrder>(
     page: &mut Page,
     stack: &BasisStack<F, O>,
-    found: &Result<Completion, BasisStop>,
+    found: &Result<Completion, Stop>,
 ) -> Option<()> {
     match found {
         Ok(Completion::Constant(line)) => return write_constant(page, stack, *line),
@@ -78,7 +78,7 @@ fn push_in_parts<F: Field, O: MonoOrder>(
     stack: &mut BasisStack<F, O>,
     gens: &[Poly<F, O>],
     meter: &mut Meter,
-) -> Result<Progress, BasisStop> {
+) -> Result<Progress, Stop> {
     let mut progress = stack.push_within(gens, 0, meter);
     for _ in 0..100u8 {
         if let Ok(Progress::Left) = progress {

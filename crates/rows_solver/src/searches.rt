@@ -2,10 +2,10 @@
 use crate::page::Page;
 use crate::reading::{Words, numbers, polys};
 use crate::writing::write_elements;
-use ffc_base::Meter;
+use ffc_base::{Meter, SearchStop};
 use ffc_field::Field;
 use ffc_mono::MonoOrder;
-use ffc_search::{Found, SearchStop, search};
+use ffc_search::{Found, search};
 use ffc_stack::BasisStack;
 use std::alloc::Global;
 

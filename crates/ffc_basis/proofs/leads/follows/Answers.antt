@@ -1,5 +1,5 @@
 use Rattle.std.proofs.Common.{IfSome, subst}
-use Rattle.ffc_basis.specs.Chains.{IsWhole, IsNoHigher}
+use Rattle.ffc_basis.specs.Chains.{IsWholeOfPair, IsNoHigher}
 use Rattle.ffc_basis.specs.Lines.{polys_of}
 use Rattle.ffc_basis.proofs.ChainLemmas.{whole_chain_closes}
 use Rattle.ffc_basis.proofs.leads.follows.Goals as goal
@@ -16,8 +16,8 @@ returns g c = λ _.
     let first = c.in-Some-2.first in
     let second = c.in-Some-3.second in
     let lead = c.in-Some.lead in
-    let one : IsWhole p cmp gs i k first = subst (λ o. IfSome o (IsWhole p cmp gs i k)) c.in-Some-2.is c.in_ok-first.ensures in
-    let two : IsWhole p cmp gs k j second = subst (λ o. IfSome o (IsWhole p cmp gs k j)) c.in-Some-3.is c.in_ok-second.ensures in
+    let one : IsWholeOfPair p cmp gs i k first = subst (λ o. IfSome o (IsWholeOfPair p cmp gs i k)) c.in-Some-2.is c.in_ok-first.ensures in
+    let two : IsWholeOfPair p cmp gs k j second = subst (λ o. IfSome o (IsWholeOfPair p cmp gs k j)) c.in-Some-3.is c.in_ok-second.ensures in
     let one_raised : IsNoHigher cmp first whole.lcm lead = c.in_ok-is_no_higher.ensures c.if-not-branch.false in
     let two_raised : IsNoHigher cmp second whole.lcm lead = c.in_ok-is_no_higher-2.ensures c.if-not-branch-2.false in
     whole_chain_closes p g.met.F.Field.prime cmp g.met.O.MonoOrder.laws gs c.requires.lists i j k whole first second lead c.requires.whole one two c.in-Some.is one_raised two_raised c.requires.first_closed c.requires.second_closed

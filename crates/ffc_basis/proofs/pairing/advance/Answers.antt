@@ -13,22 +13,22 @@ use Rattle.ffc_basis.proofs.pairing.advance.Goals as goal
 
 pub returns-in_err-is_due-clause-bound : goal.returns-in_err-is_due-clause-bound
 returns-in_err-is_due-clause-bound g c =
-    settled_is_bounded g.F.Field.ORDER g.O.MonoOrder.cmp (polys_of c.loop-lines.lines.items) c.loop-lines.pairing.records.items c.loop-lines.pairing.joined c.args.meter.now c.loop-lines.meter
+    settled_is_bounded g.F.Field.ORDER g.O.MonoOrder.cmp (polys_of c.loop-lines.lines.items) c.loop-lines.pairing.records.items c.loop-lines.pairing.paired c.args.meter.now c.loop-lines.meter
     c.loop-lines.invariant.pairs c.loop-lines.invariant.few c.loop-lines.invariant.bound
 
 pub returns-in_err-next-clause-bound : goal.returns-in_err-next-clause-bound
 returns-in_err-next-clause-bound g c =
-    settled_is_bounded g.F.Field.ORDER g.O.MonoOrder.cmp (polys_of c.loop-lines.lines.items) c.loop-lines.pairing.records.items c.loop-lines.pairing.joined c.args.meter.now c.loop-lines.meter
+    settled_is_bounded g.F.Field.ORDER g.O.MonoOrder.cmp (polys_of c.loop-lines.lines.items) c.loop-lines.pairing.records.items c.loop-lines.pairing.paired c.args.meter.now c.loop-lines.meter
     c.loop-lines.invariant.pairs c.loop-lines.invariant.few c.loop-lines.invariant.bound
 
 pub returns-in_err-answer-clause-bound : goal.returns-in_err-answer-clause-bound
 returns-in_err-answer-clause-bound g c =
-    settled_is_bounded g.F.Field.ORDER g.O.MonoOrder.cmp (polys_of c.loop-lines.lines.items) c.loop-lines.pairing.records.items c.loop-lines.pairing.joined c.args.meter.now c.loop-lines.meter
+    settled_is_bounded g.F.Field.ORDER g.O.MonoOrder.cmp (polys_of c.loop-lines.lines.items) c.loop-lines.pairing.records.items c.loop-lines.pairing.paired c.args.meter.now c.loop-lines.meter
     c.loop-lines.invariant.pairs c.loop-lines.invariant.few c.loop-lines.invariant.bound
 
 pub returns-in_default-next-clause-bound : goal.returns-in_default-next-clause-bound
 returns-in_default-next-clause-bound g c =
-    settled_is_bounded g.F.Field.ORDER g.O.MonoOrder.cmp (polys_of c.loop-lines.lines.items) c.loop-lines.pairing.records.items c.loop-lines.pairing.joined c.args.meter.now c.loop-lines.meter
+    settled_is_bounded g.F.Field.ORDER g.O.MonoOrder.cmp (polys_of c.loop-lines.lines.items) c.loop-lines.pairing.records.items c.loop-lines.pairing.paired c.args.meter.now c.loop-lines.meter
     c.loop-lines.invariant.pairs c.loop-lines.invariant.few c.loop-lines.invariant.bound
 
 pub returns-in_default-next-clause-found : goal.returns-in_default-next-clause-found
@@ -37,13 +37,13 @@ returns-in_default-next-clause-found g c =
     let cmp = g.O.MonoOrder.cmp in
     let ls = c.loop-lines.lines.items in
     let rs = c.loop-lines.pairing.records.items in
-    let joined = c.loop-lines.pairing.joined in
-    let all : joined ≡ length (polys_of ls) = c.loop-lines.invariant.joined ∙ sym (length-polys ls) in
+    let paired = c.loop-lines.pairing.paired in
+    let all : paired ≡ length (polys_of ls) = c.loop-lines.invariant.paired ∙ sym (length-polys ls) in
     let none : AreSettled c.as_slice-in-loop-lines-4.result.now =
     subst (λ o. IfNone o (AreSettled c.as_slice-in-loop-lines-4.result.now)) c.in_default-next.is c.in_ok-next.ensures.none in
     let settled : AreSettled rs = subst AreSettled c.as_slice-in-loop-lines-4.ensures.value none in
     subst (IsCompletion p cmp (polys_of ls)) (sym (c.in_ok-answer.ensures ∙ ap (λ x. answer_of (over_of x)) c.as_slice-in_default-next.ensures.value))
-    (settled_answer_is p cmp g.met.O.MonoOrder.laws (omega (arith, g.met.F.Field.prime.least)) (polys_of ls) rs joined all settled c.loop-lines.invariant.pairs)
+    (settled_answer_is p cmp g.met.O.MonoOrder.laws (omega (arith, g.met.F.Field.prime.least)) (polys_of ls) rs paired all settled c.loop-lines.invariant.pairs)
 
 pub returns-in_err-treat-clause-front : goal.returns-in_err-treat-clause-front
 returns-in_err-treat-clause-front g c =
@@ -58,8 +58,8 @@ returns-in_err-treat-clause-bound g c =
     let found : IsPendingAt c.as_slice-in-loop-lines-4.result.now place =
     subst (λ o. IfSome o (IsPendingAt c.as_slice-in-loop-lines-4.result.now)) c.in-Some-next.is c.in_ok-next.ensures.some in
     let pending : IsPendingAt rs place = subst (λ xs. IsPendingAt xs place) c.as_slice-in-loop-lines-4.ensures.value found in
-    pending_is_bounded p cmp (polys_of c.treat.new.lines.items) rs c.treat.new.pairing.records.items c.loop-lines.pairing.joined c.treat.new.pairing.joined place c.args.meter.now c.treat.new.meter
-    c.treat.ensures.joined c.treat.ensures.pairs pending c.loop-lines.invariant.few
+    pending_is_bounded p cmp (polys_of c.treat.new.lines.items) rs c.treat.new.pairing.records.items c.loop-lines.pairing.paired c.treat.new.pairing.paired place c.args.meter.now c.treat.new.meter
+    c.treat.ensures.paired c.treat.ensures.pairs pending c.loop-lines.invariant.few
     (bound_next p cmp c.loop-lines.lines.items c.treat.new.lines.items (settled_count rs) c.args.meter.now c.loop-lines.meter c.treat.new.meter c.treat.ensures.front c.loop-lines.invariant.bound c.treat.ensures.bound)
 
 pub returns-then-is_constant_at-clause-front : goal.returns-then-is_constant_at-clause-front
@@ -70,21 +70,21 @@ pub returns-then-is_constant_at-clause-bound : goal.returns-then-is_constant_at-
 returns-then-is_constant_at-clause-bound g c =
     let p = g.F.Field.ORDER in
     let cmp = g.O.MonoOrder.cmp in
-    settled_is_bounded p cmp (polys_of c.treat.new.lines.items) c.treat.new.pairing.records.items c.treat.new.pairing.joined c.args.meter.now c.treat.new.meter c.treat.ensures.pairs
-    (few_same c.loop-lines.pairing.records.items c.treat.new.pairing.records.items c.loop-lines.pairing.joined c.treat.new.pairing.joined c.treat.ensures.seconds c.treat.ensures.joined c.loop-lines.invariant.few)
+    settled_is_bounded p cmp (polys_of c.treat.new.lines.items) c.treat.new.pairing.records.items c.treat.new.pairing.paired c.args.meter.now c.treat.new.meter c.treat.ensures.pairs
+    (few_same c.loop-lines.pairing.records.items c.treat.new.pairing.records.items c.loop-lines.pairing.paired c.treat.new.pairing.paired c.treat.ensures.seconds c.treat.ensures.paired c.loop-lines.invariant.few)
     (subst (λ n. IsPairsBound p cmp (polys_of c.treat.new.lines.items) n c.args.meter.now c.treat.new.meter) (sym c.in_ok-treat.ensures.settled)
     (bound_next p cmp c.loop-lines.lines.items c.treat.new.lines.items (settled_count c.loop-lines.pairing.records.items) c.args.meter.now c.loop-lines.meter c.treat.new.meter c.treat.ensures.front c.loop-lines.invariant.bound c.treat.ensures.bound))
 
-pub returns-in_err-join-2-clause-front : goal.returns-in_err-join-2-clause-front
-returns-in_err-join-2-clause-front g c =
+pub returns-in_err-pair_lines-2-clause-front : goal.returns-in_err-pair_lines-2-clause-front
+returns-in_err-pair_lines-2-clause-front g c =
     front_both g.F.Field.ORDER g.O.MonoOrder.cmp c.args.lines.now.items c.loop-lines.lines.items c.treat.new.lines.items c.loop-lines.invariant.front c.treat.ensures.front
 
-pub returns-in_err-join-2-clause-bound : goal.returns-in_err-join-2-clause-bound
-returns-in_err-join-2-clause-bound g c =
+pub returns-in_err-pair_lines-2-clause-bound : goal.returns-in_err-pair_lines-2-clause-bound
+returns-in_err-pair_lines-2-clause-bound g c =
     let p = g.F.Field.ORDER in
     let cmp = g.O.MonoOrder.cmp in
-    settled_is_bounded p cmp (polys_of c.treat.new.lines.items) c.treat.new.pairing.records.items c.treat.new.pairing.joined c.args.meter.now c.treat.new.meter c.treat.ensures.pairs
-    (few_same c.loop-lines.pairing.records.items c.treat.new.pairing.records.items c.loop-lines.pairing.joined c.treat.new.pairing.joined c.treat.ensures.seconds c.treat.ensures.joined c.loop-lines.invariant.few)
+    settled_is_bounded p cmp (polys_of c.treat.new.lines.items) c.treat.new.pairing.records.items c.treat.new.pairing.paired c.args.meter.now c.treat.new.meter c.treat.ensures.pairs
+    (few_same c.loop-lines.pairing.records.items c.treat.new.pairing.records.items c.loop-lines.pairing.paired c.treat.new.pairing.paired c.treat.ensures.seconds c.treat.ensures.paired c.loop-lines.invariant.few)
     (subst (λ n. IsPairsBound p cmp (polys_of c.treat.new.lines.items) n c.args.meter.now c.treat.new.meter) (sym c.in_ok-treat.ensures.settled)
     (bound_next p cmp c.loop-lines.lines.items c.treat.new.lines.items (settled_count c.loop-lines.pairing.records.items) c.args.meter.now c.loop-lines.meter c.treat.new.meter c.treat.ensures.front c.loop-lines.invariant.bound c.treat.ensures.bound))
 
@@ -96,17 +96,17 @@ loop-lines-preserved g c =
     record {
       front = front_both p cmp c.args.lines.now.items c.loop-lines.lines.items ls c.loop-lines.invariant.front c.treat.ensures.front;
       lines = c.treat.ensures.lines;
-      pairs = subst (λ xs. ArePairs p cmp (polys_of xs) c.join-in-loop-lines.new.pairing.records.items c.join-in-loop-lines.new.pairing.joined) c.as_slice-in-loop-lines-6.ensures.value c.join-in-loop-lines.ensures.pairs;
-      few = c.join-in-loop-lines.ensures.few;
-      bound = subst (λ n. IsPairsBound p cmp (polys_of ls) n c.args.meter.now c.treat.new.meter) (sym (c.join-in-loop-lines.ensures.settled ∙ c.in_ok-treat.ensures.settled))
+      pairs = subst (λ xs. ArePairs p cmp (polys_of xs) c.pair_lines-in-loop-lines.new.pairing.records.items c.pair_lines-in-loop-lines.new.pairing.paired) c.as_slice-in-loop-lines-6.ensures.value c.pair_lines-in-loop-lines.ensures.pairs;
+      few = c.pair_lines-in-loop-lines.ensures.few;
+      bound = subst (λ n. IsPairsBound p cmp (polys_of ls) n c.args.meter.now c.treat.new.meter) (sym (c.pair_lines-in-loop-lines.ensures.settled ∙ c.in_ok-treat.ensures.settled))
           (bound_next p cmp c.loop-lines.lines.items ls (settled_count c.loop-lines.pairing.records.items) c.args.meter.now c.loop-lines.meter c.treat.new.meter c.treat.ensures.front c.loop-lines.invariant.bound c.treat.ensures.bound);
       takes = takes_both c.args.meter.now c.loop-lines.meter c.treat.new.meter c.loop-lines.invariant.takes c.treat.ensures.takes;
       start = c.loop-lines.invariant.start;
       counted = omega (arith, c.count.ensures.count, c.in_ok-treat.ensures.forward, c.loop-lines.invariant.counted);
-      joined = c.in_ok-join-2.ensures.joined ∙ ap length c.as_slice-in-loop-lines-6.ensures.value;
+      paired = c.in_ok-pair_lines-2.ensures.paired ∙ ap length c.as_slice-in-loop-lines-6.ensures.value;
     }
 
 pub returns-clause-bound : goal.returns-clause-bound
 returns-clause-bound g c =
-    settled_is_bounded g.F.Field.ORDER g.O.MonoOrder.cmp (polys_of c.loop-lines.lines.items) c.loop-lines.pairing.records.items c.loop-lines.pairing.joined c.args.meter.now c.loop-lines.meter
+    settled_is_bounded g.F.Field.ORDER g.O.MonoOrder.cmp (polys_of c.loop-lines.lines.items) c.loop-lines.pairing.records.items c.loop-lines.pairing.paired c.args.meter.now c.loop-lines.meter
     c.loop-lines.invariant.pairs c.loop-lines.invariant.few c.loop-lines.invariant.bound

@@ -9,13 +9,13 @@ abbrev pub invariant-loop-lines : goal.invariant-loop-lines
 invariant-loop-lines g l = record {
   front : IsFront g.F.Field.ORDER g.O.MonoOrder.cmp l.fn.lines.items l.lines.items;
   lines : AreLines g.F.Field.ORDER l.lines.items;
-  pairs : ArePairs g.F.Field.ORDER g.O.MonoOrder.cmp (polys_of l.lines.items) l.pairing.records.items l.pairing.joined;
-  few : AreFew (seconds l.pairing.records.items) l.pairing.joined;
+  pairs : ArePairs g.F.Field.ORDER g.O.MonoOrder.cmp (polys_of l.lines.items) l.pairing.records.items l.pairing.paired;
+  few : AreFew (seconds l.pairing.records.items) l.pairing.paired;
   bound : IsPairsBound g.F.Field.ORDER g.O.MonoOrder.cmp (polys_of l.lines.items) (settled_count l.pairing.records.items) l.fn.meter l.meter;
   takes : TakesReductions l.fn.meter l.meter;
   start : l.before ≡ l.fn.meter.reductions;
   counted : l.meter.reductions ≡ l.before + l.taken;
-  joined : l.pairing.joined ≡ length l.lines.items;
+  paired : l.pairing.paired ≡ length l.lines.items;
 }
 
 abbrev pub decreases-loop-lines : goal.decreases-loop-lines

@@ -16,15 +16,15 @@ returns-in-Closed g c =
     let cmp = g.O.MonoOrder.cmp in
     let ls = c.args.lines.now.items in
     let rs = c.args.pairing.now.records.items in
-    let joined = c.args.pairing.now.joined in
+    let paired = c.args.pairing.now.paired in
     record {
       front = front_same p cmp ls ls refl;
       lines = c.requires.lines;
-      pairs = subst (λ x. ArePairs p cmp (polys_of ls) x joined) (sym c.mark.ensures)
-          (settled_closed p cmp ls rs joined c.args.place c.args.pair c.len-count.result (omega (arith, c.len-count.ensures, c.args.lines.now.ok.0)) (omega (arith, c.requires.within, c.args.pairing.now.records.ok.0)) c.requires.pair
+      pairs = subst (λ x. ArePairs p cmp (polys_of ls) x paired) (sym c.mark.ensures)
+          (settled_closed p cmp ls rs paired c.args.place c.args.pair c.len-count.result (omega (arith, c.len-count.ensures, c.args.lines.now.ok.0)) (omega (arith, c.requires.within, c.args.pairing.now.records.ok.0)) c.requires.pair
           (subst (IsOutcome p cmp (polys_of ls) c.args.pair.first c.args.pair.second) c.in-Closed.is c.requires.outcome) c.requires.pairs);
       seconds = ap seconds c.mark.ensures ∙ seconds-set rs c.args.place c.args.pair (with_state c.args.pair (Closed c.len-count.result)) (pending_within rs c.args.place c.requires.pending) c.requires.pair refl;
-      joined = refl;
+      paired = refl;
       settled = ap settled_count c.mark.ensures ∙ settled_set rs c.args.place (with_state c.args.pair (Closed c.len-count.result)) c.requires.pending refl;
     }
 
@@ -34,15 +34,15 @@ returns-in-Over g c =
     let cmp = g.O.MonoOrder.cmp in
     let ls = c.args.lines.now.items in
     let rs = c.args.pairing.now.records.items in
-    let joined = c.args.pairing.now.joined in
+    let paired = c.args.pairing.now.paired in
     record {
       front = front_same p cmp ls ls refl;
       lines = c.requires.lines;
-      pairs = subst (λ x. ArePairs p cmp (polys_of ls) x joined) (sym c.mark-in-Over.ensures)
-          (settled_over p cmp ls rs joined c.args.place c.args.pair c.len-count.result (omega (arith, c.len-count.ensures, c.args.lines.now.ok.0)) (omega (arith, c.requires.within, c.args.pairing.now.records.ok.0)) c.requires.pair
+      pairs = subst (λ x. ArePairs p cmp (polys_of ls) x paired) (sym c.mark-in-Over.ensures)
+          (settled_over p cmp ls rs paired c.args.place c.args.pair c.len-count.result (omega (arith, c.len-count.ensures, c.args.lines.now.ok.0)) (omega (arith, c.requires.within, c.args.pairing.now.records.ok.0)) c.requires.pair
           (subst (IsOutcome p cmp (polys_of ls) c.args.pair.first c.args.pair.second) c.in-Over.is c.requires.outcome) c.requires.pairs);
       seconds = ap seconds c.mark-in-Over.ensures ∙ seconds-set rs c.args.place c.args.pair (with_state c.args.pair (Over c.len-count.result)) (pending_within rs c.args.place c.requires.pending) c.requires.pair refl;
-      joined = refl;
+      paired = refl;
       settled = ap settled_count c.mark-in-Over.ensures ∙ settled_set rs c.args.place (with_state c.args.pair (Over c.len-count.result)) c.requires.pending refl;
     }
 
@@ -56,7 +56,7 @@ returns-in_err-push-in-Added-clause-lines g c =
 
 pub returns-in_err-push-in-Added-clause-pairs : goal.returns-in_err-push-in-Added-clause-pairs
 returns-in_err-push-in-Added-clause-pairs g c =
-    subst (λ x. ArePairs g.F.Field.ORDER g.O.MonoOrder.cmp (polys_of x) c.args.pairing.now.records.items c.args.pairing.now.joined) (sym c.in_err-push-in-Added.ensures.items) c.requires.pairs
+    subst (λ x. ArePairs g.F.Field.ORDER g.O.MonoOrder.cmp (polys_of x) c.args.pairing.now.records.items c.args.pairing.now.paired) (sym c.in_err-push-in-Added.ensures.items) c.requires.pairs
 
 pub returns-in_ok-push-in-Added : goal.returns-in_ok-push-in-Added
 returns-in_ok-push-in-Added g c =
@@ -65,7 +65,7 @@ returns-in_ok-push-in-Added g c =
     let ls = c.args.lines.now.items in
     let ks = c.push.new.self.items in
     let rs = c.args.pairing.now.records.items in
-    let joined = c.args.pairing.now.joined in
+    let paired = c.args.pairing.now.paired in
     let l = c.in-Added.line in
     let is = c.in_ok-push-in-Added.ensures.items in
     let outcome : IsOutcome p cmp (polys_of ls) c.args.pair.first c.args.pair.second (Added l) =
@@ -73,10 +73,10 @@ returns-in_ok-push-in-Added g c =
     record {
       front = front_one p cmp ls ks l is outcome.1;
       lines = line_added p ls ks l is c.requires.lines outcome.0;
-      pairs = subst (λ x. ArePairs p cmp (polys_of ks) x joined) (sym c.mark-in-Added.ensures)
-          (settled_added p cmp ls ks l rs joined c.args.place c.args.pair c.len-count.result is (omega (arith, c.len-count.ensures, c.args.lines.now.ok.0)) (omega (arith, c.requires.within, c.args.pairing.now.records.ok.0)) c.requires.pair
+      pairs = subst (λ x. ArePairs p cmp (polys_of ks) x paired) (sym c.mark-in-Added.ensures)
+          (settled_added p cmp ls ks l rs paired c.args.place c.args.pair c.len-count.result is (omega (arith, c.len-count.ensures, c.args.lines.now.ok.0)) (omega (arith, c.requires.within, c.args.pairing.now.records.ok.0)) c.requires.pair
           (AreTerms-ordered p cmp DEGREE_LIMIT l.poly c.len-length.ensures.ordered) outcome.2 c.requires.pairs);
       seconds = ap seconds c.mark-in-Added.ensures ∙ seconds-set rs c.args.place c.args.pair (with_state c.args.pair (Closed (c.len-count.result + 1))) (pending_within rs c.args.place c.requires.pending) c.requires.pair refl;
-      joined = refl;
+      paired = refl;
       settled = ap settled_count c.mark-in-Added.ensures ∙ settled_set rs c.args.place (with_state c.args.pair (Closed (c.len-count.result + 1))) c.requires.pending refl;
     }

@@ -13,14 +13,14 @@ pub outcome_of-requires-clause-first : goal.outcome_of-requires-clause-first
 outcome_of-requires-clause-first g c =
     let ls = c.args.lines.now.items in
     let pairing = c.args.pairing.now in
-    let r = record_is g.F.Field.ORDER g.O.MonoOrder.cmp (polys_of ls) pairing.records.items pairing.joined c.args.place c.index-pair.result.now c.requires.pairs (pending_within pairing.records.items c.args.place c.requires.pending) (sym c.index-pair.ensures) in
+    let r = record_is g.F.Field.ORDER g.O.MonoOrder.cmp (polys_of ls) pairing.records.items pairing.paired c.args.place c.index-pair.result.now c.requires.pairs (pending_within pairing.records.items c.args.place c.requires.pending) (sym c.index-pair.ensures) in
     omega (arith, r.ordered, r.within, length-polys ls, ap length c.as_slice.ensures.value)
 
 pub outcome_of-requires-clause-second : goal.outcome_of-requires-clause-second
 outcome_of-requires-clause-second g c =
     let ls = c.args.lines.now.items in
     let pairing = c.args.pairing.now in
-    let r = record_is g.F.Field.ORDER g.O.MonoOrder.cmp (polys_of ls) pairing.records.items pairing.joined c.args.place c.index-pair.result.now c.requires.pairs (pending_within pairing.records.items c.args.place c.requires.pending) (sym c.index-pair.ensures) in
+    let r = record_is g.F.Field.ORDER g.O.MonoOrder.cmp (polys_of ls) pairing.records.items pairing.paired c.args.place c.index-pair.result.now c.requires.pairs (pending_within pairing.records.items c.args.place c.requires.pending) (sym c.index-pair.ensures) in
     omega (arith, r.within, length-polys ls, ap length c.as_slice.ensures.value)
 
 pub index-pair-requires : goal.index-pair-requires

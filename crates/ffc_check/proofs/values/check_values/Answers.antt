@@ -3,13 +3,13 @@ use Rattle.std.proofs.lemmas.Option.{slice_get_within}
 use Rattle.std.proofs.lemmas.List.Elements.{All-from_recursion}
 use Rattle.ffc_rules.specs.Entries.{breaks}
 use Rattle.ffc_rules.proofs.CaseLemmas.{are_listed}
-use Rattle.ffc_check.specs.Judged.{node_check}
+use Rattle.ffc_check.specs.Judged.{judged_check}
 use Rattle.ffc_check.proofs.AnswerLemmas.{names_broken, other_count, misfit_named, truth_named}
 use Rattle.ffc_check.proofs.values.check_values.Goals as goal
 
 pub returns-then-pairs-check : goal.returns-then-pairs-check
 returns-then-pairs-check c =
-    names_broken c.breaks.result 1 c.args.line _ c.breaks.ensures (other_count (node_check c.args.check.now) c.args.pairs.now c.args.line c.if-pairs-check.true)
+    names_broken c.breaks.result 1 c.args.line _ c.breaks.ensures (other_count (judged_check c.args.check.now) c.args.pairs.now c.args.line c.if-pairs-check.true)
 
 pub first_misfit-requires-clause-within : goal.first_misfit-requires-clause-within
 first_misfit-requires-clause-within c k d inside =
@@ -26,17 +26,17 @@ pub returns-in-Some : goal.returns-in-Some
 returns-in-Some c =
     let line = c.args.line in
     names_broken c.breaks-in-Some.result 1 (line + 1 + c.in-Some.i) _ c.breaks-in-Some.ensures
-    (misfit_named (node_check c.args.check.now) c.args.pairs.now line c.if-pairs-check.false (line + 1 + c.in-Some.i) (c.first_misfit.ensures.misfit (line + 1) ∙ ap (option_map (λ i. line + 1 + i)) c.in-Some.is))
+    (misfit_named (judged_check c.args.check.now) c.args.pairs.now line c.if-pairs-check.false (line + 1 + c.in-Some.i) (c.first_misfit.ensures.misfit (line + 1) ∙ ap (option_map (λ i. line + 1 + i)) c.in-Some.is))
 
 pub returns-then-branch : goal.returns-then-branch
 returns-then-branch c =
     let line = c.args.line in
-    truth_named (node_check c.args.check.now) c.args.pairs.now line c.if-pairs-check.false _ (c.first_misfit.ensures.misfit (line + 1) ∙ ap (option_map (λ i. line + 1 + i)) c.in-None.is) c.in_ok-makes_true-in-None.ensures
+    truth_named (judged_check c.args.check.now) c.args.pairs.now line c.if-pairs-check.false _ (c.first_misfit.ensures.misfit (line + 1) ∙ ap (option_map (λ i. line + 1 + i)) c.in-None.is) c.in_ok-makes_true-in-None.ensures
     ∙ ap (λ good. cond good None (Some (breaks 1 line))) c.if-branch.true
 
 pub returns-else-branch : goal.returns-else-branch
 returns-else-branch c =
     let line = c.args.line in
     names_broken c.breaks-else-branch.result 1 line _ c.breaks-else-branch.ensures
-    (truth_named (node_check c.args.check.now) c.args.pairs.now line c.if-pairs-check.false _ (c.first_misfit.ensures.misfit (line + 1) ∙ ap (option_map (λ i. line + 1 + i)) c.in-None.is) c.in_ok-makes_true-in-None.ensures
+    (truth_named (judged_check c.args.check.now) c.args.pairs.now line c.if-pairs-check.false _ (c.first_misfit.ensures.misfit (line + 1) ∙ ap (option_map (λ i. line + 1 + i)) c.in-None.is) c.in_ok-makes_true-in-None.ensures
     ∙ ap (λ good. cond good None (Some (breaks 1 line))) c.if-branch.false)

@@ -1,44 +1,16 @@
-use Rattle.std.proofs.Common.{◌≡◌, ◌*◌, ◌%◌, ◌++◌, ◌∷◌, [], All, sym, ap, ◌∙◌, subst, arith}
+use Rattle.std.proofs.Common.{◌≡◌, ℕ, List, ◌*◌, ◌%◌, ◌++◌, ◌∷◌, [], ap, ◌∙◌, subst, arith}
 use Rattle.std.proofs.Math.Nat.{mod-mod}
 use Rattle.std.proofs.lemmas.Nat.{mul-mod_second}
 use Rattle.ffc_ring.specs.Monomial.{Monomial}
 use Rattle.ffc_ring.specs.Polynomial.{SamePolynomial, written, scaled}
-use Rattle.ffc_term.specs.declared.node.Node.TheVariants.{FieldConst, Num, IteField, Add, Neg, Bitsum}
+use Rattle.ffc_term.specs.declared.node.Node.TheVariants.{FieldConst, Num, IteField, Add, Mul, Neg, Bitsum}
 use Rattle.ffc_term.specs.Nodes.{IsNodeAt}
-use Rattle.ffc_term.specs.Tables.{IsFieldAt}
 use Rattle.ffc_trees.specs.NodePolynomials.{node_polys, poly_at}
 use Rattle.ffc_ckpoly.specs.Parts.{weighted, owed}
 use Rattle.ffc_ckpoly.proofs.SortedLemmas.{minus_one}
 use Rattle.ffc_trees.proofs.PartLemmas.{parts_are}
-use Rattle.ffc_ckpoly.proofs.OpeningLemmas.{node_expands, parts_owed, sum_kept, term_added, term_scaled, sum_expands, bits_expand, negation_expands}
+use Rattle.ffc_ckpoly.proofs.OpeningLemmas.{node_expands, parts_owed, sum_kept, term_added, term_scaled, sum_expands, bits_expand, negation_expands, nothing_else}
 use Rattle.ffc_ckpoly.proofs.opening.open.Goals as goal
-
-pub push_weighted-requires-clause-fields : goal.push_weighted-requires-clause-fields
-push_weighted-requires-clause-fields g c =
-    let p = g.F.Field.ORDER in
-    let nodes = c.args.table.now in
-    let id = c.args.id in
-    let at : IsNodeAt nodes id (Add c.in-Add.ids) = subst (IsNodeAt nodes id) c.in-Add.is c.node.ensures.at in
-    let parts = parts_are nodes p id c.node.ensures.valid c.requires.field (Add c.in-Add.ids) at in
-    subst (All (IsFieldAt nodes p)) (sym c.as_slice.ensures) (λ k d h. (parts k d h).0)
-
-pub push_weighted-requires-in-Bitsum-clause-fields : goal.push_weighted-requires-in-Bitsum-clause-fields
-push_weighted-requires-in-Bitsum-clause-fields g c =
-    let p = g.F.Field.ORDER in
-    let nodes = c.args.table.now in
-    let id = c.args.id in
-    let at : IsNodeAt nodes id (Bitsum c.in-Bitsum.ids) = subst (IsNodeAt nodes id) c.in-Bitsum.is c.node.ensures.at in
-    let parts = parts_are nodes p id c.node.ensures.valid c.requires.field (Bitsum c.in-Bitsum.ids) at in
-    subst (All (IsFieldAt nodes p)) (sym c.as_slice-in-Bitsum.ensures) (λ k d h. (parts k d h).0)
-
-pub push_weighted-requires-in-Neg-clause-fields : goal.push_weighted-requires-in-Neg-clause-fields
-push_weighted-requires-in-Neg-clause-fields g c =
-    let p = g.F.Field.ORDER in
-    let nodes = c.args.table.now in
-    let id = c.args.id in
-    let at : IsNodeAt nodes id (Neg c.in-Neg.a) = subst (IsNodeAt nodes id) c.in-Neg.is c.node.ensures.at in
-    let parts = parts_are nodes p id c.node.ensures.valid c.requires.field (Neg c.in-Neg.a) at in
-    λ k d h. (parts k d h).0
 
 pub returns-in_ok-with_term-in-FieldConst-clause-same : goal.returns-in_ok-with_term-in-FieldConst-clause-same
 returns-in_ok-with_term-in-FieldConst-clause-same g c m =
@@ -144,3 +116,11 @@ returns-in_ok-push_weighted-in-Neg-clause-same g c =
     let new = owed value polys c.push_weighted-in-Neg.new.waiting.items in
     let is = negation_expands nodes p id c.requires.field a r part at (parts 0 0 (omega arith)).1 (minus_one p r a g.met.F.Field.prime.least c.of-one.ensures c.neg.ensures) in
     sum_kept p c.args.sum new (old ++ scaled w (poly_at nodes id)) (parts_owed p w v a r polys id (part ∷ []) new old c.mul-in-Neg.ensures is c.in_ok-push_weighted-in-Neg.ensures.owed)
+
+pub unreachable-requires : goal.unreachable-requires
+unreachable-requires g c =
+    let nodes = c.args.table.now in
+    let id = c.args.id in
+    let product : (ids : List ℕ) → c.node.result.now ≡ Mul ids → ⊥ = λ ids e. c.requires.plain ids (subst (IsNodeAt nodes id) e c.node.ensures.at) in
+    nothing_else nodes g.F.Field.ORDER id c.node.result.now c.requires.field c.node.ensures.at
+    c.in_default.not-FieldConst c.in_default.not-Num c.in_default.not-IteField c.in_default.not-Add product c.in_default.not-Neg c.in_default.not-Bitsum

@@ -1,7 +1,8 @@
-use Rattle.std.proofs.Common.{◌++◌, drop}
+use Rattle.std.proofs.Common.{◌≡◌, ◌++◌, take, drop}
 use Rattle.ffc_ring.specs.Polynomial.{SamePolynomial}
 use Rattle.ffc_trees.specs.NodePolynomials.{node_polys}
-use Rattle.ffc_ckpoly.specs.Parts.{weighted, owed, AreOwed}
+use Rattle.ffc_ckpoly.specs.Parts.{weighted, owed}
+use Rattle.ffc_ckpoly.specs.Opening.{waiting_ids}
 use Rattle.ffc_ckpoly.proofs.opening.push_weighted.Given as goal
 
 abbrev pub invariant-loop-id : goal.invariant-loop-id
@@ -10,7 +11,7 @@ invariant-loop-id g l =
     let p = g.F.Field.ORDER in
     let polys = node_polys l.table in
     record {
-      fields : AreOwed l.table p l.waiting.items;
+      nodes : waiting_ids l.waiting.items ≡ waiting_ids l.initial.waiting.items ++ take l.id-index l.ids;
       owed : SamePolynomial p (owed value polys l.waiting.items ++ weighted (value l.weight) (value l.ratio) polys (drop l.id-index l.ids))
           (owed value polys l.initial.waiting.items ++ weighted (value l.fn.first) (value l.ratio) polys l.ids);
     }

@@ -1,42 +1,39 @@
-use Rattle.std.proofs.Common.{[], sym, ap, ◌∙◌, Ok}
+use Rattle.std.proofs.Common.{[], List, ℕ, sym, ◌∙◌}
 use Rattle.ffc_smt.specs.Meaning.{found}
 use Rattle.ffc_smt.specs.Faults.{read_map}
 use Rattle.ffc_smt.specs.CommandReading.{get_info, get_option, infos, keyword_read, logic_read, options, string_read}
 use Rattle.ffc_words.specs.Words.{word_at}
-use Rattle.ffc_elab.specs.Reading.{and_then, end_at}
-use Rattle.ffc_elab.proofs.PlainLemmas.{one_outcome, logic_leaf, string_leaf, keyword_leaf, mapped_leaf, keyword_outcome}
+use Rattle.ffc_elab.proofs.PlainLemmas.{one_outcome, logic_leaf, string_leaf, keyword_leaf, mapped_leaf, keyword_ended}
 use Rattle.ffc_elab.proofs.plain.read_plain.Goals as goal
 
 pub returns-in-SetLogic-clause-reads : goal.returns-in-SetLogic-clause-reads
 returns-in-SetLogic-clause-reads c = λ s items closing logic level at order.
-    let w = word_at c.args.words.now 2 in
     rw c.in-SetLogic.is
-    (c.ended.ensures.reads ∙ ap (λ r. and_then r (λ p. and_then (end_at (word_at c.args.words.now 3)) (λ u. Ok p))) (c.set_logic.ensures.reads)
-    ∙ sym (one_outcome (logic_read) c.args.words.now 2 items closing [] logic_leaf at order))
+    (c.set_logic.ensures.reads ∙ sym (one_outcome (logic_read) c.args.words.now 2 items closing [] logic_leaf at order))
 
 pub returns-in-GetOption-clause-reads : goal.returns-in-GetOption-clause-reads
 returns-in-GetOption-clause-reads c = λ s items closing logic level at order.
     let w = word_at c.args.words.now 2 in
+    let asks = λ (key : List ℕ). get_option (found options key) in
     rw c.in-GetOption.is
-    (c.ended-in-GetOption.ensures.reads ∙ ap (λ r. and_then r (λ p. and_then (end_at (word_at c.args.words.now 3)) (λ u. Ok p))) (c.get_option.ensures.reads ∙ sym (keyword_outcome (λ key. get_option (found options key)) w))
-    ∙ sym (one_outcome (λ t. read_map (λ w. get_option (found options w.bytes)) (keyword_read t)) c.args.words.now 2 items closing [] (mapped_leaf (λ w. get_option (found options w.bytes)) keyword_read keyword_leaf) at order))
+    (c.get_option.ensures.reads ∙ sym (keyword_ended asks w (word_at c.args.words.now 3))
+    ∙ sym (one_outcome (λ t. read_map (λ w. asks w.bytes) (keyword_read t)) c.args.words.now 2 items closing [] (mapped_leaf (λ w. asks w.bytes) keyword_read keyword_leaf) at order))
 
 pub returns-in-GetInfo-clause-reads : goal.returns-in-GetInfo-clause-reads
 returns-in-GetInfo-clause-reads c = λ s items closing logic level at order.
     let w = word_at c.args.words.now 2 in
+    let asks = λ (key : List ℕ). get_info (found infos key) in
     rw c.in-GetInfo.is
-    (c.ended-in-GetInfo.ensures.reads ∙ ap (λ r. and_then r (λ p. and_then (end_at (word_at c.args.words.now 3)) (λ u. Ok p))) (c.get_info.ensures.reads ∙ sym (keyword_outcome (λ key. get_info (found infos key)) w))
-    ∙ sym (one_outcome (λ t. read_map (λ w. get_info (found infos w.bytes)) (keyword_read t)) c.args.words.now 2 items closing [] (mapped_leaf (λ w. get_info (found infos w.bytes)) keyword_read keyword_leaf) at order))
+    (c.get_info.ensures.reads ∙ sym (keyword_ended asks w (word_at c.args.words.now 3))
+    ∙ sym (one_outcome (λ t. read_map (λ w. asks w.bytes) (keyword_read t)) c.args.words.now 2 items closing [] (mapped_leaf (λ w. asks w.bytes) keyword_read keyword_leaf) at order))
 
 pub returns-in-Echo-clause-reads : goal.returns-in-Echo-clause-reads
 returns-in-Echo-clause-reads c = λ s items closing logic level at order.
-    let w = word_at c.args.words.now 2 in
     rw c.in-Echo.is
-    (c.ended-in-Echo.ensures.reads ∙ ap (λ r. and_then r (λ p. and_then (end_at (word_at c.args.words.now 3)) (λ u. Ok p))) (c.echo.ensures.reads)
-    ∙ sym (one_outcome (string_read) c.args.words.now 2 items closing [] string_leaf at order))
+    (c.echo.ensures.reads ∙ sym (one_outcome (string_read) c.args.words.now 2 items closing [] string_leaf at order))
 
 pub returns-in-SetLogic-clause-within : goal.returns-in-SetLogic-clause-within
-returns-in-SetLogic-clause-within c = c.ended.ensures.within c.args.level (c.set_logic.ensures.within c.args.level)
+returns-in-SetLogic-clause-within c = c.set_logic.ensures.within c.args.level
 
 pub returns-in-SetOption-clause-within : goal.returns-in-SetOption-clause-within
 returns-in-SetOption-clause-within c = c.set_option.ensures.within c.args.level

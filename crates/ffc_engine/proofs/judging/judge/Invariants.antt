@@ -1,4 +1,4 @@
-use Rattle.ffc_basis.specs.Units.{Takes}
+use Rattle.ffc_base.specs.Metering.{Takes}
 use Rattle.ffc_engine.proofs.judging.judge.Given as goal
 
 abbrev pub invariant-loop-field : goal.invariant-loop-field

@@ -1,4 +1,4 @@
-use Rattle.ffc_basis.specs.Units.{Takes}
+use Rattle.ffc_base.specs.Metering.{Takes}
 use Rattle.ffc_engine.proofs.proposing.rounds.Given as goal
 
 abbrev pub invariant-loop : goal.invariant-loop

@@ -11,7 +11,7 @@ use Rattle.ffc_roots.specs.Roots.{AreRoots, IsAnswer, IsCombination, without_x}
 use Rattle.ffc_roots.specs.Separation.{AreSeparated}
 use Rattle.ffc_roots.proofs.Apart.{separated_of_divisor}
 use Rattle.ffc_roots.proofs.Bounds.{chain_left, few_left, only_few}
-use Rattle.ffc_roots.proofs.Cases.{chain_was_spent, split_was_spent}
+use Rattle.ffc_roots.proofs.Cases.{part_was_spent}
 use Rattle.ffc_roots.proofs.Chained.{chained_after}
 use Rattle.ffc_roots.proofs.Cofactors.{roots_vanish}
 use Rattle.ffc_roots.proofs.Degrees.{divisor_is_short}
@@ -136,12 +136,12 @@ returns-in_err-a-clause-chained g c =
 
 pub returns-in_err-chain-clause-few : goal.returns-in_err-chain-clause-few
 returns-in_err-chain-clause-few g c = λ spent one.
-    let out = c.in_err-chain.ensures.spent (chain_was_spent _ _ c.from_residual.result c.in_err-chain.field-0.0 c.from_residual.ensures.1 spent) in
+    let out = c.in_err-chain.ensures.spent (part_was_spent _ _ c.from_residual.result c.in_err-chain.field-0.0 c.from_residual.ensures.1 spent) in
     chain_left (length c.args.f.now - 1) (pair_count g.F.Field.ORDER) c.args.meter.now (few_pairs g.F.Field.ORDER) out
 
 pub returns-in_err-chain-clause-many : goal.returns-in_err-chain-clause-many
 returns-in_err-chain-clause-many g c = λ spent bound separated.
-    let out = c.in_err-chain.ensures.spent (chain_was_spent _ _ c.from_residual.result c.in_err-chain.field-0.0 c.from_residual.ensures.1 spent) in
+    let out = c.in_err-chain.ensures.spent (part_was_spent _ _ c.from_residual.result c.in_err-chain.field-0.0 c.from_residual.ensures.1 spent) in
     inl (chain_left (length c.args.f.now - 1) (pair_count g.F.Field.ORDER) c.args.meter.now (few_pairs g.F.Field.ORDER) out)
 
 pub returns-in_err-residues-clause-few : goal.returns-in_err-residues-clause-few
@@ -155,7 +155,7 @@ returns-in_err-residues-clause-few g c = λ spent one.
     let pairs = c.pow_mod_chain.ensures.only_chains in
     only_few (length f - 1) c.args.meter.now
     (few_left (length f - 1) 0 (splits_of (length common)) pairs.0 c.args.meter.now c.pow_mod_chain.new.meter c.split.new.meter (omega (arith, short, c.requires)) (let few = few_pairs p in let most = pairs.1 in omega (arith, few, most)) pairs.2
-    (c.split.ensures.units 0 (separated_of_divisor p 0 common f divides separated)) (c.in_err-residues.ensures.full (split_was_spent _ _ c.from_residual-in_err-residues.result c.in_err-residues.field-0.0 c.from_residual-in_err-residues.ensures.1 spent)))
+    (c.split.ensures.units 0 (separated_of_divisor p 0 common f divides separated)) (c.in_err-residues.ensures.metered.1 (part_was_spent _ _ c.from_residual-in_err-residues.result c.in_err-residues.field-0.0 c.from_residual-in_err-residues.ensures.1 spent)))
 
 pub returns-in_err-residues-clause-many : goal.returns-in_err-residues-clause-many
 returns-in_err-residues-clause-many g c = λ spent bound separated.
@@ -167,4 +167,4 @@ returns-in_err-residues-clause-many g c = λ spent bound separated.
     let pairs = c.pow_mod_chain.ensures.only_chains in
     few_left (length f - 1) bound (splits_of (length common)) pairs.0 c.args.meter.now c.pow_mod_chain.new.meter c.split.new.meter (omega (arith, short, c.requires)) (let few = few_pairs p in let most = pairs.1 in omega (arith, few, most)) pairs.2
     (c.split.ensures.units bound (separated_of_divisor p bound common f divides separated))
-    (c.in_err-residues.ensures.full (split_was_spent _ _ c.from_residual-in_err-residues.result c.in_err-residues.field-0.0 c.from_residual-in_err-residues.ensures.1 spent))
+    (c.in_err-residues.ensures.metered.1 (part_was_spent _ _ c.from_residual-in_err-residues.result c.in_err-residues.field-0.0 c.from_residual-in_err-residues.ensures.1 spent))

@@ -1,5 +1,5 @@
 use Rattle.std.proofs.Common.{vec_len}
-use Rattle.ffc_basis.specs.Units.{Takes}
+use Rattle.ffc_base.specs.Metering.{Takes}
 use Rattle.ffc_search.specs.Above.{StaysAbove}
 use Rattle.ffc_search.proofs.branches.next_case.Given as goal
 

@@ -1,5 +1,5 @@
 use Rattle.std.proofs.Common.{◌≡◌}
-use Rattle.ffc_basis.specs.Units.{Takes}
+use Rattle.ffc_base.specs.Metering.{Takes}
 use Rattle.ffc_search.proofs.choosing.best_candidate.Given as goal
 
 abbrev pub invariant-loop-x : goal.invariant-loop-x

@@ -1,6 +1,6 @@
 use Rattle.std.proofs.Common.{◌-◌}
 use Rattle.ffc_base.specs.Metering.{total}
-use Rattle.ffc_basis.specs.Units.{Takes}
+use Rattle.ffc_base.specs.Metering.{Takes}
 use Rattle.ffc_search.specs.Above.{StaysAbove}
 use Rattle.ffc_search.proofs.searching.attempt.Given as goal
 

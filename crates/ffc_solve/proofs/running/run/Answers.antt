@@ -1,4 +1,5 @@
-use Rattle.std.proofs.Common.{◌≡◌, inl, inr, Err, refl, sym, ap, ◌∙◌, subst, arith}
+use Rattle.std.proofs.Common.{◌≡◌, [], inl, inr, Err, refl, sym, ap, ◌∙◌, subst, arith}
+use Rattle.ffc_answer.specs.Answers.{end_answer}
 use Rattle.ffc_script.specs.Answers.{HasRun, end_at_fault}
 use Rattle.ffc_script.specs.Kept.{AreFirst}
 use Rattle.ffc_script.specs.Progress.{steps_of}
@@ -6,6 +7,7 @@ use Rattle.ffc_solve.specs.declared.dialogue.Dialogue.{Dialogue}
 use Rattle.ffc_solve.specs.Underway.{IsFinished, IsUnfinished}
 use Rattle.ffc_solve.proofs.ListLemmas.{between, on_err}
 use Rattle.ffc_solve.proofs.AdvanceLemmas.{err_weaker, ok_weaker}
+use Rattle.ffc_solve.proofs.SoonLemmas.{grows_finished, grows_in_part, grows_none}
 use Rattle.ffc_solve.proofs.RunLemmas.{going_first, going_told, going_fed, going_silent, going_left, going_cut, going_taken, taken_end, cut_told, ended_whole, fault_whole, fault_cut, finished_whole, finished_cut, paused_at, taken_more}
 use Rattle.ffc_solve.proofs.running.run.Goals as goal
 
@@ -119,7 +121,10 @@ returns-in-Ok-false-clause-taken g c =
     let waits = rw c.in-Waiting.is at (c.in_ok-advance.ensures.ok h.entries h.last h.holds) in
     let kept = going_silent s t _ _ _ _ _ _ _ _ waits.1 waits.0 h in
     let end = c.in-Ok-false.ensures.end c.in-Ok-false.field-0-test in
-    taken_end t _ _ _ t.reader.text kept.few kept.soon kept.read end.1
+    let o1 = g.O.Sink.holds c.advance.new.out in
+    let on = g.O.Sink.holds c.finish.new.out in
+    let grows = grows_finished c.finish.result c.read_on.new.dialogue.reader (between o1 on) c.finish.ensures.ok c.finish.ensures.err in
+    taken_end t _ _ _ _ o1 on (grows_none _ _ refl) grows _ _ kept _ end.1
 
 pub returns-in-Err-clause-err : goal.returns-in-Err-clause-err
 returns-in-Err-clause-err g c =
@@ -151,6 +156,34 @@ returns-in-Err-clause-taken g c =
     let waits = rw c.in-Waiting.is at (c.in_ok-advance.ensures.ok h.entries h.last h.holds) in
     let kept = going_silent s t _ _ _ _ _ _ _ _ waits.1 waits.0 h in
     elim c.in-Err.ensures.only [
-      | inl e ↦ going_taken t _ _ _ _ (going_left t _ _ _ _ _ (c.in-Err.ensures.failed (ap Err e)).1 kept)
-      | inr e ↦ taken_more _ _ _ t.reader kept.read (subst (λ (u : Dialogue). HasRun u.reader) (sym waits.1) waits.2) (c.in-Err.ensures.memory (ap Err e))
+      | inl e ↦ going_taken t _ _ _ _ _ _ (grows_none _ _ refl) (grows_none _ _ refl) _ _ (going_left t _ _ _ _ _ (c.in-Err.ensures.failed (ap Err e)).1 kept)
+      | inr e ↦ taken_more t _ _ _ _ _ kept (subst (λ (u : Dialogue). HasRun u.reader) (sym waits.1) waits.2) (c.in-Err.ensures.memory (ap Err e))
     ]
+
+pub returns-in_err-advance-clause-taken : goal.returns-in_err-advance-clause-taken
+returns-in_err-advance-clause-taken g c =
+    let h = c.commands.invariant.going in
+    let cut = c.in_err-advance.ensures.err h.entries h.last [] h.holds in
+    going_taken c.commands.dialogue _ _ _ _ _ _ (_, cut.certificate) (cut.text, cut.answered) _ _ h
+
+pub returns-in-Ended-clause-taken : goal.returns-in-Ended-clause-taken
+returns-in-Ended-clause-taken g c =
+    let h = c.commands.invariant.going in
+    let on = rw c.in-Ended.is at (c.in_ok-advance.ensures.ok h.entries h.last h.holds) in
+    going_taken c.commands.dialogue _ _ _ _ _ _ (_, on.0.certificate) (on.0.text, on.0.answered) _ _ h
+
+pub returns-in_err-tell_fault-in-Fault-clause-taken : goal.returns-in_err-tell_fault-in-Fault-clause-taken
+returns-in_err-tell_fault-in-Fault-clause-taken g c =
+    let s = c.commands.dialogue in
+    let h = c.commands.invariant.going in
+    let on = rw c.in-Fault.is at (c.in_ok-advance.ensures.ok h.entries h.last h.holds) in
+    let kept = going_silent s s _ _ _ _ _ _ _ _ refl on.0 h in
+    going_taken s _ _ _ _ _ _ (grows_none _ _ refl) (grows_in_part (end_answer (end_at_fault c.in-Fault.fault)) _ _ c.in_err-tell_fault-in-Fault.ensures.err) _ _ kept
+
+pub returns-in-Fault-clause-taken : goal.returns-in-Fault-clause-taken
+returns-in-Fault-clause-taken g c =
+    let s = c.commands.dialogue in
+    let h = c.commands.invariant.going in
+    let on = rw c.in-Fault.is at (c.in_ok-advance.ensures.ok h.entries h.last h.holds) in
+    let kept = going_silent s s _ _ _ _ _ _ _ _ refl on.0 h in
+    going_taken s _ _ _ _ _ _ (grows_none _ _ refl) (end_answer (end_at_fault c.in-Fault.fault), c.in_ok-tell_fault-in-Fault.ensures.ok) _ _ kept

@@ -19,7 +19,7 @@ returns-in_err-refused-clause-err g c =
     let cn = g.C.Sink.holds c.run.new.cert in
     let oo = g.O.Sink.holds c.args.out.now in
     let on = g.O.Sink.holds c.run.new.out in
-    let bytes : c.into_bytes.result.items ≡ made_text c.args.size = search rules in
+    let bytes : c.into_vec.result.items ≡ made_text c.args.size = search rules in
     let cut = told_at _ (made_text c.args.size) (λ b. IsCut c.in_ok-dialogue.dialogue.steps b (between c1 cn) (between oo on)) (c.new-script.ensures.tells ∙ ap Some bytes) c.in_err-refused.ensures.err in
     on_err c.from_residual-in_err-refused.result _ (stopped_from c.args.plan.now.steps (Some c.args.size) (made_text c.args.size) (between co cn) (between oo on) c1 c.in_ok-create_certificate.ensures.ok
     (subst (λ n. IsCut n (made_text c.args.size) (between c1 cn) (between oo on)) c.in_ok-dialogue.ensures.steps cut))
@@ -37,7 +37,7 @@ returns-in_err-line-clause-err g c =
     let cn = g.C.Sink.holds c.run.new.cert in
     let oo = g.O.Sink.holds c.args.out.now in
     let o1 = g.O.Sink.holds c.run.new.out in
-    let bytes : c.into_bytes.result.items ≡ made_text c.args.size = search rules in
+    let bytes : c.into_vec.result.items ≡ made_text c.args.size = search rules in
     let first = told_at _ (made_text c.args.size) (λ b. IsAnswered c.in_ok-dialogue.dialogue.steps b c.in_ok-refused.refused c.run.new.dialogue (between c1 cn) (between oo o1)) (c.new-script.ensures.tells ∙ ap Some bytes) c.in_ok-refused.ensures.ok in
     let h : IsAnswered c.args.plan.now.steps (made_text c.args.size) c.in_ok-refused.refused c.run.new.dialogue (between c1 cn) (between oo o1) = subst (λ n. IsAnswered n (made_text c.args.size) c.in_ok-refused.refused c.run.new.dialogue (between c1 cn) (between oo o1)) c.in_ok-dialogue.ensures.steps first in
     on_err c.from_residual-in_err-line.result _ (made_silent c.args.plan.now.steps c.args.size (made_text c.args.size) c.in_ok-refused.refused c.run.new.dialogue (between co cn) (between oo o1) c1 c.in_ok-create_certificate.ensures.ok h)
@@ -50,7 +50,7 @@ returns-in_err-write_out-clause-err g c =
     let oo = g.O.Sink.holds c.args.out.now in
     let o1 = g.O.Sink.holds c.run.new.out in
     let on = g.O.Sink.holds c.write_out.new.out in
-    let bytes : c.into_bytes.result.items ≡ made_text c.args.size = search rules in
+    let bytes : c.into_vec.result.items ≡ made_text c.args.size = search rules in
     let first = told_at _ (made_text c.args.size) (λ b. IsAnswered c.in_ok-dialogue.dialogue.steps b c.in_ok-refused.refused c.run.new.dialogue (between c1 cn) (between oo o1)) (c.new-script.ensures.tells ∙ ap Some bytes) c.in_ok-refused.ensures.ok in
     let h : IsAnswered c.args.plan.now.steps (made_text c.args.size) c.in_ok-refused.refused c.run.new.dialogue (between c1 cn) (between oo o1) = subst (λ n. IsAnswered n (made_text c.args.size) c.in_ok-refused.refused c.run.new.dialogue (between c1 cn) (between oo o1)) c.in_ok-dialogue.ensures.steps first in
     let line = c.in_ok-line.ensures h.entries h.tally in
@@ -72,7 +72,7 @@ returns-clause-ok g c =
     let oo = g.O.Sink.holds c.args.out.now in
     let o1 = g.O.Sink.holds c.run.new.out in
     let on = g.O.Sink.holds c.write_out.new.out in
-    let bytes : c.into_bytes.result.items ≡ made_text c.args.size = search rules in
+    let bytes : c.into_vec.result.items ≡ made_text c.args.size = search rules in
     let first = told_at _ (made_text c.args.size) (λ b. IsAnswered c.in_ok-dialogue.dialogue.steps b c.in_ok-refused.refused c.run.new.dialogue (between c1 cn) (between oo o1)) (c.new-script.ensures.tells ∙ ap Some bytes) c.in_ok-refused.ensures.ok in
     let h : IsAnswered c.args.plan.now.steps (made_text c.args.size) c.in_ok-refused.refused c.run.new.dialogue (between c1 cn) (between oo o1) = subst (λ n. IsAnswered n (made_text c.args.size) c.in_ok-refused.refused c.run.new.dialogue (between c1 cn) (between oo o1)) c.in_ok-dialogue.ensures.steps first in
     let line = c.in_ok-line.ensures h.entries h.tally in
@@ -86,7 +86,7 @@ returns-clause-refused g c =
     let cn = g.C.Sink.holds c.run.new.cert in
     let oo = g.O.Sink.holds c.args.out.now in
     let o1 = g.O.Sink.holds c.run.new.out in
-    let bytes : c.into_bytes.result.items ≡ made_text c.args.size = search rules in
+    let bytes : c.into_vec.result.items ≡ made_text c.args.size = search rules in
     let first = told_at _ (made_text c.args.size) (λ b. IsAnswered c.in_ok-dialogue.dialogue.steps b c.in_ok-refused.refused c.run.new.dialogue (between c1 cn) (between oo o1)) (c.new-script.ensures.tells ∙ ap Some bytes) c.in_ok-refused.ensures.ok in
     IsAnswered.ended first
 

@@ -2,7 +2,7 @@ use Rattle.std.proofs.Common.{None, refl, subst}
 use Rattle.ffc_solve.specs.Underway.{IsAnswered, IsCut, IsPausedAt}
 use Rattle.ffc_solve.proofs.ListLemmas.{between, on_err}
 use Rattle.ffc_solve.proofs.AdvanceLemmas.{err_weaker, ok_weaker}
-use Rattle.ffc_solve.proofs.EndingLemmas.{begun_creating, begun_named, if_any, on_ok, paused_from, rose_later, stopped_creating, stopped_from, stopped_headed, told_if, whole_from}
+use Rattle.ffc_solve.proofs.EndingLemmas.{begun_creating, begun_named, if_any, on_ok, paused_from, rose_later, soon_from, stopped_creating, stopped_from, stopped_headed, told_if, whole_from}
 use Rattle.ffc_solve.proofs.solve.answer_script.Goals as goal
 
 pub returns-in_err-create_certificate-clause-err : goal.returns-in_err-create_certificate-clause-err
@@ -61,3 +61,12 @@ returns-in_err-dialogue-clause-begun g c =
 
 pub returns-clause-begun : goal.returns-clause-begun
 returns-clause-begun g c = on_err c.run.result _ (begun_named c.args.plan.now.cert_name c.as_str.result.now _ _ _ _ _ c.as_str.ensures c.in_ok-create_certificate.ensures.named c.run.ensures.same_name)
+
+pub returns-clause-taken : goal.returns-clause-taken
+returns-clause-taken g c =
+    let co = g.C.Sink.holds c.args.cert.now in
+    let c1 = g.C.Sink.holds c.create_certificate.new.cert in
+    let cn = g.C.Sink.holds c.run.new.cert in
+    let oo = g.O.Sink.holds c.args.out.now in
+    let on = g.O.Sink.holds c.run.new.out in
+    told_if (g.S.Source.left c.args.script.now) _ _ (λ b h. (h.0, h.1, h.2, soon_from h.0 (between co cn) (between oo on) c1 c.in_ok-create_certificate.ensures.ok h.3)) c.run.ensures.taken

@@ -1,6 +1,6 @@
 use Rattle.std.proofs.Common.{rules, map, None, Some}
 use Rattle.ffc_solve.specs.Solving.{IsPaused, IsTaken}
-use Rattle.ffc_solve.proofs.ArgumentLemmas.{none_given, not_planned}
+use Rattle.ffc_solve.proofs.ArgumentLemmas.{none_given}
 use Rattle.ffc_solve.proofs.EndingLemmas.{ends_as, ends_memory, planned}
 use Rattle.ffc_solve.proofs.ListLemmas.{between}
 use Rattle.ffc_solve.proofs.PausedLemmas.{paused_under}
@@ -26,7 +26,7 @@ pub returns-in-Err-Memory-clause-ends : goal.returns-in-Err-Memory-clause-ends
 returns-in-Err-Memory-clause-ends g c = λ accepted read write cert bytes script. ends_memory _ _ (search rules)
 
 pub returns-in-None-clause-refused : goal.returns-in-None-clause-refused
-returns-in-None-clause-refused g c = λ refused. absurd (not_planned _ c.in-Ok.plan c.in-Ok.ensures.plan refused)
+returns-in-None-clause-refused g c = λ refused. absurd (refused c.in-Ok.ensures.plan.taken)
 
 pub returns-in-None-clause-unread : goal.returns-in-None-clause-unread
 returns-in-None-clause-unread g c = λ asked. absurd (none_given _ c.in-Ok.plan.make c.in-Ok.ensures.plan.make (search rules) asked)
@@ -37,7 +37,7 @@ returns-in-None-clause-ends g c = λ accepted read write cert bytes script.
     (λ is. read (c.answer_script.ensures.cause_script is)) (λ is. write (c.answer_script.ensures.cause_out is)) (λ is. cert (c.answer_script.ensures.cause_cert is))
 
 pub returns-clause-refused : goal.returns-clause-refused
-returns-clause-refused g c = λ refused. absurd (not_planned _ c.in-Ok.plan c.in-Ok.ensures.plan refused)
+returns-clause-refused g c = λ refused. absurd (refused c.in-Ok.ensures.plan.taken)
 
 pub returns-clause-ends : goal.returns-clause-ends
 returns-clause-ends g c = λ accepted read write cert bytes script.

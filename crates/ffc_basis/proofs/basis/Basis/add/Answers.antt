@@ -8,6 +8,6 @@ invariant_of-self g c =
     let new = c.append_generators.new.lines.items in
     let gens = c.args.gens.now in (
       added_lines g.F.Field.ORDER old new gens c.self.invariant.0 c.in-Ok.ensures.added,
-      pairs_added g.F.Field.ORDER g.O.MonoOrder.cmp old new gens c.self.inside.pairing.records.items c.self.inside.pairing.joined c.in-Ok.ensures.added (c.append_generators.ensures.lists c.self.invariant.1.lists) c.self.invariant.1,
+      pairs_added g.F.Field.ORDER g.O.MonoOrder.cmp old new gens c.self.inside.pairing.records.items c.self.inside.pairing.paired c.in-Ok.ensures.added (c.append_generators.ensures.lists c.self.invariant.1.lists) c.self.invariant.1,
       c.self.invariant.2,
     )

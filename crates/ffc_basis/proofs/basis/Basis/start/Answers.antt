@@ -13,7 +13,7 @@ invariant_of-result g c =
     let gens = c.args.gens.now in (
       AreLines-generators g.F.Field.ORDER lines gens
           (added_to_none lines gens (subst (λ ls. IsAddedTo ls lines gens) c.new-lines.ensures.items c.in_ok-append_generators.ensures.added)),
-      pairs_none g.F.Field.ORDER g.O.MonoOrder.cmp (polys_of lines) c.new.result.records.items c.new.result.joined c.new.ensures.records c.new.ensures.joined
+      pairs_none g.F.Field.ORDER g.O.MonoOrder.cmp (polys_of lines) c.new.result.records.items c.new.result.paired c.new.ensures.records c.new.ensures.paired
           (c.append_generators.ensures.lists (subst (λ ls. AreLists (polys_of ls)) (sym c.new-lines.ensures.items) lists_none)),
-      few_none (seconds c.new.result.records.items) c.new.result.joined (ap seconds c.new.ensures.records) c.new.ensures.joined,
+      few_none (seconds c.new.result.records.items) c.new.result.paired (ap seconds c.new.ensures.records) c.new.ensures.paired,
     )

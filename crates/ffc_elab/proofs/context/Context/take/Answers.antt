@@ -9,6 +9,7 @@ use Rattle.ffc_elab.specs.Reading.{IsCommandForm, IsFormOf}
 use Rattle.ffc_elab.specs.Taking.{TakesKept}
 use Rattle.ffc_words.specs.Words.{fault_of}
 use Rattle.ffc_elab.proofs.ChangeLemmas.{fault_read}
+use Rattle.ffc_elab.proofs.ContextLemmas.{context_is_sound, history_is_known, taken_has_nodes, taken_in_scope}
 use Rattle.ffc_elab.proofs.GivenLemmas.{given_tree, given_form}
 use Rattle.ffc_elab.proofs.TakeLemmas.{refused_as, stopped_as, stopped_keeps, taken_keeps, taken_as}
 use Rattle.ffc_elab.proofs.context.Context.take.Goals as goal
@@ -96,3 +97,23 @@ returns-in-Ok-take_command-clause-taken c = λ tree is.
     let so = taken_as forms words tree c.take_command.new.self r is taken in
     subst (λ (v : List (List Word)). TakesAs (known_of v) tree (command_read limits (known_of v).state tree) (Ok r) (known_of c.take.new.self.forms)) c.self.view_is
     (subst (λ (v : List (List Word)). TakesAs k tree (command_read limits k.state tree) (Ok r) (known_of v)) (sym c.take.ensures) so)
+
+pub returns-in-Ok-take_command-clause-values : goal.returns-in-Ok-take_command-clause-values
+returns-in-Ok-take_command-clause-values c = λ tree said is read.
+    let k = known_of c.args.self.now in
+    taken_has_nodes k tree c.in-Ok-take_command.command (known_of c.take.new.self.forms) (history_is_known c.args.self.now) said (returns-in-Ok-take_command-clause-taken c tree is) read
+
+pub returns-in-Ok-take_command-clause-asked : goal.returns-in-Ok-take_command-clause-asked
+returns-in-Ok-take_command-clause-asked c =
+    let tree = given_tree c.args.form.now c.args.lexer.now c.requires in
+    let k = known_of c.args.self.now in
+    taken_in_scope k tree.0 c.in-Ok-take_command.command (known_of c.take.new.self.forms) (history_is_known c.args.self.now) (returns-in-Ok-take_command-clause-taken c tree.0 tree.1)
+
+pub returns-in-Err-clause-sound : goal.returns-in-Err-clause-sound
+returns-in-Err-clause-sound c = context_is_sound _
+
+pub returns-in-Err-take_command-clause-sound : goal.returns-in-Err-take_command-clause-sound
+returns-in-Err-take_command-clause-sound c = context_is_sound _
+
+pub returns-in-Ok-take_command-clause-sound : goal.returns-in-Ok-take_command-clause-sound
+returns-in-Ok-take_command-clause-sound c = context_is_sound _

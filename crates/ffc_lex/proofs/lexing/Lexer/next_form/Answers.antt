@@ -27,14 +27,14 @@ invariant_of-self-in-Ok-None c =
     subst (λ o. AfterScan (Ok o) c.self.inside.given text c.scan.new.self) c.in-Ok-None.field-0-is (c.in-Ok-None.ensures.read c.self.inside.given text held ready) in
     kept_on text c.self.inside.given c.self.inside.fault c.self.inside.fault c.self.inside.scanner c.scan.new.self c.self.inside.window.items c.self.inside.form.bytes.items c.self.inside.form.start c.self.inside.form.end c.self.invariant c.in-Ok-None.ensures.kept (λ _. after.0)
 
-pub invariant_of-self-in-Err-Memory : goal.invariant_of-self-in-Err-Memory
-invariant_of-self-in-Err-Memory c =
+pub invariant_of-self-in-Memory : goal.invariant_of-self-in-Memory
+invariant_of-self-in-Memory c =
     let text : List ℕ = c.self.inside.input.bytes in
     let held : c.deref.result.now ≡ drop c.self.inside.scanner.kept text = c.deref.ensures.value ∙ c.self.invariant.window in
     let ready : IsReady c.self.inside.given text c.self.inside.scanner = c.self.invariant.ready c.in_default.is in
     let after : IsReady c.self.inside.given text c.scan.new.self =
-    subst (λ o. AfterStop o c.self.inside.given text c.scan.new.self) c.in-Err-Memory.field-0-is (c.in-Err-Memory.ensures.read c.self.inside.given text held ready) in
-    kept_on text c.self.inside.given c.self.inside.fault c.self.inside.fault c.self.inside.scanner c.scan.new.self c.self.inside.window.items c.self.inside.form.bytes.items c.self.inside.form.start c.self.inside.form.end c.self.invariant c.in-Err-Memory.ensures.kept (λ _. after)
+    subst (λ o. AfterStop o c.self.inside.given text c.scan.new.self) c.in-Memory.is (c.in-Err.ensures.read c.self.inside.given text held ready) in
+    kept_on text c.self.inside.given c.self.inside.fault c.self.inside.fault c.self.inside.scanner c.scan.new.self c.self.inside.window.items c.self.inside.form.bytes.items c.self.inside.form.start c.self.inside.form.end c.self.invariant c.in-Err.ensures.kept (λ _. after)
 
 pub returns-in-Ok-Some-clause-form : goal.returns-in-Ok-Some-clause-form
 returns-in-Ok-Some-clause-form c =
@@ -82,15 +82,15 @@ returns-in-Ok-None-clause-no_fault c =
     sym ((ap (λ o. due_fault o c.self.inside.input.bytes c.self.inside.given) (sym c.in_default.is)
     ∙ ap (λ v. due_fault v.fault v.text v.given) c.self.view_is)) ∙ due
 
-pub returns-in-Err-Fault-clause-stop : goal.returns-in-Err-Fault-clause-stop
-returns-in-Err-Fault-clause-stop c =
+pub returns-in-Fault-clause-stop : goal.returns-in-Fault-clause-stop
+returns-in-Fault-clause-stop c =
     let text : List ℕ = c.self.inside.input.bytes in
     let held : c.deref.result.now ≡ drop c.self.inside.scanner.kept text = c.deref.ensures.value ∙ c.self.invariant.window in
     let ready : IsReady c.self.inside.given text c.self.inside.scanner = c.self.invariant.ready c.in_default.is in
-    let after : IsStopped c.self.inside.given text c.in-Err-Fault.met =
-    subst (λ o. AfterStop o c.self.inside.given text c.scan.new.self) c.in-Err-Fault.field-0-is (c.in-Err-Fault.ensures.read c.self.inside.given text held ready) in
-    let due : due_fault None text c.self.inside.given ≡ Some c.in-Err-Fault.met = fault_due c.self.inside.given text c.in-Err-Fault.met after in (
+    let after : IsStopped c.self.inside.given text c.in-Fault.met =
+    subst (λ o. AfterStop o c.self.inside.given text c.scan.new.self) c.in-Fault.is (c.in-Err.ensures.read c.self.inside.given text held ready) in
+    let due : due_fault None text c.self.inside.given ≡ Some c.in-Fault.met = fault_due c.self.inside.given text c.in-Fault.met after in (
       sym ((ap (λ o. due_fault o c.self.inside.input.bytes c.self.inside.given) (sym c.in_default.is)
           ∙ ap (λ v. due_fault v.fault v.text v.given) c.self.view_is)) ∙ due,
-      ap (λ (l : Lexing). let x : Lexing = record l { fault = Some c.in-Err-Fault.met } in x) c.self.view_is,
+      ap (λ (l : Lexing). let x : Lexing = record l { fault = Some c.in-Fault.met } in x) c.self.view_is,
     )

@@ -13,5 +13,5 @@ returns-in-Ok-Some-clause-err g c =
     let gives = rw c.in-Ok-Some.field-0-is at c.in-Ok-Some.ensures.some in
     err_weaker c.answer.result _ _ (λ h. λ entries l more holds. h s.reader entries l more (holds_moved s.reader c.next_command.new.self s entries l holds) gives) c.answer.ensures.err
 
-pub returns-in-Err-Memory-clause-err : goal.returns-in-Err-Memory-clause-err
-returns-in-Err-Memory-clause-err g c = λ entries l more holds. cut_here c.args.self.now entries l more _ _ holds c.steps_come_first.ensures
+pub returns-in-Memory-clause-err : goal.returns-in-Memory-clause-err
+returns-in-Memory-clause-err g c = λ entries l more holds. cut_here c.args.self.now entries l more _ _ holds c.steps_come_first.ensures

@@ -1,24 +1,17 @@
 use Rattle.std.proofs.Common.{Some, None, ap, ◌∙◌, subst, refl, arith}
 use Rattle.ffc_smt.specs.Scopes.{State}
 use Rattle.ffc_smt.specs.Scripts.{Step, after}
-use Rattle.ffc_elab.specs.Histories.{check_now}
 use Rattle.ffc_elab.specs.Answers.{IsAnswered}
 use Rattle.ffc_script.specs.Answers.{check_by, ends}
 use Rattle.ffc_script.specs.Progress.{known_at}
 use Rattle.ffc_solve.proofs.AdvanceLemmas.{answered_is, exit_told, plain_err, plain_from, plain_ok}
-use Rattle.ffc_solve.proofs.CheckLemmas.{asked_texts, check_is_last, cut_check, no_texts, room_for, told_then}
+use Rattle.ffc_solve.proofs.CheckLemmas.{asked_texts, cut_check, no_texts, room_for, told_then}
 use Rattle.ffc_solve.proofs.ListLemmas.{not_by_cert, not_by_read, on_err}
 use Rattle.ffc_solve.proofs.dialogue.Dialogue.answer.Goals as goal
 
 -- the state after a command
 abbrev then : Step → State
 then x = after x.before x.tree x.command
-
-pub check-requires-clause-check : goal.check-requires-clause-check
-check-requires-clause-check g c =
-    let s = c.args.self.now in
-    let (p, entries, l, holds, gives) = c.requires.given in
-    check_is_last p s c.args.command (check_now (known_at s.reader)) gives (gives.check ∙ ap (λ d. check_by d (known_at s.reader)) c.in-Check.is)
 
 pub check-requires-clause-room : goal.check-requires-clause-room
 check-requires-clause-room g c =
@@ -31,12 +24,6 @@ returns-in_err-check-in-Check-clause-err g c =
     let s = c.args.self.now in
     let (entry, right, half) = c.in_err-check-in-Check.ensures.err in
     cut_check p s entries l c.args.command holds gives c.steps_come_first.ensures (gives.check ∙ ap (λ d. check_by d (known_at s.reader)) c.in-Check.is) entry right more _ _ half)
-
-pub check-requires-in-CheckAssuming-clause-check : goal.check-requires-in-CheckAssuming-clause-check
-check-requires-in-CheckAssuming-clause-check g c =
-    let s = c.args.self.now in
-    let (p, entries, l, holds, gives) = c.requires.given in
-    check_is_last p s c.args.command (check_now (known_at s.reader)) gives (gives.check ∙ ap (λ d. check_by d (known_at s.reader)) c.in-CheckAssuming.is)
 
 pub check-requires-in-CheckAssuming-clause-room : goal.check-requires-in-CheckAssuming-clause-room
 check-requires-in-CheckAssuming-clause-room g c =

@@ -1,12 +1,12 @@
 use Rattle.std.proofs.Common.{ℕ, List, filter, ap, ◌∙◌}
 use Rattle.ffc_term.specs.Nodes.{is_constant, node_at}
-use Rattle.ffc_check.specs.Judged.{node_check}
+use Rattle.ffc_check.specs.Judged.{judged_check}
 use Rattle.ffc_trials.proofs.LimitLemmas.{nodes_are_cone}
 use Rattle.ffc_trials.proofs.cone.Cone.of.Goals as goal
 
 pub returns : goal.returns
 returns c =
-    let check = node_check c.args.check.now in
+    let check = judged_check c.args.check.now in
     let all = nodes_are_cone check c.in_ok-nodes.nodes.items c.requires.valid c.in_ok-nodes.ensures.nodes in
     record {
       all = all;

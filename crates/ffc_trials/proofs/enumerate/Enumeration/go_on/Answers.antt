@@ -2,7 +2,7 @@ use Rattle.std.proofs.Common.{ℕ, List, length, All, sym, ap, ◌∙◌, subst,
 use Rattle.ffc_base.specs.Metering.{total}
 use Rattle.ffc_term.specs.Nodes.{IsConstantAt}
 use Rattle.ffc_rules.specs.Cones.{cone_constants}
-use Rattle.ffc_check.specs.Judged.{node_check}
+use Rattle.ffc_check.specs.Judged.{judged_check}
 use Rattle.ffc_check.proofs.AnswerLemmas.{written_back}
 use Rattle.ffc_trials.specs.Counting.{advanced}
 use Rattle.ffc_trials.proofs.EnumerateLemmas.{constants_all, next_reached}
@@ -10,11 +10,11 @@ use Rattle.ffc_trials.proofs.enumerate.Enumeration.go_on.Goals as goal
 
 pub advance-requires-clause-constants : goal.advance-requires-clause-constants
 advance-requires-clause-constants c =
-    subst (All (IsConstantAt c.args.check.now.table.now)) (sym c.as_slice.ensures.value) (constants_all (node_check c.args.check.now) c.requires.valid c.args.cone.now c.requires.cone)
+    subst (All (IsConstantAt c.args.check.now.table.now)) (sym c.as_slice.ensures.value) (constants_all (judged_check c.args.check.now) c.requires.valid c.args.cone.now c.requires.cone)
 
 pub loop-preserved : goal.loop-preserved
 loop-preserved c =
-    let check = node_check c.args.check.now in
+    let check = judged_check c.args.check.now in
     let ns = check.nodes in
     let constants = cone_constants ns check.in_force in
     let old = c.is_model.new.self.values in

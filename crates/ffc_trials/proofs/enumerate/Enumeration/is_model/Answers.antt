@@ -4,7 +4,7 @@ use Rattle.ffc_term.specs.declared.value.Value.{Value}
 use Rattle.ffc_term.specs.Values.{truth_in, values}
 use Rattle.ffc_term.proofs.RootLemmas.{same_tests}
 use Rattle.ffc_rules.specs.Assignments.{are_true}
-use Rattle.ffc_check.specs.Judged.{node_check}
+use Rattle.ffc_check.specs.Judged.{judged_check}
 use Rattle.ffc_trials.proofs.EnumerateLemmas.{assertions_among}
 use Rattle.ffc_trials.proofs.enumerate.Enumeration.is_model.Goals as goal
 
@@ -12,7 +12,7 @@ pub are_true-found-requires-clause-among : goal.are_true-found-requires-clause-a
 are_true-found-requires-clause-among c =
     let cone = c.args.cone.now in
     subst (λ (nodes : List ℕ). All (Contains nodes) c.as_slice-2.result.now) (sym c.as_slice.ensures.value)
-    (subst (All (Contains cone.nodes.items)) (sym c.as_slice-2.ensures.value) (assertions_among (node_check c.args.check.now) c.requires.valid cone c.requires.cone))
+    (subst (All (Contains cone.nodes.items)) (sym c.as_slice-2.ensures.value) (assertions_among (judged_check c.args.check.now) c.requires.valid cone c.requires.cone))
 
 pub returns-clause-model : goal.returns-clause-model
 returns-clause-model c =

@@ -1,5 +1,0 @@
-use Rattle.ffc_basis.specs.Units.{Takes}
-use Rattle.ffc_engine.proofs.fields.take_units.Given as goal
-
-abbrev pub invariant-loop : goal.invariant-loop
-invariant-loop l = Takes l.initial.meter l.meter
