@@ -5,7 +5,8 @@
 //! measures and evaluates a chain of so many nodes. `bench poly CASE TERMS TIMES` computes with polynomials of so many
 //! terms so many times. `bench roots CASE DEGREE` finds all roots of a polynomial of this degree. `bench check CASE
 //! SIZE COUNT` judges a generated entry. `bench bases CASE SIZE UNITS` completes the basis of a system of this size
-//! with so many units. Without arguments each runs on a small input.
+//! with so many units. `bench linear CASE SIZE` solves so many linear equations. Without arguments each runs on a small
+//! input.
 #![tactic(auto)]
 
 mod bases;
@@ -15,6 +16,7 @@ mod checks;
 mod drafts;
 mod elaboration;
 mod entries;
+mod linear;
 mod pieces;
 mod polynomials;
 mod refutations;
@@ -37,13 +39,14 @@ enum Part {
     Roots,
     Check,
     Bases,
+    Linear,
 }
 
 /// The numbers that stand for the arguments after a part's name.
 type Numbers = (u32, u32, u32);
 
 /// Each part with the numbers that take the place of arguments that are left out, which are a small input.
-const PARTS: [(&str, Part, Numbers); 8] = [
+const PARTS: [(&str, Part, Numbers); 9] = [
     ("lex", Part::Lex, (64, 4096, 0)),
     ("elab", Part::Elab, (64, 4096, 0)),
     ("cert", Part::Cert, (64, 4096, 0)),
@@ -52,6 +55,7 @@ const PARTS: [(&str, Part, Numbers); 8] = [
     ("roots", Part::Roots, (0, 16, 0)),
     ("check", Part::Check, (0, 4, 1)),
     ("bases", Part::Bases, (0, 3, 1_000_000)),
+    ("linear", Part::Linear, (0, 16, 0)),
 ];
 
 fn run<R: Print>(rt: &R, alloc: Global, part: Part, numbers: Numbers) -> io::Result<()> {
@@ -65,6 +69,7 @@ fn run<R: Print>(rt: &R, alloc: Global, part: Part, numbers: Numbers) -> io::Res
         Part::Roots => roots::run(rt, alloc, first, second),
         Part::Check => entries::run(rt, alloc, first, second, third),
         Part::Bases => bases::run(rt, alloc, first, second, third),
+        Part::Linear => linear::run(rt, alloc, first, second),
     }
 }
 
@@ -102,7 +107,7 @@ fn main(rt: HostRuntime) -> io::Result<()> {
     };
     let Some((part, (first, second, third))) = part_of(name.as_str()) else {
         return println!(rt;
-            "bench lex KIB PIECE | elab KIB PIECE | cert KIB PIECE | term COUNT | poly CASE TERMS TIMES | roots CASE DEGREE | check CASE SIZE COUNT | bases CASE SIZE UNITS"
+            "bench lex KIB PIECE | elab KIB PIECE | cert KIB PIECE | term COUNT | poly CASE TERMS TIMES | roots CASE DEGREE | check CASE SIZE COUNT | bases CASE SIZE UNITS | linear CASE SIZE"
         );
     };
     let numbers = (

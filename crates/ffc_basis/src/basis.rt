@@ -82,6 +82,16 @@ impl<F: Field, O: MonoOrder> Basis<F, O> {
         &self.lines
     }
 
+    /// The lines in order, where the basis is done with. It takes no memory.
+    pub fn into_lines(self) -> Vec<Line<F, O>>
+        ensures value { result.items ≡ self }
+        ensures lines { AreLines F.ORDER self }
+        ensures lists { AreLists (polys_of self) }
+    {
+        let Basis { lines, pairing: _ } = self;
+        lines
+    }
+
     /// Appends generators. Without memory nothing changes.
     pub fn add(&mut self, gens: &[Poly<F, O>]) -> Result<(), AllocError>
         ensures added { OnOk result (IsAddedTo self.old self.new gens.now) }

@@ -22,7 +22,7 @@ impl Model for Pairs {
 
 impl Pairs {
     /// No pairs. It takes no memory.
-    pub(crate) fn new(alloc: Global) -> Self
+    pub fn new(alloc: Global) -> Self
         ensures { result ≡ [] }
     {
         Pairs {

@@ -5,3 +5,5 @@ pub mod LimitLemmas
 pub mod EnumerateLemmas
 pub mod AnywhereLemmas
 pub mod ReadableLemmas
+pub mod KnownLemmas
+pub mod FieldLemmas

@@ -35,7 +35,7 @@ fn number_at(constant: &Node, values: &[Value]) -> u64
 }
 
 /// Gives a constant the value of a number.
-fn give(constant: &Node, number: u64, values: &mut [Value])
+pub fn give(constant: &Node, number: u64, values: &mut [Value])
     requires constant { is_constant constant.now ≡ true }
     requires inside { number_of_constant constant.now < length values.old }
     ensures { values.new ≡ slice_set values.old (number_of_constant constant.now)

@@ -30,14 +30,14 @@ pub struct Enumeration {
 }
 
 /// So many values, all false.
-fn all_false(alloc: Global, count: usize) -> Result<Vec<Value>, AllocError>
+pub fn all_false(alloc: Global, count: usize) -> Result<Vec<Value>, AllocError>
     ensures { IfOk result (λ values. values.items ≡ replicate count (value.Bool false)) }
 {
     vec![in alloc; Value::Bool(false); count]
 }
 
 /// Each of these nodes with 0 beside it.
-fn with_zeros(alloc: Global, ids: &[NodeId]) -> Result<Vec<(u32, u64)>, AllocError>
+pub fn with_zeros(alloc: Global, ids: &[NodeId]) -> Result<Vec<(u32, u64)>, AllocError>
     ensures { IfOk result (λ pairs. pairs.items ≡ with_zeros ids.now) }
 {
     ids.iter().map(|id| (*id, 0)).collect(alloc)

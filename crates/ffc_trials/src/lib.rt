@@ -10,6 +10,8 @@
 mod cone;
 mod counting;
 mod enumerate;
+mod field;
+mod known;
 mod limits;
 mod readable;
 mod small;
@@ -18,6 +20,8 @@ mod testing;
 
 pub use cone::Cone;
 pub use enumerate::Enumeration;
+pub use field::{field_of, field_order};
+pub use known::completed_model;
 pub use limits::{check_limits, first_count, small_span};
 pub use readable::is_readable;
 pub use small::decide_small;

@@ -1,0 +1,5 @@
+pub mod ListedLemmas
+pub mod ForcedLemmas
+pub mod WalkLemmas
+pub mod AssertedLemmas
+pub mod VisitLemmas

@@ -1,0 +1,14 @@
+pub mod ColumnLemmas
+pub mod PlacingLemmas
+pub mod PointLemmas
+pub mod TrialLemmas
+pub mod Buffers
+pub mod CoordinateLemmas
+pub mod Combining
+pub mod Congruences
+pub mod Contradictions
+pub mod Dots
+pub mod Growing
+pub mod Places
+pub mod Reducing
+pub mod UnitLemmas

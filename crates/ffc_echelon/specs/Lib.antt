@@ -1,0 +1,7 @@
+pub mod Vectors
+pub mod Forms
+pub mod Units
+pub mod Outcomes
+pub mod Placing
+pub mod Buffers
+pub mod Progress

@@ -1,0 +1,9 @@
+pub mod FormLemmas
+pub mod LineLemmas
+pub mod RefutingLemmas
+pub mod RestLemmas
+pub mod StepLemmas
+pub mod SumLemmas
+pub mod SuppositionLemmas
+pub mod TermLemmas
+pub mod UnitLemmas

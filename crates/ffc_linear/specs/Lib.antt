@@ -1,0 +1,5 @@
+pub mod Affine
+pub mod Refuting
+pub mod Resting
+pub mod Rests
+pub mod Units

@@ -1,0 +1,5 @@
+pub mod Forcing
+pub mod Combinations
+pub mod Given
+pub mod Written
+pub mod Steps
