@@ -41,7 +41,7 @@ within_of_kind kind bound spent result old new t =
       spent_only = t.spent_only;
     }
 
--- a call that does not stop for want of units
+-- a call that does not answer that the budget is spent
 pub within_freely : {A E : Type 0} (bound : ℕ) (spent : E) (result : Result A E) (old new : Spending) → (IsErrOf result spent → ⊥) → IsTakenWithin bound old new → TakesWithin bound spent result old new
 within_freely bound spent result old new other taken = record { takes = taken.takes; within = taken.within; spent_only = λ e. absurd (other e) }
 
@@ -67,7 +67,7 @@ within_turn n m count old mid new turn first second =
     let more : (n + 1) * m ≤ count * m = mul-le-mul_right m (let less : n + 1 ≤ count = omega arith in less) in
     within_later (n * m) m (count * m) old mid new (omega (arith, more)) first second
 
--- who is out of memory does not stop for want of units
+-- out of memory is not a budget that is spent
 pub memory_not_spent : {A : Type 0} (result : Result A Stop) → IsErrAnd result (λ e. e ≡ Memory) → IsErrOf result Spent → ⊥
 memory_not_spent result handed spent =
     let why = err_from_is_err_and result handed in
