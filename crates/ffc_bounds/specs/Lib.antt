@@ -1,3 +1,4 @@
+pub mod Causes
 pub mod Conjunctions
 pub mod Linear
 pub mod Rows

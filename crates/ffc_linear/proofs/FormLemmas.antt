@@ -90,7 +90,7 @@ module _ (p : ℕ) (nodes : List Node) (constants : List ℕ) where
         (plain_terms ids cs (All-tail (λ i. is_equality_at nodes p i ≡ true) id ids are))
 
     -- two polynomials that agree at monomials are the same
-    same_at_monomials : (a b : Terms) → AreTerms a → AreTerms b → ((m : Monomial) → IsMonomial m → coefficient p a m ≡ coefficient p b m) → SamePolynomial p a b
+    pub same_at_monomials : (a b : Terms) → AreTerms a → AreTerms b → ((m : Monomial) → IsMonomial m → coefficient p a m ≡ coefficient p b m) → SamePolynomial p a b
     same_at_monomials a b one two same m =
         elim (cases_eq (coefficient p a m) 0) as (λ _. coefficient p a m ≡ coefficient p b m) [
           | inr some ↦ same m (monomial_of_coefficient p a m one some)

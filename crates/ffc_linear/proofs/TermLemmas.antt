@@ -32,7 +32,7 @@ terms-scaled c [] h = tt
 terms-scaled c (t ∷ ts) h = (h.0, terms-scaled c ts h.1)
 
 -- both sides of an equality are of its order
-other_side : (nodes : List Node) (v p s t : ℕ) → IsTable nodes → IsNodeAt nodes v (Eq s t) → IsFieldAt nodes p s → IsFieldAt nodes p t
+pub other_side : (nodes : List Node) (v p s t : ℕ) → IsTable nodes → IsNodeAt nodes v (Eq s t) → IsFieldAt nodes p s → IsFieldAt nodes p t
 other_side nodes v p s t table at is =
     let fits : AreOfOneField (take v nodes) (s ∷ t ∷ []) = table.well_formed.fits v (Eq s t) at in
     let one : IsFieldAt (take v nodes) fits.order s = fits.each 0 0 (omega arith) in

@@ -1,13 +1,10 @@
 -- Units of any kinds, taken one call after another.
-use Rattle.std.proofs.Common.{◌≡◌, ℕ, ◌+◌, ◌*◌, ◌≤◌, ◌<◌, Result, IsErrOf, refl, ap, ◌∙◌, arith, mul-le-mul_right}
+use Rattle.std.proofs.Common.{◌≡◌, ℕ, ◌+◌, ◌*◌, ◌≤◌, ◌<◌, Result, IsErrOf, ◌∙◌, arith, mul-le-mul_right}
 use Rattle.std.specs.Result.{IsErrAnd}
 use Rattle.std.proofs.lemmas.Result.{err_from_is_err_and}
 use Rattle.ffc_base.specs.declared.stop.Stop.{Stop}
 use Rattle.ffc_base.specs.declared.stop.Stop.TheVariants.{Spent, Memory}
 use Rattle.ffc_base.specs.Metering.{Spending, Takes, total}
-use Rattle.ffc_base.specs.declared.meter.Unit.{Unit as Kind}
-use Rattle.ffc_echelon.specs.Units.{TakesAtMost}
-use Rattle.ffc_echelon.proofs.TrialLemmas.{total-more, budget-more}
 use Rattle.ffc_linear.specs.Units.{TakesWithin}
 
 -- at most so many units were taken
@@ -15,31 +12,14 @@ pub record IsTakenWithin (bound : ℕ) (old new : Spending) : Type 0 where
   pub takes : Takes old new
   pub within : total new ≤ total old + bound
 
-pub none_within : (bound : ℕ) (s : Spending) → IsTakenWithin bound s s
-none_within bound s = record { takes = record { same_budget = refl; taken = omega arith }; within = omega arith }
-
 pub within_later : (a b bound : ℕ) (old mid new : Spending) → a + b ≤ bound → IsTakenWithin a old mid → IsTakenWithin b mid new → IsTakenWithin bound old new
 within_later a b bound old mid new few first second = record {
   takes = record { same_budget = second.takes.same_budget ∙ first.takes.same_budget; taken = omega (arith, first.takes.taken, second.takes.taken) };
   within = omega (arith, few, first.within, second.within);
 }
 
-pub within_more : (a b : ℕ) (old new : Spending) → a ≤ b → IsTakenWithin a old new → IsTakenWithin b old new
-within_more a b old new few taken = record { takes = taken.takes; within = omega (arith, few, taken.within) }
-
 pub taken_within : {A E : Type 0} (bound : ℕ) (spent : E) (result : Result A E) (old new : Spending) → TakesWithin bound spent result old new → IsTakenWithin bound old new
 taken_within bound spent result old new t = record { takes = t.takes; within = t.within }
-
--- what is taken of one kind
-pub within_of_kind : {A E : Type 0} (kind : Kind) (bound : ℕ) (spent : E) (result : Result A E) (old new : Spending) → TakesAtMost kind bound spent result old new → TakesWithin bound spent result old new
-within_of_kind kind bound spent result old new t =
-    let units : total new ≡ total old + t.units = ap total t.taken ∙ total-more old kind t.units in
-    let same : new.budget ≡ old.budget = ap (λ (s : Spending). s.budget) t.taken ∙ budget-more old kind t.units in
-    record {
-      takes = record { same_budget = same; taken = omega (arith, units) };
-      within = omega (arith, units, t.within);
-      spent_only = t.spent_only;
-    }
 
 -- a call that does not answer that the budget is spent
 pub within_freely : {A E : Type 0} (bound : ℕ) (spent : E) (result : Result A E) (old new : Spending) → (IsErrOf result spent → ⊥) → IsTakenWithin bound old new → TakesWithin bound spent result old new

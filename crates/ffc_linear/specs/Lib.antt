@@ -1,5 +1,9 @@
 pub mod Affine
+pub mod Answering
+pub mod Decisions
+pub mod Forming
 pub mod Refuting
 pub mod Resting
 pub mod Rests
+pub mod Systems
 pub mod Units

@@ -1,12 +1,13 @@
-//! Steps of deciding linear checks: whether a check is linear within a budget (`is_linear_within`), what an echelon form of the
-//! equations leaves of the disequations (`rests_of`), and refutations by a combination of the equations (`refute_equations`,
-//! `refute_disequation`).
+//! Linear checks, decided by Gaussian elimination (`linear`): the equations are brought to echelon form, and each
+//! disequation is reduced by it. Where a combination of the equations is a constant other than 0, or is the form of a
+//! disequation, the check is refuted; else values are placed for its constants.
 #![tactic(auto)]
 
+mod affine;
+mod deciding;
 mod refuting;
 mod rests;
 mod suppositions;
+mod values;
 
-pub use refuting::{refute_disequation, refute_equations};
-pub use rests::{Rests, rests_of};
-pub use suppositions::{field_constants, is_linear_within};
+pub use deciding::{LinearAnswer, linear};

@@ -54,7 +54,7 @@ fn summands_of<F: Field>(
 }
 
 /// The refutation of equations by a combination of their forms that is a constant other than 0.
-pub fn refute_equations<F: Field>(
+pub(crate) fn refute_equations<F: Field>(
     alloc: Global,
     reasons: &[Reason],
     equations: &[NodeId],
@@ -63,18 +63,19 @@ pub fn refute_equations<F: Field>(
     requires reasons { length reasons.now ≤ 1048577 }
     requires equations { length equations.now ≤ 4096 }
     requires coefficients { length coefficients.now ≡ length equations.now }
-    ensures { IfOk result (λ lines. (c : NodeCheck) (forced : List ForcedLiteral) (constants : List ℕ) (vectors : List Coordinates)
-        → AreForcedForms c F.ORDER reasons.now forced constants equations.now vectors
-        → IsContradiction F.ORDER (length constants) vectors (map F.value coefficients.now) → AreReadable lines × AreRight c lines) }
+    ensures { IfOk result (λ lines. (c : NodeCheck) (forced : List ForcedLiteral) (constants : List ℕ)
+        (vectors : List Coordinates) → AreForcedForms c F.ORDER reasons.now forced constants equations.now vectors
+        → IsContradiction F.ORDER (length constants) vectors (map F.value coefficients.now)
+        → AreReadable lines × AreRight c lines) }
 {
     let lits = literals_of(alloc, equations, coefficients)?;
     let summands = summands_of(alloc, coefficients, &[])?;
     by_combination(alloc, reasons, F::ORDER, lits, summands)
 }
 
-/// The refutation of a disequation by a combination of equations' forms that is its form: the difference of its sides is then 0,
-/// and its line is -1 with that difference times the inverse that it would have.
-pub fn refute_disequation<F: Field>(
+/// The refutation of a disequation by a combination of equations' forms that is its form: the difference of its sides
+/// is then 0, and its line is -1 with that difference times the inverse that it would have.
+pub(crate) fn refute_disequation<F: Field>(
     alloc: Global,
     nodes: u32,
     reasons: &[Reason],
@@ -86,12 +87,13 @@ pub fn refute_disequation<F: Field>(
     requires reasons { length reasons.now ≤ 1048577 }
     requires equations { length equations.now ≤ 4096 }
     requires coefficients { length coefficients.now ≡ length equations.now }
-    ensures { IfOk result (λ lines. (c : NodeCheck) (forced : List ForcedLiteral) (constants : List ℕ) (vectors : List Coordinates)
-        (vector : Coordinates) → length c.nodes ≡ nodes
+    ensures { IfOk result (λ lines. (c : NodeCheck) (forced : List ForcedLiteral) (constants : List ℕ)
+        (vectors : List Coordinates) (vector : Coordinates) → length c.nodes ≡ nodes
         → AreForcedForms c F.ORDER reasons.now forced constants equations.now vectors
         → IsUsable c F.ORDER disequation → is_among forced (minus disequation) ≡ true
         → IsAffineForm F.ORDER c.nodes constants disequation vector
-        → IsCombination F.ORDER vectors vector [] (map F.value coefficients.now) → AreReadable lines × AreRight c lines) }
+        → IsCombination F.ORDER vectors vector [] (map F.value coefficients.now)
+        → AreReadable lines × AreRight c lines) }
 {
     let mut lits = literals_of(alloc, equations, coefficients)?;
     let place = lits.len() as u32;

@@ -1,5 +1,5 @@
 //! What elimination leaves of disequations.
-ghost use Rattle.std.specs.Prelude.{◌≡◌, ◌+◌, ◌*◌, All, IfOk, length};
+ghost use Rattle.std.specs.Prelude.{◌+◌, ◌*◌, All, IfOk, length};
 ghost use Rattle.ffc_base.specs.declared.stop.Stop.TheVariants as stops;
 ghost use Rattle.ffc_echelon.specs.Vectors.{IsBelow};
 ghost use Rattle.ffc_linear.specs.Resting.{IsRestFor, IsRestsOf};
@@ -21,7 +21,7 @@ enum Rest<F: Field> {
 
 /// What an echelon form of the equations leaves of the disequations.
 #[derive(Drop)]
-pub enum Rests<F: Field> {
+pub(crate) enum Rests<F: Field> {
     /// Something of each.
     Apart(Vec<Vector<F>>),
     /// Nothing of the one at this place, which is the combination of the equations with these coefficients.
@@ -48,7 +48,7 @@ fn rest_of<F: Field>(
 }
 
 /// Reduces each of these vectors by the rows of an echelon form, up to the first of which nothing is left.
-pub fn rests_of<F: Field>(
+pub(crate) fn rests_of<F: Field>(
     alloc: Global,
     form: &Echelon<F>,
     vectors: &[Vector<F>],

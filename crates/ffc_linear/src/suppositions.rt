@@ -1,12 +1,12 @@
 //! Which checks are linear within a budget.
-ghost use Rattle.std.specs.Prelude.{◌≡◌, ◌<◌, ◌+◌, ◌*◌, ◌&&◌, length, filter, nat_le, true, All, IfOk, if◌then◌else◌, false};
+ghost use Rattle.std.specs.Prelude.{◌≡◌, ◌<◌, ◌+◌, ◌*◌, ◌&&◌, length, filter, nat_le, All, IfOk};
+ghost use Rattle.std.specs.Prelude.{true, false, if◌then◌else◌};
 ghost use Rattle.std.specs.List.{list_all};
 ghost use Rattle.ffc_check.specs.Judged.{judged_check};
 ghost use Rattle.ffc_conjunction.specs.Literals.{AreLiteralsOf};
 ghost use Rattle.ffc_rules.specs.Cones.{is_equality};
 ghost use Rattle.ffc_bounds.specs.Conjunctions.{field_constants, has_one_order, is_field_constant, is_field_ite};
 ghost use Rattle.ffc_rules.specs.Entries.{limits};
-ghost use Rattle.ffc_rules.specs.Laws.{IsValid};
 ghost use Rattle.ffc_bounds.specs.Linear.{is_linear_within};
 ghost use Rattle.ffc_term.specs.Measuring.{degree_at, length_at};
 ghost use Rattle.ffc_term.specs.Nodes.{node_at};
@@ -60,7 +60,11 @@ fn constants_among(
 }
 
 /// The field constants of a check, in increasing order.
-pub fn field_constants(alloc: Global, check: &Check, cone: &Cone) -> Result<Vec<NodeId>, AllocError>
+pub(crate) fn field_constants(
+    alloc: Global,
+    check: &Check,
+    cone: &Cone,
+) -> Result<Vec<NodeId>, AllocError>
     requires cone { IsConeOf (judged_check check.now) cone.now }
     ensures { IfOk result (λ v. v.items ≡ field_constants check.now.table.now check.now.in_force.now) }
 {
@@ -117,7 +121,7 @@ fn are_within(constants: usize, equations: usize, disequations: usize, units: u6
 }
 
 /// Whether a conjunction is linear within so many units.
-pub fn is_linear_within(
+pub(crate) fn is_linear_within(
     check: &Check,
     cone: &Cone,
     conjunction: &Conjunction,

@@ -2,6 +2,7 @@
 use Rattle.std.proofs.Common.{◌≡◌, ℕ, ◌+◌, ◌^◌, ◌<◌, ◌≤◌, List, [], ◌∷◌, ◌++◌, length, codes, refl, sym, ap, ◌∙◌, subst, arith, lit≤, true}
 use Rattle.std.proofs.lemmas.List.{length-append}
 use Rattle.std.proofs.lemmas.Fmt.{length-decimal-le}
+use Rattle.ffc_bounds.specs.Causes.{IsCauseBeyond}
 use Rattle.ffc_cert.specs.declared.entries.Entry.TheVariants.{Unknown}
 use Rattle.ffc_cert.specs.declared.entries.Cause.{Cause}
 use Rattle.ffc_cert.specs.declared.entries.Cause.TheVariants.{Degree, Terms, Steps, Memory}
@@ -55,13 +56,14 @@ unfolding entry_fault_within
 unknown_ok c cause line = refl
 
 -- a check that is left undecided
-pub undecided_right : (budget : ℕ) (a : NodeCheck) (c : TableCheck) (stop : DecideStop) (cause : Cause) → cause ≡ cause_of stop → a ≡ node_check c → IsCause cause → IsCaused budget a stop → IsRight budget c (Unknown cause)
-undecided_right budget a c stop cause e same is caused =
+pub undecided_right : (budget : ℕ) (a : NodeCheck) (c : TableCheck) (stop : DecideStop) (cause : Cause) → cause ≡ cause_of stop → a ≡ node_check c → IsCause cause → IsCaused budget a stop → IsCauseBeyond budget a (cause_of stop) → IsRight budget c (Unknown cause)
+undecided_right budget a c stop cause e same is caused beyond =
     record {
       readable = record { well_formed = is; short = cause-short cause is };
       right = unknown_ok (node_check c) cause;
       caused = subst (λ n. is_cause_within limits n budget cause ≡ true) same (subst (λ k. is_cause_within limits a budget k ≡ true) (sym e) caused);
       allowed = tt;
+      beyond = subst (λ n. IsCauseBeyond budget n cause) same (subst (IsCauseBeyond budget a) (sym e) beyond);
     }
 
 -- what is spent within a budget of 64 bits has counts of 64 bits

@@ -1,6 +1,7 @@
 -- What a run of the solver writes: the certificate and the answers, whole or up to where it stopped.
 use Rattle.std.specs.Prelude.{◌≡◌, ℕ, ◌+◌, ◌<◌, ◌≤◌, ◌⊎◌, List, [], ◌∷◌, ◌++◌, length, take, Option, Some, None, slice_get}
 use Rattle.ffc_base.specs.Outside.{Becomes, Appends, AppendsPrefix}
+use Rattle.ffc_bounds.specs.Causes.{LeavesBeyondBounds}
 use Rattle.ffc_cert.specs.declared.entries.Entry.{Entry}
 use Rattle.ffc_cert.specs.declared.entries.Entry.TheVariants.{Sat, UnsatCases, UnsatSteps, Unknown}
 use Rattle.ffc_cert.specs.Spelling.{header, entry_text, text_of}
@@ -26,12 +27,14 @@ IsAllowed budget check UnsatCases = MayBeDecided budget (node_check check)
 IsAllowed budget check (UnsatSteps lines) = MayBeDecided budget (node_check check)
 IsAllowed budget check (Unknown cause) = Unit {0}
 
--- The entry is readable and obeys the rules for its check; where it leaves the check undecided, its cause is so.
+-- The entry is readable and obeys the rules for its check; where it leaves the check undecided, its cause is so. A check that a
+-- bound speaks of is not left undecided because the budget is spent.
 pub record IsRight (budget : ℕ) (check : TableCheck) (entry : Entry) : Type 0 where
   pub readable : IsReadable 2 entry
   pub right : EntryOk (node_check check) entry
   pub caused : Caused budget (node_check check) entry
   pub allowed : IsAllowed budget check entry
+  pub beyond : LeavesBeyondBounds budget (node_check check) entry
 
 -- entries of the first checks
 abbrev pub AreEntries : ℕ → List TableCheck → List Entry → Type 0

@@ -25,7 +25,7 @@ use ffc_cert::{Entry, write_entry};
 use ffc_core::core_of;
 use ffc_elab::{Asked, Command, Effect};
 use ffc_script::{ScriptReader, ScriptStop};
-use ffc_theory::decide;
+use ffc_theory::decide_in_order;
 use ffc_words::ScriptFault;
 use std::alloc::{AllocError, Global};
 
@@ -126,7 +126,7 @@ impl Dialogue {
         requires { IsBudget self.now.steps }
         ensures { IsRight self.now.steps (check_now (known_at self.now.reader)) result }
     {
-        match decide(self.alloc, &self.reader.check(), self.steps) {
+        match decide_in_order(self.alloc, &self.reader.check(), self.steps) {
             Ok(entry) => entry,
             Err(stop) => Entry::Unknown(stop.cause()),
         }

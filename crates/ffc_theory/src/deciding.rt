@@ -1,6 +1,7 @@
 //! Deciding a check.
-ghost use Rattle.std.specs.Prelude.{◌≡◌, ◌+◌, ◌≤◌, false, OnOk, IfOk, IfErr};
+ghost use Rattle.std.specs.Prelude.{◌≡◌, ◌+◌, ◌≤◌, true, false, OnOk, IfOk, IfErr, IfSome, IfNone};
 ghost use Rattle.ffc_base.specs.Metering.{total};
+ghost use Rattle.ffc_bounds.specs.Causes.{IsCauseBeyond};
 ghost use Rattle.ffc_cert.specs.WellFormed.{IsReadable};
 ghost use Rattle.ffc_rules.specs.Causes.{is_small};
 ghost use Rattle.ffc_rules.specs.Entries.{limits, EntryOk};
@@ -8,8 +9,9 @@ ghost use Rattle.ffc_rules.specs.Laws.{IsValid};
 ghost use Rattle.ffc_check.specs.Judged.{judged_check};
 ghost use Rattle.ffc_trials.specs.Parts.{IsConeOf};
 ghost use Rattle.ffc_trials.specs.Stops.{IsCaused, IsGiven, IsWithinLimits, IsVerdict, MayBeDecided};
-ghost use Rattle.ffc_trials.specs.Stops.{SpendsAll};
+ghost use Rattle.ffc_trials.specs.Stops.{SpendsAll, cause_of};
 
+use crate::attempts::decided_within;
 use crate::proposing::proposed;
 use ffc_base::{Meter, Unit};
 use ffc_cert::Entry;
@@ -64,6 +66,31 @@ fn decide_large(alloc: Global, check: &Check, cone: &Cone, steps: u64) -> Result
     Err(spent_by(&trials, &engine, steps))
 }
 
+/// The entry of a check that is small within the budget. None of another one whose equalities are within the limits of
+/// polynomials.
+fn settled(
+    alloc: Global,
+    check: &Check,
+    cone: &Cone,
+    steps: u64,
+) -> Result<Option<Entry>, DecideStop>
+    requires valid { IsValid (judged_check check.now) }
+    requires cone { IsConeOf (judged_check check.now) cone.now }
+    ensures given { IfOk result (λ found. IfSome found (IsGiven (judged_check check.now))) }
+    ensures small { IfOk result (λ found. IfSome found (λ _. is_small limits (judged_check check.now) steps ≡ true)) }
+    ensures large { IfOk result (λ found. IfNone found (is_small limits (judged_check check.now) steps ≡ false)) }
+    ensures within { IfOk result (λ found. IfNone found (IsWithinLimits (judged_check check.now))) }
+    ensures caused { IfErr result (IsCaused steps (judged_check check.now)) }
+    ensures beyond { IfErr result (λ stop. IsCauseBeyond steps (judged_check check.now) (cause_of stop)) }
+{
+    if let Some(span) = small_span(check, cone, steps) {
+        let entry = decide_small(alloc, check, cone, span, steps)?;
+        return Ok(Some(entry));
+    }
+    check_limits(check, cone)?;
+    Ok(None)
+}
+
 /// Decides a check within a budget of units of work.
 ///
 /// A check with few assignments is gone through. Of another one whose equalities are within the limits of polynomials, some
@@ -82,9 +109,33 @@ pub fn decide(alloc: Global, check: &Check, steps: u64) -> Result<Entry, DecideS
     ensures caused { IfErr result (IsCaused steps (judged_check check.now)) }
 {
     let cone = Cone::of(alloc, check)?;
-    if let Some(span) = small_span(check, &cone, steps) {
-        return decide_small(alloc, check, &cone, span, steps);
+    if let Some(entry) = settled(alloc, check, &cone, steps)? {
+        return Ok(entry);
     }
-    check_limits(check, &cone)?;
+    decide_large(alloc, check, &cone, steps)
+}
+
+/// Decides a check as `decide` does, after the attempts with a bound. Each has a meter of its own with `steps` units, so the
+/// units that an undecided check states are those of the assignments and the engine.
+///
+/// # Errors
+///
+/// As those of `decide`; the budget is spent only where no bound speaks of the check (`IsCauseBeyond`).
+pub fn decide_in_order(alloc: Global, check: &Check, steps: u64) -> Result<Entry, DecideStop>
+    requires valid { IsValid (judged_check check.now) }
+    ensures readable { IfOk result (IsReadable 2) }
+    ensures right { IfOk result (EntryOk (judged_check check.now)) }
+    ensures verdict { IfOk result IsVerdict }
+    ensures decided { OnOk result (MayBeDecided steps (judged_check check.now)) }
+    ensures caused { IfErr result (IsCaused steps (judged_check check.now)) }
+    ensures beyond { IfErr result (λ stop. IsCauseBeyond steps (judged_check check.now) (cause_of stop)) }
+{
+    let cone = Cone::of(alloc, check)?;
+    if let Some(entry) = settled(alloc, check, &cone, steps)? {
+        return Ok(entry);
+    }
+    if let Some(entry) = decided_within(alloc, check, &cone, steps)? {
+        return Ok(entry);
+    }
     decide_large(alloc, check, &cone, steps)
 }

@@ -13,4 +13,4 @@ returns-in-Err c =
     let a = judged_check c.check.result in
     let e = c.check.ensures in
     undecided_right c.args.self.now.steps a check c.in-Err.stop c.cause.result c.cause.ensures (same_check c.check.result check e.table e.declared e.in_force e.first_order)
-    (subst IsCause (sym c.cause.ensures) (cause_range c.args.self.now.steps a c.in-Err.stop (omega (arith, c.requires.few)) c.in-Err.ensures.caused)) c.in-Err.ensures.caused
+    (subst IsCause (sym c.cause.ensures) (cause_range c.args.self.now.steps a c.in-Err.stop (omega (arith, c.requires.few)) c.in-Err.ensures.caused)) c.in-Err.ensures.caused c.in-Err.ensures.beyond

@@ -1,0 +1,74 @@
+-- Checks that no bound speaks of.
+use Rattle.std.proofs.Common.{◌≡◌, ℕ, Bool, true, false, ◌&&◌, ◌||◌, nat_lt, nat_le, List, [], ◌∷◌, refl, sym, ap, ◌∙◌, inl, inr, arith, Option, Some, None, IfNone}
+use Rattle.std.specs.List.{list_all, list_any}
+use Rattle.std.proofs.lemmas.Bool.{false≢true, cases_Bool}
+use Rattle.std.proofs.lemmas.Bool.Decides.{nat_tests}
+use Rattle.ffc_field.specs.declared.id.FieldId.{FieldId}
+use Rattle.ffc_bounds.specs.Causes.{IsBeyondBounds, IsCauseBeyond}
+use Rattle.ffc_bounds.specs.Conjunctions.{is_conjunction, has_no_ite, has_one_order}
+use Rattle.ffc_bounds.specs.Linear.{is_affine, is_linear, is_linear_within}
+use Rattle.ffc_rules.specs.Cones.{atoms}
+use Rattle.ffc_rules.specs.Entries.{NodeCheck, limits}
+use Rattle.ffc_term.specs.Measuring.{degree_at, length_at}
+use Rattle.ffc_trials.specs.declared.stop.DecideStop.{DecideStop}
+use Rattle.ffc_trials.specs.declared.stop.DecideStop.TheVariants as stops
+use Rattle.ffc_trials.specs.Stops.{cause_of, IsPassed}
+
+third_fails : (a b c d e : Bool) → c ≡ false → ((a && (b && (c && d))) && e) ≡ false
+third_fails a b true d e is = absurd (false≢true (sym is))
+third_fails true true false d e is = refl
+third_fails true false false d e is = refl
+third_fails false b false d e is = refl
+
+two_fields_beyond : (budget : ℕ) (c : NodeCheck) → has_one_order c.nodes c.in_force ≡ false → IsBeyondBounds budget c
+unfolding is_linear is_linear_within
+two_fields_beyond budget c two = third_fails (is_conjunction c.nodes c.in_force) (has_no_ite c.nodes c.in_force) (has_one_order c.nodes c.in_force) (is_affine limits c) _ two
+
+-- a check that is not over one field is not linear
+pub no_field_beyond : (budget : ℕ) (c : NodeCheck) (found : Option FieldId) → ((id : FieldId) → found ≡ Some id → ⊥)
+    → IfNone found (has_one_order c.nodes c.in_force ≡ false) → IsBeyondBounds budget c
+no_field_beyond budget c None none two = two_fields_beyond budget c two
+no_field_beyond budget c (Some id) none two = absurd (none id refl)
+
+fourth_fails : (a b c d e : Bool) → d ≡ false → ((a && (b && (c && d))) && e) ≡ false
+fourth_fails a b c true e is = absurd (false≢true (sym is))
+fourth_fails true true true false e is = refl
+fourth_fails true true false false e is = refl
+fourth_fails true false c false e is = refl
+fourth_fails false b c false e is = refl
+
+not_affine_beyond : (budget : ℕ) (c : NodeCheck) → is_affine limits c ≡ false → IsBeyondBounds budget c
+unfolding is_linear is_linear_within
+not_affine_beyond budget c high = fourth_fails (is_conjunction c.nodes c.in_force) (has_no_ite c.nodes c.in_force) (has_one_order c.nodes c.in_force) (is_affine limits c) _ high
+
+-- where one of some passes a test, and none that does is right, not all are right
+one_fails : (test right : ℕ → Bool) → ((id : ℕ) → test id ≡ true → right id ≡ false) → (ids : List ℕ) → list_any test ids ≡ true → list_all right ids ≡ false
+one_fails test right fails [] any = absurd (false≢true any)
+one_fails test right fails (id ∷ ids) any =
+    elim (cases_Bool (test id)) as (λ _. (right id && list_all right ids) ≡ false) [
+      | inl passes ↦ ap (λ b. b && list_all right ids) (fails id passes)
+      | inr other ↦ rest_fails (right id) (list_all right ids) (one_fails test right fails ids (sym (ap (λ b. b || list_any test ids) other) ∙ any))
+    ]
+  where
+    rest_fails : (a b : Bool) → b ≡ false → (a && b) ≡ false
+    rest_fails true b is = is
+    rest_fails false b is = refl
+
+too_high : (d : ℕ) (b : Bool) → nat_lt 255 d ≡ true → (nat_le d 1 && b) ≡ false
+too_high d b high = ap (λ a. a && b) (let no : nat_le d 1 ≡ false = grind (arith, nat_tests, high) in no)
+
+too_long : (n : ℕ) (b : Bool) → nat_lt 65536 n ≡ true → (b && nat_le n 65536) ≡ false
+too_long n b long = both_fail b (nat_le n 65536) (grind (arith, nat_tests, long))
+  where
+    both_fail : (a b : Bool) → b ≡ false → (a && b) ≡ false
+    both_fail true b is = is
+    both_fail false b is = refl
+
+-- a check with an equality that passes a limit is not linear
+pub limit_beyond : (budget : ℕ) (c : NodeCheck) (stop : DecideStop) → IsPassed c stop → IsCauseBeyond budget c (cause_of stop)
+limit_beyond budget c (stops.Spent t r a k) passed = absurd passed
+limit_beyond budget c stops.TooHigh passed =
+    not_affine_beyond budget c (one_fails (λ id. nat_lt 255 (degree_at c.nodes id)) _ (λ id high. too_high (degree_at c.nodes id) (nat_le (length_at c.nodes id) 65536) high) (atoms c.nodes c.in_force) passed)
+limit_beyond budget c stops.TooLong passed =
+    not_affine_beyond budget c (one_fails (λ id. nat_lt 65536 (length_at c.nodes id)) _ (λ id long. too_long (length_at c.nodes id) (nat_le (degree_at c.nodes id) 1) long) (atoms c.nodes c.in_force) passed.1)
+limit_beyond budget c stops.Memory passed = tt
