@@ -2,7 +2,9 @@ pub mod AddedLemmas
 pub mod BoundLemmas
 pub mod ChainLemmas
 pub mod CoprimeLemmas
+pub mod DivisorLemmas
 pub mod FewLemmas
+pub mod IndexLemmas
 pub mod LineLemmas
 pub mod Lists
 pub mod Mapped
@@ -11,6 +13,7 @@ pub mod OrderedTerms
 pub mod PairLemmas
 pub mod PairTableLemmas
 pub mod PartLemmas
+pub mod PartnerLemmas
 pub mod RaisedLemmas
 pub mod ReductionLemmas
 pub mod SPolynomialLemmas

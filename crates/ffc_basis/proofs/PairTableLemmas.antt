@@ -1,5 +1,5 @@
 -- What is known of pairs, where lines are appended and dropped, and where no pair is pending.
-use Rattle.std.proofs.Common.{◌≡◌, ◌≢◌, ℕ, zero, suc, ◌+◌, ◌<◌, ◌≤◌, ◌⊎◌, List, [], ◌∷◌, ◌++◌, length, get_or, set, take, drop, map, min, Bool, true, false, cond, refl, sym, ap, ◌∙◌, subst, inl, inr, arith, nat_lt, nat_le, filter, length-append, if◌then◌else◌}
+use Rattle.std.proofs.Common.{◌≡◌, ◌≢◌, ℕ, zero, suc, ◌+◌, ◌<◌, ◌≤◌, ◌⊎◌, List, [], ◌∷◌, ◌++◌, length, get_or, set, take, drop, map, min, Bool, true, false, cond, refl, sym, ap, ◌∙◌, subst, inl, inr, arith, nat_lt, nat_le, filter, length-append, if◌then◌else◌, Contains}
 use Rattle.std.proofs.Math.ListN.{get_or-append}
 use Rattle.std.proofs.lemmas.Bool.{cases_eq, cases_order}
 use Rattle.std.proofs.lemmas.Bool.Decides.{nat_tests}
@@ -18,6 +18,7 @@ use Rattle.ffc_basis.specs.PairTable.{AreBothClosed, AreNeedless, IsState, IsRec
 use Rattle.ffc_basis.proofs.LineLemmas.{taken_more}
 use Rattle.ffc_basis.proofs.Lists.{any_default, lists_take}
 use Rattle.ffc_basis.proofs.PairLemmas.{grown_pairs_close, same_line_closes}
+use Rattle.ffc_basis.proofs.PartnerLemmas.{cases_in}
 
 -- ---- lists
 
@@ -196,19 +197,28 @@ module _ (p : ℕ) (cmp : Monomial → Monomial → Ordering) where
   IsColumn gs rs second first =
       (i : ℕ) → i < first → HasRecord rs i second ⊎ AreNeedless p cmp (get_or gs i []) (get_or gs second [])
 
-  pub column_push : (gs : List Terms) (rs : List PairRecord) (second first : ℕ) (r : PairRecord) → r.first ≡ first → r.second ≡ second → IsColumn gs rs second first → IsColumn gs (rs ++ r ∷ []) second (first + 1)
-  column_push gs rs second first r e f v i h =
-      elim (last_or_before i first h) [
-        | inl here ↦
-            inl (subst (λ x. HasRecord (rs ++ r ∷ []) x second) (e ∙ sym here) (subst (HasRecord (rs ++ r ∷ []) r.first) f (has_pushed rs r)))
-        | inr low ↦ elim (v i low) [ inl there ↦ inl (has_push rs r i second there) | inr needless ↦ inr needless ]
+  -- each is, or its first line is still among some
+  abbrev pub IsOpenColumn : List Terms → List PairRecord → ℕ → List ℕ → Type 0
+  IsOpenColumn gs rs second keys =
+      (i : ℕ) → i < second → (HasRecord rs i second ⊎ AreNeedless p cmp (get_or gs i []) (get_or gs second [])) ⊎ Contains keys i
+
+  pub open_pushed : (gs : List Terms) (rs : List PairRecord) (second first : ℕ) (rest : List ℕ) (r : PairRecord) → r.first ≡ first → r.second ≡ second
+      → IsOpenColumn gs rs second (first ∷ rest) → IsOpenColumn gs (rs ++ r ∷ []) second rest
+  open_pushed gs rs second first rest r e f v i h =
+      elim (v i h) as (λ _. (HasRecord (rs ++ r ∷ []) i second ⊎ AreNeedless p cmp (get_or gs i []) (get_or gs second [])) ⊎ Contains rest i) [
+        | inl (inl there) ↦ inl (inl (has_push rs r i second there))
+        | inl (inr needless) ↦ inl (inr needless)
+        | inr listed ↦ elim (cases_in first i rest listed) as (λ _. (HasRecord (rs ++ r ∷ []) i second ⊎ AreNeedless p cmp (get_or gs i []) (get_or gs second [])) ⊎ Contains rest i) [
+          | inl here ↦ inl (inl (subst (λ x. HasRecord (rs ++ r ∷ []) x second) (e ∙ here) (subst (HasRecord (rs ++ r ∷ []) r.first) f (has_pushed rs r))))
+          | inr later ↦ inr later
+        ]
       ]
 
-  pub column_needless : (gs : List Terms) (rs : List PairRecord) (second first : ℕ) → AreNeedless p cmp (get_or gs first []) (get_or gs second []) → IsColumn gs rs second first → IsColumn gs rs second (first + 1)
-  column_needless gs rs second first needless v i h =
-      elim (last_or_before i first h) [
-        | inl here ↦ inr (subst (λ x. AreNeedless p cmp (get_or gs x []) (get_or gs second [])) (sym here) needless)
-        | inr low ↦ v i low
+  pub open_ended : (gs : List Terms) (rs : List PairRecord) (second : ℕ) (keys : List ℕ) → length keys ≡ 0 → IsOpenColumn gs rs second keys → IsColumn gs rs second second
+  open_ended gs rs second keys none v i h =
+      elim (v i h) as (λ _. HasRecord rs i second ⊎ AreNeedless p cmp (get_or gs i []) (get_or gs second [])) [
+        | inl known ↦ known
+        | inr (k, below, at) ↦ absurd (omega (arith, below, none))
       ]
 
   -- so each pair of one line more is

@@ -1,6 +1,8 @@
 pub mod Chains
 pub mod Completed
 pub mod Completion
+pub mod Dividing
+pub mod Indexing
 pub mod Lines
 pub mod Outcomes
 pub mod PairTable

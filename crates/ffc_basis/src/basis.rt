@@ -5,11 +5,13 @@ ghost use Rattle.ffc_ring.specs.Polynomial.{SamePolynomial, difference};
 ghost use Rattle.ffc_basis.specs.Completion.{ReducesToZero};
 ghost use Rattle.ffc_basis.specs.Completed.{IsFront, IsCompletion, IsProgress, HasTaken};
 ghost use Rattle.ffc_basis.specs.Units.{TakesReductions, IsReductionBound, IsCompletionBound};
+ghost use Rattle.ffc_basis.specs.Indexing.{IsIndexOf};
 ghost use Rattle.ffc_basis.specs.Lines.{polys_of, combination, AreBefore, AreLines, ArePolynomials, AreGenerators};
 ghost use Rattle.ffc_basis.specs.Lines.{AreLists, IsAddedTo};
 ghost use Rattle.ffc_basis.specs.Reduction.{ArePartsAtMost, IsReduced, IsStopped};
 
 use crate::completion::{Completion, Progress};
+use crate::index::{Index, push_line};
 use crate::line::Line;
 use crate::pairing::{Pairing, advance};
 use crate::reduction::{Reduced, reduce_by};
@@ -24,6 +26,7 @@ use std::marker::Model;
 #[derive(Debug)]
 pub struct Basis<F: Field, O: MonoOrder> {
     lines: Vec<Line<F, O>>,
+    index: Index,
     pairing: Pairing,
 }
 
@@ -31,6 +34,7 @@ impl<F: Field, O: MonoOrder> Drop for Basis<F, O> {
     fn drop(self) {
         let Basis {
             lines: _,
+            index: _,
             pairing: _,
         } = self;
     }
@@ -38,6 +42,7 @@ impl<F: Field, O: MonoOrder> Drop for Basis<F, O> {
 
 impl<F: Field, O: MonoOrder> Model for Basis<F, O> {
     ghost use Rattle.std.specs.Prelude.{List};
+    ghost use Rattle.ffc_basis.specs.Indexing.{IsIndexOf};
     ghost use Rattle.ffc_basis.specs.Lines.{AreLines, polys_of};
     ghost use Rattle.ffc_basis.specs.PairTable.{ArePairs, AreFew, seconds};
     ghost use Rattle.ffc_basis.specs.declared.line.Line.{Line};
@@ -48,7 +53,8 @@ impl<F: Field, O: MonoOrder> Model for Basis<F, O> {
 
     ghost invariant = { λ b. AreLines F.ORDER b.lines.items
         × ArePairs F.ORDER O.cmp (polys_of b.lines.items) b.pairing.records.items b.pairing.paired
-        × AreFew (seconds b.pairing.records.items) b.pairing.paired };
+        × AreFew (seconds b.pairing.records.items) b.pairing.paired
+        × IsIndexOf F.ORDER O.cmp (polys_of b.lines.items) b.index };
 }
 
 impl<F: Field, O: MonoOrder> Basis<F, O> {
@@ -58,6 +64,7 @@ impl<F: Field, O: MonoOrder> Basis<F, O> {
     {
         Basis {
             lines: Vec::new(alloc),
+            index: Index::new(alloc),
             pairing: Pairing::new(alloc),
         }
     }
@@ -67,9 +74,11 @@ impl<F: Field, O: MonoOrder> Basis<F, O> {
         ensures { IfOk result (λ b. AreGenerators b gens.now) }
     {
         let mut lines = Vec::new(alloc);
-        append_generators(&mut lines, gens)?;
+        let mut index = Index::new(alloc);
+        append_generators(&mut lines, &mut index, gens)?;
         Ok(Basis {
             lines,
+            index,
             pairing: Pairing::new(alloc),
         })
     }
@@ -88,7 +97,11 @@ impl<F: Field, O: MonoOrder> Basis<F, O> {
         ensures lines { AreLines F.ORDER self }
         ensures lists { AreLists (polys_of self) }
     {
-        let Basis { lines, pairing: _ } = self;
+        let Basis {
+            lines,
+            index: _,
+            pairing: _,
+        } = self;
         lines
     }
 
@@ -98,9 +111,10 @@ impl<F: Field, O: MonoOrder> Basis<F, O> {
         ensures unchanged { OnErr result (self.new ≡ self.old) }
     {
         let count = self.lines.len();
-        match append_generators(&mut self.lines, gens) {
+        match append_generators(&mut self.lines, &mut self.index, gens) {
             Ok(()) => Ok(()),
             Err(stop) => {
+                self.index.cut(&self.lines, count);
                 self.lines.truncate(count);
                 Err(stop)
             }
@@ -112,6 +126,7 @@ impl<F: Field, O: MonoOrder> Basis<F, O> {
         requires { len ≤ length self.old }
         ensures { self.new ≡ take len self.old }
     {
+        self.index.cut(&self.lines, len);
         self.lines.truncate(len);
         self.pairing.cut(len);
     }
@@ -153,7 +168,13 @@ impl<F: Field, O: MonoOrder> Basis<F, O> {
         ensures unchanged { IsErrOf result Stop.Memory → self.new ≡ self.old }
     {
         let count = self.lines.len();
-        match advance(&mut self.lines, &mut self.pairing, units, meter) {
+        match advance(
+            &mut self.lines,
+            &mut self.index,
+            &mut self.pairing,
+            units,
+            meter,
+        ) {
             Ok(progress) => Ok(progress),
             Err(Stop::Spent) => Err(Stop::Spent),
             Err(Stop::Memory) => {
@@ -181,7 +202,13 @@ impl<F: Field, O: MonoOrder> Basis<F, O> {
         ensures bound { IsReductionBound F.ORDER O.cmp (polys_of self.old) poly.now meter.old meter.new }
         ensures unchanged { self.new ≡ self.old }
     {
-        reduce_by(*self.lines.allocator(), self.lines(), poly, meter)
+        reduce_by(
+            *self.lines.allocator(),
+            self.lines.as_slice(),
+            &self.index,
+            poly,
+            meter,
+        )
     }
 }
 
@@ -202,16 +229,19 @@ fn generator<F: Field, O: MonoOrder>(
 /// Appends generators as lines, as many as there is memory for.
 fn append_generators<F: Field, O: MonoOrder>(
     lines: &mut Vec<Line<F, O>>,
+    index: &mut Index,
     gens: &[Poly<F, O>],
 ) -> Result<(), AllocError>
     ensures added { OnOk result (IsAddedTo lines.old.items lines.new.items gens.now) }
+    ensures index { IsIndexOf F.ORDER O.cmp (polys_of lines.old.items) index.old
+        → IsIndexOf F.ORDER O.cmp (polys_of lines.new.items) index.new }
     ensures lists { AreLists (polys_of lines.old.items) → AreLists (polys_of lines.new.items) }
     ensures kept { take (vec_len lines.old) lines.new.items ≡ lines.old.items }
 {
     for poly in gens {
         let _length = poly.len();
         let line = generator(*lines.allocator(), poly)?;
-        lines.push(line)?;
+        push_line(lines, index, line)?;
     }
     Ok(())
 }

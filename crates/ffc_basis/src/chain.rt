@@ -10,9 +10,12 @@
 ghost use Rattle.std.specs.Prelude.{◌<◌, [], length, get_or, IsTrue, IfOk, IfSome};
 ghost use Rattle.std.specs.Bool.{OnFalse};
 ghost use Rattle.ffc_basis.specs.Chains.{IsRaised, AreApart, IsUnder, IsLeadLcm, IsTop};
+ghost use Rattle.ffc_basis.specs.Indexing.{IsIndexOf};
 ghost use Rattle.ffc_basis.specs.Lines.{polys_of, AreLists};
 ghost use Rattle.ffc_basis.specs.PairTable.{AreRecords, AreBothClosed};
 
+use crate::dividing::divisors;
+use crate::index::Index;
 use crate::leads::follows_by_leads;
 use crate::line::Line;
 use crate::pair::PairRecord;
@@ -266,10 +269,12 @@ fn is_chained_by<F: Field, O: MonoOrder>(
 pub(crate) fn is_chained<F: Field, O: MonoOrder>(
     alloc: Global,
     lines: &[Line<F, O>],
+    index: &Index,
     records: &[PairRecord],
     i: usize,
     j: usize,
 ) -> Result<bool, AllocError>
+    requires index { IsIndexOf F.ORDER O.cmp (polys_of lines.now) index.now }
     requires first { i < length lines.now }
     requires second { j < length lines.now }
     requires records { AreRecords F.ORDER O.cmp (polys_of lines.now) records.now }
@@ -277,10 +282,11 @@ pub(crate) fn is_chained<F: Field, O: MonoOrder>(
     ensures { IfOk result (λ b. IsTrue b → AreBothClosed F.ORDER O.cmp (polys_of lines.now) i j) }
 {
     let Some(top) = top_of(alloc, &lines[i].poly, &lines[j].poly)? else {
-        return follows_by_leads(alloc, lines, records, i, j);
+        return follows_by_leads(alloc, lines, index, records, i, j);
     };
-    for third in 0..lines.len() {
-        if is_chained_by(alloc, lines, records, i, j, third, &top)? {
+    let thirds = divisors(alloc, lines, index, top.lcm.as_ref())?;
+    for third in &thirds {
+        if is_chained_by(alloc, lines, records, i, j, *third, &top)? {
             return Ok(true);
         }
     }

@@ -1,13 +1,16 @@
 //! Buchberger's second criterion for two lines whose second terms cancel in their S-polynomial as well. Then the second
 //! monomials tell nothing of its leading monomial, so S-polynomials are made to compare those.
-ghost use Rattle.std.specs.Prelude.{◌≡◌, ℕ, ◌<◌, [], length, IsTrue, IfOk, IfSome, IfNone};
+ghost use Rattle.std.specs.Prelude.{◌≡◌, ℕ, ◌<◌, [], All, length, IsTrue, IfOk, IfSome, IfNone};
 ghost use Rattle.ffc_mono.specs.Leading.{IsLeading};
 ghost use Rattle.ffc_basis.specs.Chains.{IsWholeOfPair, IsNoHigher};
 ghost use Rattle.ffc_basis.specs.Completion.{IsPairClosed};
+ghost use Rattle.ffc_basis.specs.Indexing.{IsIndexOf};
 ghost use Rattle.ffc_basis.specs.Lines.{polys_of, AreLists};
 ghost use Rattle.ffc_basis.specs.PairTable.{AreRecords, AreBothClosed};
 
 use crate::chain::{is_closed_between, is_led_by_divisor};
+use crate::dividing::divisors;
+use crate::index::Index;
 use crate::line::Line;
 use crate::pair::PairRecord;
 use crate::reduction::past_limit;
@@ -142,36 +145,33 @@ fn follows<F: Field, O: MonoOrder>(
     Ok(true)
 }
 
-/// Whether a third line's leading monomial divides the least common multiple of those of two lines. This is seen before
-/// any S-polynomial is made, since on sparse lines there is mostly none.
-fn has_third<F: Field, O: MonoOrder>(
+/// The lines whose leading monomials divide the least common multiple of those of two lines. They are found before any
+/// S-polynomial is made, since on sparse lines there are mostly none but the two.
+fn thirds_of<F: Field, O: MonoOrder>(
     alloc: Global,
     lines: &[Line<F, O>],
+    index: &Index,
     i: usize,
     j: usize,
-) -> Result<bool, AllocError>
+) -> Result<Vec<usize>, AllocError>
+    requires index { IsIndexOf F.ORDER O.cmp (polys_of lines.now) index.now }
     requires first { i < length lines.now }
     requires second { j < length lines.now }
+    ensures { IfOk result (λ found. All (λ k. k < length lines.now) found.items) }
 {
     let Some(m) = lines[i].poly.lead() else {
-        return Ok(false);
+        return Ok(Vec::new(alloc));
     };
     let Some(n) = lines[j].poly.lead() else {
-        return Ok(false);
+        return Ok(Vec::new(alloc));
     };
-    let lcm = match lcm_of(alloc, m.1, n.1) {
-        Ok(lcm) => lcm,
+    match lcm_of(alloc, m.1, n.1) {
+        Ok(lcm) => divisors(alloc, lines, index, lcm.as_ref()),
         Err(stop) => {
             past_limit(stop)?;
-            return Ok(false);
-        }
-    };
-    for third in 0..lines.len() {
-        if third != i && third != j && is_led_by_divisor(&lines[third].poly, &lcm) {
-            return Ok(true);
+            Ok(Vec::new(alloc))
         }
     }
-    Ok(false)
 }
 
 /// Whether the pair of two lines follows from its pairs with a third one, which are done.
@@ -208,24 +208,28 @@ fn is_followed<F: Field, O: MonoOrder>(
 pub(crate) fn follows_by_leads<F: Field, O: MonoOrder>(
     alloc: Global,
     lines: &[Line<F, O>],
+    index: &Index,
     records: &[PairRecord],
     i: usize,
     j: usize,
 ) -> Result<bool, AllocError>
+    requires index { IsIndexOf F.ORDER O.cmp (polys_of lines.now) index.now }
     requires first { i < length lines.now }
     requires second { j < length lines.now }
     requires records { AreRecords F.ORDER O.cmp (polys_of lines.now) records.now }
     requires lists { AreLists (polys_of lines.now) }
     ensures { IfOk result (λ b. IsTrue b → AreBothClosed F.ORDER O.cmp (polys_of lines.now) i j) }
 {
-    if !has_third(alloc, lines, i, j)? {
+    let thirds = thirds_of(alloc, lines, index, i, j)?;
+    // The two lines are among them.
+    if thirds.len() <= 2 {
         return Ok(false);
     }
     let Some(whole) = whole_of(alloc, lines, i, j)? else {
         return Ok(false);
     };
-    for third in 0..lines.len() {
-        if is_followed(alloc, lines, records, i, j, third, &whole)? {
+    for third in &thirds {
+        if is_followed(alloc, lines, records, i, j, *third, &whole)? {
             return Ok(true);
         }
     }

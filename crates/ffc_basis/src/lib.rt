@@ -4,6 +4,8 @@
 mod basis;
 mod chain;
 mod completion;
+mod dividing;
+mod index;
 mod leads;
 mod line;
 mod pair;

@@ -3,6 +3,7 @@ ghost use Rattle.std.specs.Prelude.{◌≡◌, ◌+◌, ◌<◌, ◌≤◌, [], 
 ghost use Rattle.std.specs.Prelude.{IfOk, IfSome, IfNone, OnOk};
 ghost use Rattle.std.specs.Bool.{OnTrue, OnFalse};
 ghost use Rattle.ffc_base.specs.Metering.{Metered};
+ghost use Rattle.ffc_basis.specs.Indexing.{IsIndexOf};
 ghost use Rattle.ffc_basis.specs.Lines.{polys_of, AreLines, AreLists};
 ghost use Rattle.ffc_basis.specs.Completion.{IsConstantLine};
 ghost use Rattle.ffc_basis.specs.Completed.{IsFront, IsProgress, HasTaken};
@@ -14,6 +15,7 @@ ghost use Rattle.ffc_basis.specs.Units.{TakesReductions, IsPairBound, IsPairsBou
 
 use crate::chain::is_chained;
 use crate::completion::{Completion, Progress};
+use crate::index::{Index, push_line};
 use crate::line::Line;
 use crate::pair::{PairRecord, PairState, Pairs};
 use crate::queue::Queue;
@@ -119,29 +121,34 @@ pub(crate) fn is_needed<F: Field, O: MonoOrder>(a: &Poly<F, O>, b: &Poly<F, O>) 
     !m.is_coprime(n)
 }
 
-/// Makes the pairs of a line with the earlier ones.
+/// Makes the pairs of a line with the earlier ones whose leading monomials have a variable in common with its own.
 fn pair_line<F: Field, O: MonoOrder>(
     alloc: Global,
     lines: &[Line<F, O>],
+    index: &Index,
     records: &mut Vec<PairRecord>,
     queue: &mut Queue,
     second: usize,
 ) -> Result<(), AllocError>
+    requires index { IsIndexOf F.ORDER O.cmp (polys_of lines.now) index.now }
     requires within { second < length lines.now }
     requires pairs { ArePairs F.ORDER O.cmp (polys_of lines.now) records.old.items second }
     ensures more { IsPaired second second records.old.items records.new.items }
     ensures paired { OnOk result (ArePairs F.ORDER O.cmp (polys_of lines.now) records.new.items (second + 1)) }
 {
-    for first in 0..second {
-        if is_needed(&lines[first].poly, &lines[second].poly) {
-            let pair = PairRecord {
-                first,
-                second,
-                state: PairState::Pending,
-            };
-            queue.put(alloc, lines, &pair, records.len())?;
-            records.push(pair)?;
-        }
+    let Some((_, lead)) = lines[second].poly.lead() else {
+        return Ok(());
+    };
+    let mut partners = index.partners(alloc, lead, second)?;
+    let _count = partners.len();
+    while let Some(first) = partners.pop_first() {
+        let pair = PairRecord {
+            first,
+            second,
+            state: PairState::Pending,
+        };
+        queue.put(alloc, lines, &pair, records.len())?;
+        records.push(pair)?;
     }
     Ok(())
 }
@@ -150,8 +157,10 @@ fn pair_line<F: Field, O: MonoOrder>(
 fn pair_next<F: Field, O: MonoOrder>(
     alloc: Global,
     lines: &[Line<F, O>],
+    index: &Index,
     pairing: &mut Pairing,
 ) -> Result<(), AllocError>
+    requires index { IsIndexOf F.ORDER O.cmp (polys_of lines.now) index.now }
     requires within { pairing.old.paired < length lines.now }
     requires pairs { ArePairs F.ORDER O.cmp (polys_of lines.now) pairing.old.records.items pairing.old.paired }
     requires few { AreFew (seconds pairing.old.records.items) pairing.old.paired }
@@ -165,6 +174,7 @@ fn pair_next<F: Field, O: MonoOrder>(
     match pair_line(
         alloc,
         lines,
+        index,
         &mut pairing.records,
         &mut pairing.queue,
         second,
@@ -184,8 +194,10 @@ fn pair_next<F: Field, O: MonoOrder>(
 fn pair_lines<F: Field, O: MonoOrder>(
     alloc: Global,
     lines: &[Line<F, O>],
+    index: &Index,
     pairing: &mut Pairing,
 ) -> Result<(), AllocError>
+    requires index { IsIndexOf F.ORDER O.cmp (polys_of lines.now) index.now }
     requires pairs { ArePairs F.ORDER O.cmp (polys_of lines.now) pairing.old.records.items pairing.old.paired }
     requires few { AreFew (seconds pairing.old.records.items) pairing.old.paired }
     ensures pairs { ArePairs F.ORDER O.cmp (polys_of lines.now) pairing.new.records.items pairing.new.paired }
@@ -195,7 +207,7 @@ fn pair_lines<F: Field, O: MonoOrder>(
 {
     pairing.queue.refresh(pairing.records.as_slice())?;
     while pairing.paired < lines.len() {
-        pair_next(alloc, lines, pairing)?;
+        pair_next(alloc, lines, index, pairing)?;
     }
     Ok(())
 }
@@ -217,13 +229,14 @@ fn first_pending(records: &[PairRecord]) -> Option<usize>
 fn next_place<F: Field, O: MonoOrder>(
     alloc: Global,
     lines: &[Line<F, O>],
+    index: &Index,
     records: &[PairRecord],
     queue: &mut Queue,
 ) -> Result<Option<usize>, AllocError>
     ensures some { IfOk result (λ o. IfSome o (IsPendingAt records.now)) }
     ensures none { IfOk result (λ o. IfNone o (AreSettled records.now)) }
 {
-    if let Some(place) = queue.next_near(alloc, lines, records)? {
+    if let Some(place) = queue.next_near(alloc, lines, index, records)? {
         return Ok(Some(place));
     }
     if let Some(place) = queue.next_late(records)? {
@@ -257,19 +270,6 @@ fn settled_answer(alloc: Global, records: &[PairRecord]) -> Result<Completion, A
     }
 }
 
-/// The first line that is a constant other than 0.
-fn constant_line<F: Field, O: MonoOrder>(lines: &[Line<F, O>]) -> Option<usize>
-    ensures { IfSome result (IsConstantLine F.ORDER (polys_of lines.now)) }
-{
-    for number in 0..lines.len() {
-        let poly = &lines[number].poly;
-        if poly.is_constant() && !poly.is_zero() {
-            return Some(number);
-        }
-    }
-    None
-}
-
 /// Writes what is known of the pair at a place.
 fn mark(records: &mut Vec<PairRecord>, place: usize, pair: PairRecord, state: PairState)
     requires { place < vec_len records.old }
@@ -285,6 +285,7 @@ fn mark(records: &mut Vec<PairRecord>, place: usize, pair: PairRecord, state: Pa
 /// Writes what a pair's S-polynomial gave, and appends the line that it may give.
 fn settle<F: Field, O: MonoOrder>(
     lines: &mut Vec<Line<F, O>>,
+    index: &mut Index,
     pairing: &mut Pairing,
     place: usize,
     pair: PairRecord,
@@ -296,6 +297,8 @@ fn settle<F: Field, O: MonoOrder>(
     requires lines { AreLines F.ORDER lines.old.items }
     requires pairs { ArePairs F.ORDER O.cmp (polys_of lines.old.items) pairing.old.records.items pairing.old.paired }
     requires outcome { IsOutcome F.ORDER O.cmp (polys_of lines.old.items) pair.first pair.second outcome }
+    ensures index { IsIndexOf F.ORDER O.cmp (polys_of lines.old.items) index.old
+        → IsIndexOf F.ORDER O.cmp (polys_of lines.new.items) index.new }
     ensures front { IsFront F.ORDER O.cmp lines.old.items lines.new.items }
     ensures lines { AreLines F.ORDER lines.new.items }
     ensures pairs { ArePairs F.ORDER O.cmp (polys_of lines.new.items) pairing.new.records.items pairing.new.paired }
@@ -316,7 +319,7 @@ fn settle<F: Field, O: MonoOrder>(
         }
         Outcome::Added(line) => {
             let _length = line.poly.len();
-            lines.push(line)?;
+            push_line(lines, index, line)?;
             mark(
                 &mut pairing.records,
                 place,
@@ -332,11 +335,13 @@ fn settle<F: Field, O: MonoOrder>(
 fn outcome_of<F: Field, O: MonoOrder>(
     alloc: Global,
     lines: &[Line<F, O>],
+    index: &Index,
     records: &[PairRecord],
     i: usize,
     j: usize,
     meter: &mut Meter,
 ) -> Result<Outcome<F, O>, Stop>
+    requires index { IsIndexOf F.ORDER O.cmp (polys_of lines.now) index.now }
     requires first { i < length lines.now }
     requires second { j < length lines.now }
     requires records { AreRecords F.ORDER O.cmp (polys_of lines.now) records.now }
@@ -346,22 +351,25 @@ fn outcome_of<F: Field, O: MonoOrder>(
     ensures takes { TakesReductions meter.old meter.new }
     ensures bound { IsPairBound F.ORDER O.cmp (polys_of lines.now) meter.old meter.new }
 {
-    if is_chained(alloc, lines, records, i, j)? {
+    if is_chained(alloc, lines, index, records, i, j)? {
         return Ok(Outcome::Closed);
     }
-    reduce_pair(alloc, lines, i, j, meter)
+    reduce_pair(alloc, lines, index, i, j, meter)
 }
 
 /// Settles the pair at a place.
 fn treat<F: Field, O: MonoOrder>(
     lines: &mut Vec<Line<F, O>>,
+    index: &mut Index,
     pairing: &mut Pairing,
     place: usize,
     meter: &mut Meter,
 ) -> Result<(), Stop>
+    requires index { IsIndexOf F.ORDER O.cmp (polys_of lines.old.items) index.old }
     requires pending { IsPendingAt pairing.old.records.items place }
     requires lines { AreLines F.ORDER lines.old.items }
     requires pairs { ArePairs F.ORDER O.cmp (polys_of lines.old.items) pairing.old.records.items pairing.old.paired }
+    ensures index { IsIndexOf F.ORDER O.cmp (polys_of lines.new.items) index.new }
     ensures front { IsFront F.ORDER O.cmp lines.old.items lines.new.items }
     ensures lines { AreLines F.ORDER lines.new.items }
     ensures pairs { ArePairs F.ORDER O.cmp (polys_of lines.new.items) pairing.new.records.items pairing.new.paired }
@@ -379,12 +387,13 @@ fn treat<F: Field, O: MonoOrder>(
     let outcome = outcome_of(
         *lines.allocator(),
         lines.as_slice(),
+        index,
         pairing.records.as_slice(),
         pair.first,
         pair.second,
         meter,
     )?;
-    settle(lines, pairing, place, pair, outcome)?;
+    settle(lines, index, pairing, place, pair, outcome)?;
     Ok(())
 }
 
@@ -399,6 +408,7 @@ fn is_constant_at<F: Field, O: MonoOrder>(lines: &[Line<F, O>], number: usize) -
 fn is_due<F: Field, O: MonoOrder>(
     alloc: Global,
     lines: &[Line<F, O>],
+    index: &Index,
     records: &[PairRecord],
     queue: &mut Queue,
     taken: u64,
@@ -409,19 +419,22 @@ fn is_due<F: Field, O: MonoOrder>(
     if taken < units {
         return Ok(true);
     }
-    queue.simplifies(alloc, lines, records)
+    queue.simplifies(alloc, lines, index, records)
 }
 
 /// Goes on with Buchberger's algorithm, until at least so many units were taken and the next pair does not simplify.
 pub(crate) fn advance<F: Field, O: MonoOrder>(
     lines: &mut Vec<Line<F, O>>,
+    index: &mut Index,
     pairing: &mut Pairing,
     units: u64,
     meter: &mut Meter,
 ) -> Result<Progress, Stop>
+    requires index { IsIndexOf F.ORDER O.cmp (polys_of lines.old.items) index.old }
     requires lines { AreLines F.ORDER lines.old.items }
     requires pairs { ArePairs F.ORDER O.cmp (polys_of lines.old.items) pairing.old.records.items pairing.old.paired }
     requires few { AreFew (seconds pairing.old.records.items) pairing.old.paired }
+    ensures index { IsIndexOf F.ORDER O.cmp (polys_of lines.new.items) index.new }
     ensures front { IsFront F.ORDER O.cmp lines.old.items lines.new.items }
     ensures lines { AreLines F.ORDER lines.new.items }
     ensures pairs { ArePairs F.ORDER O.cmp (polys_of lines.new.items) pairing.new.records.items pairing.new.paired }
@@ -433,15 +446,18 @@ pub(crate) fn advance<F: Field, O: MonoOrder>(
     ensures takes { TakesReductions meter.old meter.new }
 {
     let alloc = *lines.allocator();
-    if let Some(line) = constant_line(lines.as_slice()) {
-        return Ok(Progress::Done(Completion::Constant(line as u64)));
+    if let Some(line) = index.constant {
+        if is_constant_at(lines.as_slice(), line) {
+            return Ok(Progress::Done(Completion::Constant(line as u64)));
+        }
     }
     let before = meter.count(Unit::Reduction);
     let mut taken = 0;
-    pair_lines(alloc, lines.as_slice(), pairing)?;
+    pair_lines(alloc, lines.as_slice(), index, pairing)?;
     while is_due(
         alloc,
         lines.as_slice(),
+        index,
         pairing.records.as_slice(),
         &mut pairing.queue,
         taken,
@@ -450,6 +466,7 @@ pub(crate) fn advance<F: Field, O: MonoOrder>(
         let next = next_place(
             alloc,
             lines.as_slice(),
+            index,
             pairing.records.as_slice(),
             &mut pairing.queue,
         )?;
@@ -458,12 +475,12 @@ pub(crate) fn advance<F: Field, O: MonoOrder>(
             return Ok(Progress::Done(answer));
         };
         let count = lines.len();
-        treat(lines, pairing, place, meter)?;
+        treat(lines, index, pairing, place, meter)?;
         taken = meter.count(Unit::Reduction) - before;
         if is_constant_at(lines.as_slice(), count) {
             return Ok(Progress::Done(Completion::Constant(count as u64)));
         }
-        pair_lines(alloc, lines.as_slice(), pairing)?;
+        pair_lines(alloc, lines.as_slice(), index, pairing)?;
     }
     Ok(Progress::Left)
 }

@@ -7,6 +7,7 @@
 ghost use Rattle.std.specs.Prelude.{IfOk, IfSome};
 ghost use Rattle.ffc_basis.specs.PairTable.{IsPendingAt};
 
+use crate::index::Index;
 use crate::line::Line;
 use crate::pair::PairRecord;
 use ffc_field::Field;
@@ -96,6 +97,7 @@ impl Queue {
         &mut self,
         alloc: Global,
         lines: &[Line<F, O>],
+        index: &Index,
         pairs: &[PairRecord],
     ) -> Result<Option<(usize, bool)>, AllocError>
         ensures { IfOk result (λ o. IfSome o (λ t. IsPendingAt pairs.now t.0)) }
@@ -103,7 +105,7 @@ impl Queue {
         while let Some(turn) = self.near.peek().copied() {
             let place = turn.place();
             if let Some(pair) = pending_at(pairs, place) {
-                if !is_covered(alloc, lines, &pair)? {
+                if !is_covered(alloc, lines, index, &pair)? {
                     return Ok(Some((place, turn.simplifies)));
                 }
                 self.late.push(turn)?;
@@ -118,9 +120,10 @@ impl Queue {
         &mut self,
         alloc: Global,
         lines: &[Line<F, O>],
+        index: &Index,
         pairs: &[PairRecord],
     ) -> Result<bool, AllocError> {
-        match self.front(alloc, lines, pairs)? {
+        match self.front(alloc, lines, index, pairs)? {
             Some((_, simplifies)) => Ok(simplifies),
             None => Ok(self.late.is_empty()),
         }
@@ -131,11 +134,12 @@ impl Queue {
         &mut self,
         alloc: Global,
         lines: &[Line<F, O>],
+        index: &Index,
         pairs: &[PairRecord],
     ) -> Result<Option<usize>, AllocError>
         ensures { IfOk result (λ o. IfSome o (IsPendingAt pairs.now)) }
     {
-        let Some((place, _)) = self.front(alloc, lines, pairs)? else {
+        let Some((place, _)) = self.front(alloc, lines, index, pairs)? else {
             return Ok(None);
         };
         if let Some(turn) = self.near.pop() {
@@ -234,6 +238,7 @@ fn is_no_longer<F: Field, O: MonoOrder>(lines: &[Line<F, O>], line: usize, other
 fn is_covered<F: Field, O: MonoOrder>(
     alloc: Global,
     lines: &[Line<F, O>],
+    index: &Index,
     pair: &PairRecord,
 ) -> Result<bool, AllocError> {
     let Some(m) = lead_of(lines, pair.first) else {
@@ -245,8 +250,24 @@ fn is_covered<F: Field, O: MonoOrder>(
     let Some(lcm) = lcm_of(alloc, m, n)? else {
         return Ok(false);
     };
-    for line in 0..lines.len() {
-        if covers(alloc, lines, line, pair, &lcm)? {
+    for power in lcm.as_ref().pairs() {
+        if is_covered_by(alloc, lines, index.begun_by(power.0), pair, &lcm)? {
+            return Ok(true);
+        }
+    }
+    Ok(false)
+}
+
+/// Whether one of these lines leaves a pair with this least common multiple out.
+fn is_covered_by<F: Field, O: MonoOrder>(
+    alloc: Global,
+    lines: &[Line<F, O>],
+    numbers: &[usize],
+    pair: &PairRecord,
+    lcm: &Mono,
+) -> Result<bool, AllocError> {
+    for number in numbers {
+        if covers(alloc, lines, *number, pair, lcm)? {
             return Ok(true);
         }
     }

@@ -5,11 +5,14 @@ ghost use Rattle.ffc_base.specs.Metering.{Metered};
 ghost use Rattle.ffc_field.specs.Modular.{mul_mod};
 ghost use Rattle.ffc_ring.specs.Monomial.{Divides, mono_mul};
 ghost use Rattle.ffc_ring.specs.Polynomial.{Terms, SamePolynomial, PassesTerms};
+ghost use Rattle.ffc_basis.specs.Indexing.{IsIndexOf};
 ghost use Rattle.ffc_basis.specs.Lines.{polys_of, HasPart, IsLineOfNone, ArePolynomials};
 ghost use Rattle.ffc_basis.specs.Reduction.{IsIrreducible, IsStep, IsAddedAt, IsRecorded, IsReduction, IsReduced};
 ghost use Rattle.ffc_basis.specs.Reduction.{SameFirst, IsCancelled, IsStopped, PassesLimit};
 ghost use Rattle.ffc_basis.specs.Units.{TakesReductions, IsReductionBound};
 
+use crate::dividing::oldest_divisor;
+use crate::index::Index;
 use crate::line::{Line, LineId};
 use ffc_base::{Meter, Stop, Unit};
 use ffc_field::Field;
@@ -86,22 +89,23 @@ pub(crate) fn multiple_of<F: Field>(
 fn step_at<F: Field, O: MonoOrder>(
     alloc: Global,
     lines: &[Line<F, O>],
+    index: &Index,
     c: F,
     m: MonoRef<'_>,
 ) -> Result<Option<Step<F>>, AllocError>
+    requires index { IsIndexOf F.ORDER O.cmp (polys_of lines.now) index.now }
     ensures none { IfOk result (λ o. IfNone o (IsIrreducible F.ORDER O.cmp (polys_of lines.now) m.entry.powers.now)) }
     ensures some { IfOk result (λ o. IfSome o (λ s.
         IsStep F.ORDER O.cmp (polys_of lines.now) (F.value c) m.entry.powers.now s.line (F.value s.coefficient)
         s.monomial)) }
 {
-    for number in 0..lines.len() {
-        if let Some(lead) = lines[number].poly.lead() {
-            if lead.1.divides(m) {
-                return Ok(Some(multiple_of(alloc, number, lead, c, m)?));
-            }
-        }
-    }
-    Ok(None)
+    let Some(number) = oldest_divisor(lines, index, m) else {
+        return Ok(None);
+    };
+    let Some(lead) = lines[number].poly.lead() else {
+        unreachable!();
+    };
+    Ok(Some(multiple_of(alloc, number, lead, c, m)?))
 }
 
 /// The polynomial c*m.
@@ -247,12 +251,14 @@ pub(crate) fn past_limit(stop: PolyStop) -> Result<(), AllocError>
 
 /// Reduces a polynomial, from its leading term on, until no leading monomial of a line divides a monomial that is left, or a
 /// limit is passed.
-pub fn reduce_by<F: Field, O: MonoOrder>(
+pub(crate) fn reduce_by<F: Field, O: MonoOrder>(
     alloc: Global,
     lines: &[Line<F, O>],
+    index: &Index,
     poly: &Poly<F, O>,
     meter: &mut Meter,
 ) -> Result<Reduced<F, O>, Stop>
+    requires { IsIndexOf F.ORDER O.cmp (polys_of lines.now) index.now }
     ensures reduction { IfOk result (λ r. IsReduction F.ORDER O.cmp (polys_of lines.now) poly.now r.rest
         r.parts.items) }
     ensures reduced { IfOk result (λ r. IfNone r.over (IsReduced F.ORDER O.cmp (polys_of lines.now) r.rest)) }
@@ -268,7 +274,7 @@ pub fn reduce_by<F: Field, O: MonoOrder>(
     let mut place = 0;
     while place < rest.len() {
         let (c, m) = rest.term(place);
-        let Some(step) = step_at(alloc, lines, c, m)? else {
+        let Some(step) = step_at(alloc, lines, index, c, m)? else {
             place += 1;
             continue;
         };

@@ -3,6 +3,7 @@ ghost use Rattle.std.specs.Prelude.{◌≡◌, ◌≢◌, ◌<◌, [], length, g
 ghost use Rattle.ffc_base.specs.Metering.{Metered};
 ghost use Rattle.ffc_ring.specs.Monomial.{degree, mono_lcm};
 ghost use Rattle.ffc_ring.specs.Polynomial.{SamePolynomial, scaled, term_product, difference};
+ghost use Rattle.ffc_basis.specs.Indexing.{IsIndexOf};
 ghost use Rattle.ffc_basis.specs.Lines.{polys_of};
 ghost use Rattle.ffc_basis.specs.Reduction.{IsRecorded};
 ghost use Rattle.ffc_basis.specs.Completion.{PassesSPolynomial};
@@ -10,6 +11,7 @@ ghost use Rattle.ffc_basis.specs.PairTable.{AreBothClosed};
 ghost use Rattle.ffc_basis.specs.Outcomes.{IsOutcome, IsSum, PassesDifference, AreScaled, ArePartsOf, IsMonic};
 ghost use Rattle.ffc_basis.specs.Units.{TakesReductions, IsPairBound};
 
+use crate::index::Index;
 use crate::line::{Line, LineId};
 use crate::reduction::{Reduced, Step, append, multiple_of, past_limit, record, reduce_by, term};
 use ffc_base::{Meter, Stop};
@@ -218,10 +220,12 @@ fn monic<F: Field, O: MonoOrder>(
 pub(crate) fn reduce_pair<F: Field, O: MonoOrder>(
     alloc: Global,
     lines: &[Line<F, O>],
+    index: &Index,
     i: usize,
     j: usize,
     meter: &mut Meter,
 ) -> Result<Outcome<F, O>, Stop>
+    requires index { IsIndexOf F.ORDER O.cmp (polys_of lines.now) index.now }
     requires first { i < length lines.now }
     requires second { j < length lines.now }
     ensures outcome { IfOk result (IsOutcome F.ORDER O.cmp (polys_of lines.now) i j) }
@@ -240,7 +244,7 @@ pub(crate) fn reduce_pair<F: Field, O: MonoOrder>(
     let Some(spoly) = found else {
         return Ok(Outcome::Closed);
     };
-    let reduced = reduce_by(alloc, lines, &spoly.poly, meter)?;
+    let reduced = reduce_by(alloc, lines, index, &spoly.poly, meter)?;
     if reduced.over.is_some() {
         return Ok(Outcome::Over);
     }

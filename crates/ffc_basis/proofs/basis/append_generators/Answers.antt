@@ -14,9 +14,10 @@ loop-poly-preserved g c =
     let i = c.loop-poly.poly-index in
     let line = c.in_ok-line.line in
     record {
-      added = subst (λ ls. IsAddedTo old ls (take (i + 1) gens)) (sym c.in_ok-push.ensures.items)
+      index = λ is. c.in_ok-push_line.ensures.index (c.loop-poly.invariant.index is);
+      added = subst (λ ls. IsAddedTo old ls (take (i + 1) gens)) (sym c.in_ok-push_line.ensures.ok)
           (added_more old c.loop-poly.lines.items gens i line c.poly-item.result c.loop-poly-test.true c.poly-item.is c.in_ok-line.ensures.poly c.in_ok-line.ensures.parts c.loop-poly.invariant.added);
       lists = λ v.
-          lists_more c.loop-poly.lines.items c.push.new.self.items line c.in_ok-push.ensures.items (c.loop-poly.invariant.lists v)
+          lists_more c.loop-poly.lines.items c.push_line.new.lines.items line c.in_ok-push_line.ensures.ok (c.loop-poly.invariant.lists v)
           (subst AreTerms (sym c.in_ok-line.ensures.poly) (AreTerms-ordered g.F.Field.ORDER g.O.MonoOrder.cmp DEGREE_LIMIT c.poly-item.result c.len-length.ensures.ordered));
     }

@@ -18,6 +18,7 @@ returns-in-Closed g c =
     let rs = c.args.pairing.now.records.items in
     let paired = c.args.pairing.now.paired in
     record {
+      index = λ is. is;
       front = front_same p cmp ls ls refl;
       lines = c.requires.lines;
       pairs = subst (λ x. ArePairs p cmp (polys_of ls) x paired) (sym c.mark.ensures)
@@ -36,6 +37,7 @@ returns-in-Over g c =
     let rs = c.args.pairing.now.records.items in
     let paired = c.args.pairing.now.paired in
     record {
+      index = λ is. is;
       front = front_same p cmp ls ls refl;
       lines = c.requires.lines;
       pairs = subst (λ x. ArePairs p cmp (polys_of ls) x paired) (sym c.mark-in-Over.ensures)
@@ -46,31 +48,32 @@ returns-in-Over g c =
       settled = ap settled_count c.mark-in-Over.ensures ∙ settled_set rs c.args.place (with_state c.args.pair (Over c.len-count.result)) c.requires.pending refl;
     }
 
-pub returns-in_err-push-in-Added-clause-front : goal.returns-in_err-push-in-Added-clause-front
-returns-in_err-push-in-Added-clause-front g c =
-    front_same g.F.Field.ORDER g.O.MonoOrder.cmp c.args.lines.now.items c.push.new.self.items c.in_err-push-in-Added.ensures.items
+pub returns-in_err-push_line-in-Added-clause-front : goal.returns-in_err-push_line-in-Added-clause-front
+returns-in_err-push_line-in-Added-clause-front g c =
+    front_same g.F.Field.ORDER g.O.MonoOrder.cmp c.args.lines.now.items c.push_line.new.lines.items c.in_err-push_line-in-Added.ensures.err
 
-pub returns-in_err-push-in-Added-clause-lines : goal.returns-in_err-push-in-Added-clause-lines
-returns-in_err-push-in-Added-clause-lines g c =
-    subst (AreLines g.F.Field.ORDER) (sym c.in_err-push-in-Added.ensures.items) c.requires.lines
+pub returns-in_err-push_line-in-Added-clause-lines : goal.returns-in_err-push_line-in-Added-clause-lines
+returns-in_err-push_line-in-Added-clause-lines g c =
+    subst (AreLines g.F.Field.ORDER) (sym c.in_err-push_line-in-Added.ensures.err) c.requires.lines
 
-pub returns-in_err-push-in-Added-clause-pairs : goal.returns-in_err-push-in-Added-clause-pairs
-returns-in_err-push-in-Added-clause-pairs g c =
-    subst (λ x. ArePairs g.F.Field.ORDER g.O.MonoOrder.cmp (polys_of x) c.args.pairing.now.records.items c.args.pairing.now.paired) (sym c.in_err-push-in-Added.ensures.items) c.requires.pairs
+pub returns-in_err-push_line-in-Added-clause-pairs : goal.returns-in_err-push_line-in-Added-clause-pairs
+returns-in_err-push_line-in-Added-clause-pairs g c =
+    subst (λ x. ArePairs g.F.Field.ORDER g.O.MonoOrder.cmp (polys_of x) c.args.pairing.now.records.items c.args.pairing.now.paired) (sym c.in_err-push_line-in-Added.ensures.err) c.requires.pairs
 
-pub returns-in_ok-push-in-Added : goal.returns-in_ok-push-in-Added
-returns-in_ok-push-in-Added g c =
+pub returns-in_ok-push_line-in-Added : goal.returns-in_ok-push_line-in-Added
+returns-in_ok-push_line-in-Added g c =
     let p = g.F.Field.ORDER in
     let cmp = g.O.MonoOrder.cmp in
     let ls = c.args.lines.now.items in
-    let ks = c.push.new.self.items in
+    let ks = c.push_line.new.lines.items in
     let rs = c.args.pairing.now.records.items in
     let paired = c.args.pairing.now.paired in
     let l = c.in-Added.line in
-    let is = c.in_ok-push-in-Added.ensures.items in
+    let is = c.in_ok-push_line-in-Added.ensures.ok in
     let outcome : IsOutcome p cmp (polys_of ls) c.args.pair.first c.args.pair.second (Added l) =
     subst (IsOutcome p cmp (polys_of ls) c.args.pair.first c.args.pair.second) c.in-Added.is c.requires.outcome in
     record {
+      index = c.in_ok-push_line-in-Added.ensures.index;
       front = front_one p cmp ls ks l is outcome.1;
       lines = line_added p ls ks l is c.requires.lines outcome.0;
       pairs = subst (λ x. ArePairs p cmp (polys_of ks) x paired) (sym c.mark-in-Added.ensures)

@@ -13,8 +13,8 @@ returns-clause-difference g c =
     let p = g.F.Field.ORDER in
     let cmp = g.O.MonoOrder.cmp in
     let poly = c.args.poly.now in
-    let gs = polys_of c.lines.result.now in
-    subst (λ ls. IfOk c.reduce_by.result (λ r. SamePolynomial p r.rest (difference p poly (combination (polys_of ls) r.parts.items)))) c.lines.ensures.value
+    let gs = polys_of c.as_slice.result.now in
+    subst (λ ls. IfOk c.reduce_by.result (λ r. SamePolynomial p r.rest (difference p poly (combination (polys_of ls) r.parts.items)))) (c.as_slice.ensures.value ∙ c.self.view_is)
     (if_ok c.reduce_by.result (λ r. IsReduction p cmp gs poly r.rest r.parts.items) (λ r. SamePolynomial p r.rest (difference p poly (combination gs r.parts.items)))
     (λ r h. rest_is_difference p (omega (arith, g.met.F.Field.prime.least)) poly r.rest (combination gs r.parts.items) h.whole) c.reduce_by.ensures.reduction)
 
@@ -23,8 +23,8 @@ returns-clause-at_most g c =
     let p = g.F.Field.ORDER in
     let cmp = g.O.MonoOrder.cmp in
     let poly = c.args.poly.now in
-    let gs = polys_of c.lines.result.now in
-    subst (λ ls. IfOk c.reduce_by.result (λ r. ArePartsAtMost p cmp (polys_of ls) poly r.parts.items)) c.lines.ensures.value
+    let gs = polys_of c.as_slice.result.now in
+    subst (λ ls. IfOk c.reduce_by.result (λ r. ArePartsAtMost p cmp (polys_of ls) poly r.parts.items)) (c.as_slice.ensures.value ∙ c.self.view_is)
     (if_ok c.reduce_by.result (λ r. IsReduction p cmp gs poly r.rest r.parts.items) (λ r. ArePartsAtMost p cmp gs poly r.parts.items) (λ r h. h.at_most) c.reduce_by.ensures.reduction)
 
 pub returns-clause-zero : goal.returns-clause-zero
@@ -32,16 +32,16 @@ returns-clause-zero g c =
     let p = g.F.Field.ORDER in
     let cmp = g.O.MonoOrder.cmp in
     let poly = c.args.poly.now in
-    let gs = polys_of c.lines.result.now in
-    subst (λ ls. IfOk c.reduce_by.result (λ r. r.rest ≡ [] → ReducesToZero p cmp (polys_of ls) poly)) c.lines.ensures.value
+    let gs = polys_of c.as_slice.result.now in
+    subst (λ ls. IfOk c.reduce_by.result (λ r. r.rest ≡ [] → ReducesToZero p cmp (polys_of ls) poly)) (c.as_slice.ensures.value ∙ c.self.view_is)
     (if_ok c.reduce_by.result (λ r. IsReduction p cmp gs poly r.rest r.parts.items) (λ r. r.rest ≡ [] → ReducesToZero p cmp gs poly)
     (λ r h none. (r.parts.items, h.before, h.at_most, (λ m. h.whole m ∙ ap (λ ts. coefficient p (ts ++ combination gs r.parts.items) m) none), lists_of_polynomials p cmp r.parts.items h.polynomials))
     c.reduce_by.ensures.reduction)
 
 pub returns-clause-reduced : goal.returns-clause-reduced
 returns-clause-reduced g c =
-    subst (λ ls. IfOk c.reduce_by.result (λ r. IfNone r.over (IsReduced g.F.Field.ORDER g.O.MonoOrder.cmp (polys_of ls) r.rest))) c.lines.ensures.value c.reduce_by.ensures.reduced
+    subst (λ ls. IfOk c.reduce_by.result (λ r. IfNone r.over (IsReduced g.F.Field.ORDER g.O.MonoOrder.cmp (polys_of ls) r.rest))) (c.as_slice.ensures.value ∙ c.self.view_is) c.reduce_by.ensures.reduced
 
 pub returns-clause-over : goal.returns-clause-over
 returns-clause-over g c =
-    subst (λ ls. IfOk c.reduce_by.result (λ r. IfSome r.over (λ t. IsStopped g.F.Field.ORDER g.O.MonoOrder.cmp (polys_of ls) r.rest r.parts.items t.0 t.1))) c.lines.ensures.value c.reduce_by.ensures.over
+    subst (λ ls. IfOk c.reduce_by.result (λ r. IfSome r.over (λ t. IsStopped g.F.Field.ORDER g.O.MonoOrder.cmp (polys_of ls) r.rest r.parts.items t.0 t.1))) (c.as_slice.ensures.value ∙ c.self.view_is) c.reduce_by.ensures.over

@@ -1,6 +1,7 @@
 use Rattle.std.proofs.Common.{sym, ap, subst}
 use Rattle.ffc_basis.specs.PairTable.{seconds}
 use Rattle.ffc_basis.proofs.FewLemmas.{few_none}
+use Rattle.ffc_basis.specs.Indexing.{IsIndexOf}
 use Rattle.ffc_basis.specs.Lines.{polys_of, AreLists, IsAddedTo}
 use Rattle.ffc_basis.proofs.AddedLemmas.{pairs_none}
 use Rattle.ffc_basis.proofs.LineLemmas.{added_to_none, AreLines-generators}
@@ -16,4 +17,5 @@ invariant_of-result g c =
       pairs_none g.F.Field.ORDER g.O.MonoOrder.cmp (polys_of lines) c.new.result.records.items c.new.result.paired c.new.ensures.records c.new.ensures.paired
           (c.append_generators.ensures.lists (subst (λ ls. AreLists (polys_of ls)) (sym c.new-lines.ensures.items) lists_none)),
       few_none (seconds c.new.result.records.items) c.new.result.paired (ap seconds c.new.ensures.records) c.new.ensures.paired,
+      c.append_generators.ensures.index (subst (λ ls. IsIndexOf g.F.Field.ORDER g.O.MonoOrder.cmp (polys_of ls) c.new-index.result) (sym c.new-lines.ensures.items) (c.new-index.ensures g.F.Field.ORDER g.O.MonoOrder.cmp)),
     )
