@@ -404,6 +404,16 @@ fn is_constant_at<F: Field, O: MonoOrder>(lines: &[Line<F, O>], number: usize) -
     number < lines.len() && !lines[number].poly.is_zero() && lines[number].poly.is_constant()
 }
 
+/// The first line that is a constant other than 0, which the index has.
+fn constant_line<F: Field, O: MonoOrder>(lines: &[Line<F, O>], index: &Index) -> Option<usize>
+    ensures { IfSome result (IsConstantLine F.ORDER (polys_of lines.now)) }
+{
+    match index.constant {
+        Some(line) if is_constant_at(lines, line) => Some(line),
+        _ => None,
+    }
+}
+
 /// Whether another pair is due: fewer than so many units were taken, or the next pair simplifies, or none waits.
 fn is_due<F: Field, O: MonoOrder>(
     alloc: Global,
@@ -446,10 +456,8 @@ pub(crate) fn advance<F: Field, O: MonoOrder>(
     ensures takes { TakesReductions meter.old meter.new }
 {
     let alloc = *lines.allocator();
-    if let Some(line) = index.constant {
-        if is_constant_at(lines.as_slice(), line) {
-            return Ok(Progress::Done(Completion::Constant(line as u64)));
-        }
+    if let Some(line) = constant_line(lines.as_slice(), index) {
+        return Ok(Progress::Done(Completion::Constant(line as u64)));
     }
     let before = meter.count(Unit::Reduction);
     let mut taken = 0;

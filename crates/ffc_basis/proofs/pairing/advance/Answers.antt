@@ -62,12 +62,12 @@ returns-in_err-treat-clause-bound g c =
     c.treat.ensures.paired c.treat.ensures.pairs pending c.loop-lines.invariant.few
     (bound_next p cmp c.loop-lines.lines.items c.treat.new.lines.items (settled_count rs) c.args.meter.now c.loop-lines.meter c.treat.new.meter c.treat.ensures.front c.loop-lines.invariant.bound c.treat.ensures.bound)
 
-pub returns-then-is_constant_at-2-clause-front : goal.returns-then-is_constant_at-2-clause-front
-returns-then-is_constant_at-2-clause-front g c =
+pub returns-then-is_constant_at-clause-front : goal.returns-then-is_constant_at-clause-front
+returns-then-is_constant_at-clause-front g c =
     front_both g.F.Field.ORDER g.O.MonoOrder.cmp c.args.lines.now.items c.loop-lines.lines.items c.treat.new.lines.items c.loop-lines.invariant.front c.treat.ensures.front
 
-pub returns-then-is_constant_at-2-clause-bound : goal.returns-then-is_constant_at-2-clause-bound
-returns-then-is_constant_at-2-clause-bound g c =
+pub returns-then-is_constant_at-clause-bound : goal.returns-then-is_constant_at-clause-bound
+returns-then-is_constant_at-clause-bound g c =
     let p = g.F.Field.ORDER in
     let cmp = g.O.MonoOrder.cmp in
     settled_is_bounded p cmp (polys_of c.treat.new.lines.items) c.treat.new.pairing.records.items c.treat.new.pairing.paired c.args.meter.now c.treat.new.meter c.treat.ensures.pairs
