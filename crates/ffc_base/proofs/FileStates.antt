@@ -1,5 +1,5 @@
 -- What a file's state is after a call: a write that fails and a creation that fails change the count of faults alone.
-use Rattle.std.proofs.Common.{◌≡◌, ℕ, List, Option, Some, Result, Ok, Err, OnOk, OnErr, refl}
+use Rattle.std.proofs.Common.{◌≡◌, ℕ, List, Some, Result, Ok, Err, OnOk, OnErr, refl}
 use Rattle.ffc_base.specs.Counts.{counted}
 use Rattle.ffc_base.specs.Files.{FileState}
 

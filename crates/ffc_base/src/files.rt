@@ -5,10 +5,12 @@
 ghost use Rattle.std.specs.Prelude.{◌≡◌, ℕ, ◌≤◌, length, IfOk, IfErr, OnOk, OnErr, Option, Some, None};
 ghost use Rattle.ffc_base.specs.Counts.{counted};
 
+use crate::faults::Faults;
 use crate::outside::{Failed, NamedSink, NamedSource, Sink, Source, WriteStop};
 use crate::standard::{read_some, write_whole};
 use crate::text::GhostText;
 use std::fs;
+use std::io::{self, ErrorKind};
 use std::marker::Model;
 use std::rt::Files;
 
@@ -20,7 +22,7 @@ use std::rt::Files;
 pub struct FileSource<'a, R: Files> {
     files: &'a R,
     file: Option<R::File>,
-    faults: u64,
+    faults: Faults,
 }
 
 impl<'a, R: Files> Model for FileSource<'a, R> {
@@ -39,7 +41,7 @@ impl<'a, R: Files> FileSource<'a, R> {
         FileSource {
             files,
             file: None,
-            faults: 0,
+            faults: Faults::none(),
         }
     }
 
@@ -47,16 +49,21 @@ impl<'a, R: Files> FileSource<'a, R> {
     pub fn faults(&self) -> u64
         ensures { result ≡ self.now }
     {
-        self.faults
+        self.faults.count()
     }
 
-    fn read_from_file(&mut self, buf: &mut [u8]) -> Result<usize, Failed>
+    /// Why the last call failed that did.
+    pub fn failure(&self) -> Option<&io::Error> {
+        self.faults.last()
+    }
+
+    fn read_from_file(&mut self, buf: &mut [u8]) -> io::Result<usize>
         ensures within { IfOk result (λ n. n ≤ length buf.old) }
         ensures kept { self.new ≡ self.old }
     {
         match &mut self.file {
             Some(file) => read_some(file, buf),
-            None => Err(Failed),
+            None => Err(io::Error::from(ErrorKind::NotFound)),
         }
     }
 }
@@ -72,11 +79,13 @@ impl<'a, R: Files> Source for FileSource<'a, R> {
         ensures steady { OnOk result (self.new ≡ self.old) }
         ensures risen { OnErr result (self.new ≡ counted self.old) }
     {
-        let answer = self.read_from_file(buf);
-        if answer.is_err() {
-            self.faults = self.faults.saturating_add(1);
+        match self.read_from_file(buf) {
+            Ok(count) => Ok(count),
+            Err(error) => {
+                self.faults.add(error);
+                Err(Failed)
+            }
         }
-        answer
     }
 }
 
@@ -89,9 +98,12 @@ impl<'a, R: Files> NamedSource for FileSource<'a, R> {
         ensures risen { OnErr result (self.new ≡ counted self.old) }
         ensures stop { IfErr result (λ stop. stop ≡ WriteStop.Failed) }
     {
-        let Ok(file) = fs::open(self.files, name) else {
-            self.faults = self.faults.saturating_add(1);
-            return Err(WriteStop::Failed);
+        let file = match fs::open(self.files, name) {
+            Ok(file) => file,
+            Err(error) => {
+                self.faults.add(error);
+                return Err(WriteStop::Failed);
+            }
         };
         self.file = Some(file);
         Ok(())
@@ -107,7 +119,7 @@ pub struct FileSink<'a, R: Files> {
     files: &'a R,
     file: Option<R::File>,
     name: GhostText,
-    faults: u64,
+    faults: Faults,
 }
 
 impl<'a, R: Files> Model for FileSink<'a, R> {
@@ -130,7 +142,7 @@ impl<'a, R: Files> FileSink<'a, R> {
             files,
             file: None,
             name: GhostText::new(),
-            faults: 0,
+            faults: Faults::none(),
         }
     }
 
@@ -138,15 +150,20 @@ impl<'a, R: Files> FileSink<'a, R> {
     pub fn faults(&self) -> u64
         ensures { result ≡ self.now.faults }
     {
-        self.faults
+        self.faults.count()
     }
 
-    fn write_to_file(&mut self, bytes: &[u8]) -> Result<(), Failed>
+    /// Why the last call failed that did.
+    pub fn failure(&self) -> Option<&io::Error> {
+        self.faults.last()
+    }
+
+    fn write_to_file(&mut self, bytes: &[u8]) -> io::Result<()>
         ensures { self.new ≡ self.old }
     {
         match &mut self.file {
             Some(file) => write_whole(file, bytes),
-            None => Err(Failed),
+            None => Err(io::Error::from(ErrorKind::NotFound)),
         }
     }
 }
@@ -164,11 +181,13 @@ impl<'a, R: Files> Sink for FileSink<'a, R> {
         ensures risen { OnErr result (self.new ≡ record self.old { faults = counted self.old.faults }) }
         ensures stop { IfErr result (λ stop. stop ≡ WriteStop.Failed) }
     {
-        let answer = self.write_to_file(bytes);
-        if answer.is_err() {
-            self.faults = self.faults.saturating_add(1);
+        match self.write_to_file(bytes) {
+            Ok(()) => Ok(()),
+            Err(error) => {
+                self.faults.add(error);
+                Err(WriteStop::Failed)
+            }
         }
-        Ok(answer?)
     }
 }
 
@@ -179,9 +198,12 @@ impl<'a, R: Files> NamedSink for FileSink<'a, R> {
         ensures risen { OnErr result (self.new ≡ record self.old { faults = counted self.old.faults }) }
         ensures stop { IfErr result (λ stop. stop ≡ WriteStop.Failed) }
     {
-        let Ok(file) = fs::create(self.files, name) else {
-            self.faults = self.faults.saturating_add(1);
-            return Err(WriteStop::Failed);
+        let file = match fs::create(self.files, name) {
+            Ok(file) => file,
+            Err(error) => {
+                self.faults.add(error);
+                return Err(WriteStop::Failed);
+            }
         };
         self.file = Some(file);
         self.name = named(name);

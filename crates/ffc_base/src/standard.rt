@@ -7,8 +7,9 @@ ghost use Rattle.std.specs.Prelude.{◌≡◌, ℕ, ◌≤◌, ◌⊎◌, [], le
 ghost use Rattle.ffc_base.specs.Counts.{counted};
 ghost use Rattle.ffc_base.specs.Outside.{Appends, AppendsPrefix};
 
+use crate::faults::Faults;
 use crate::outside::{Failed, Sink, Source, WriteStop};
-use std::io::{ErrorKind, Read, Write};
+use std::io::{self, ErrorKind, Read, Write};
 use std::marker::Model;
 
 /// Standard input as a source: a trusted edge, which tells nothing of what is left.
@@ -17,7 +18,7 @@ use std::marker::Model;
 #[derive(Drop)]
 pub struct StdSource<R: Read + Drop> {
     reader: R,
-    faults: u64,
+    faults: Faults,
 }
 
 impl<R: Read + Drop> Model for StdSource<R> {
@@ -33,14 +34,22 @@ impl<R: Read + Drop> StdSource<R> {
     pub fn new(reader: R) -> Self
         ensures { ⟦<StdSource<R> as Source>⟧.faults result ≡ 0 }
     {
-        StdSource { reader, faults: 0 }
+        StdSource {
+            reader,
+            faults: Faults::none(),
+        }
     }
 
     /// How many calls failed.
     pub fn faults(&self) -> u64
         ensures { result ≡ self.now }
     {
-        self.faults
+        self.faults.count()
+    }
+
+    /// Why the last call failed that did.
+    pub fn failure(&self) -> Option<&io::Error> {
+        self.faults.last()
     }
 }
 
@@ -55,26 +64,28 @@ impl<R: Read + Drop> Source for StdSource<R> {
         ensures steady { OnOk result (self.new ≡ self.old) }
         ensures risen { OnErr result (self.new ≡ counted self.old) }
     {
-        let answer = read_some(&mut self.reader, buf);
-        if answer.is_err() {
-            self.faults = self.faults.saturating_add(1);
+        match read_some(&mut self.reader, buf) {
+            Ok(count) => Ok(count),
+            Err(error) => {
+                self.faults.add(error);
+                Err(Failed)
+            }
         }
-        answer
     }
 }
 
 /// Reads once, and again where the read was interrupted.
-pub(crate) fn read_some<R: Read>(reader: &mut R, buf: &mut [u8]) -> Result<usize, Failed>
+pub(crate) fn read_some<R: Read>(reader: &mut R, buf: &mut [u8]) -> io::Result<usize>
     ensures { IfOk result (λ n. n ≤ length buf.old) }
 {
     for _ in 0..u64::MAX {
         match reader.read(buf) {
             Ok(count) => return Ok(count),
             Err(error) if error.kind() == ErrorKind::Interrupted => {}
-            Err(_) => return Err(Failed),
+            Err(error) => return Err(error),
         }
     }
-    Err(Failed)
+    Err(io::Error::from(ErrorKind::Interrupted))
 }
 
 /// Standard output as a sink: a trusted edge, which tells nothing of what it holds.
@@ -83,7 +94,7 @@ pub(crate) fn read_some<R: Read>(reader: &mut R, buf: &mut [u8]) -> Result<usize
 #[derive(Drop)]
 pub struct StdSink<W: Write + Drop> {
     writer: W,
-    faults: u64,
+    faults: Faults,
 }
 
 impl<W: Write + Drop> Model for StdSink<W> {
@@ -99,14 +110,22 @@ impl<W: Write + Drop> StdSink<W> {
     pub fn new(writer: W) -> Self
         ensures { ⟦<StdSink<W> as Sink>⟧.faults result ≡ 0 }
     {
-        StdSink { writer, faults: 0 }
+        StdSink {
+            writer,
+            faults: Faults::none(),
+        }
     }
 
     /// How many calls failed.
     pub fn faults(&self) -> u64
         ensures { result ≡ self.now }
     {
-        self.faults
+        self.faults.count()
+    }
+
+    /// Why the last call failed that did.
+    pub fn failure(&self) -> Option<&io::Error> {
+        self.faults.last()
     }
 }
 
@@ -123,16 +142,18 @@ impl<W: Write + Drop> Sink for StdSink<W> {
         ensures risen { OnErr result (self.new ≡ counted self.old) }
         ensures stop { IfErr result (λ stop. stop ≡ WriteStop.Failed) }
     {
-        let answer = write_whole(&mut self.writer, bytes);
-        if answer.is_err() {
-            self.faults = self.faults.saturating_add(1);
+        match write_whole(&mut self.writer, bytes) {
+            Ok(()) => Ok(()),
+            Err(error) => {
+                self.faults.add(error);
+                Err(WriteStop::Failed)
+            }
         }
-        Ok(answer?)
     }
 }
 
 /// Writes once, and says how many bytes were taken: none where the write was interrupted. A write that takes none is a fault.
-fn write_some<W: Write>(writer: &mut W, bytes: &[u8]) -> Result<usize, Failed>
+fn write_some<W: Write>(writer: &mut W, bytes: &[u8]) -> io::Result<usize>
     ensures within { IfOk result (λ n. n ≤ length bytes.now) }
     ensures ok { IfOk result (λ n. Grows (W.contents writer.old) (W.contents writer.new) (take n bytes.now)
         ⊎ ((n ≡ 0) × Keeps (W.contents writer.old) (W.contents writer.new))) }
@@ -140,16 +161,16 @@ fn write_some<W: Write>(writer: &mut W, bytes: &[u8]) -> Result<usize, Failed>
         ⊎ Grows (W.contents writer.old) (W.contents writer.new) []) }
 {
     match writer.write(bytes) {
-        Ok(0) => Err(Failed),
+        Ok(0) => Err(io::Error::from(ErrorKind::WriteZero)),
         Ok(count) => Ok(count),
         Err(error) if error.kind() == ErrorKind::Interrupted => Ok(0),
-        Err(_) => Err(Failed),
+        Err(error) => Err(error),
     }
 }
 
 /// Writes until all the bytes are taken, and again where a write was interrupted. Where the writer tells what it holds, the bytes
 /// stand after that; some first ones of them where it failed.
-pub(crate) fn write_whole<W: Write>(writer: &mut W, bytes: &[u8]) -> Result<(), Failed>
+pub(crate) fn write_whole<W: Write>(writer: &mut W, bytes: &[u8]) -> io::Result<()>
     ensures ok { OnOk result (Appends bytes.now (W.contents writer.old) (W.contents writer.new)) }
     ensures err { OnErr result (AppendsPrefix bytes.now (W.contents writer.old) (W.contents writer.new)) }
 {
@@ -161,5 +182,5 @@ pub(crate) fn write_whole<W: Write>(writer: &mut W, bytes: &[u8]) -> Result<(), 
         let count = write_some(writer, left)?;
         left = &left[count..];
     }
-    Err(Failed)
+    Err(io::Error::from(ErrorKind::Interrupted))
 }
