@@ -19,7 +19,7 @@ use Rattle.ffc_terms.specs.Callees.{macro_at, as_macro}
 use Rattle.ffc_terms.specs.Slots.{at_slot}
 use Rattle.ffc_terms.proofs.SlotLemmas.{at_slot_map}
 use Rattle.ffc_smt.specs.Terms.{Name}
-use Rattle.ffc_making.specs.Machine.{Saved, Making, making, Goes, GoesOn, Puts, Acts, CanGo}
+use Rattle.ffc_making.specs.Machine.{Saved, Making, making, Goes, GoesOn, Puts, Acts, CanGo, IsMacroAt}
 
 module _ (symbols : Env Meaning) (wanted : Made) where
   goes_more : (Next : List Node → Making → Type 0) (nodes : List Node) (w : Making) (ops : List Op) → ((ns : List Node) (v : Making) → Next ns v → length ns ≤ length wanted.nodes)
@@ -101,6 +101,16 @@ module _ (symbols : Env Meaning) (wanted : Made) where
 
 pub starts : (nodes : List Node) → IsTable nodes → Grows nodes nodes
 starts nodes table = record { more = []; put = sym (append-nil nodes); table = table }
+
+-- a macro that is called is found
+pub macro_found : (symbols : Symbols) (place : ℕ) → IsMacroAt symbols.terms place → macro_at symbols place ≡ None → ⊥
+macro_found symbols place is none = by_entry (at_slot symbols.terms place) none (sym (at_slot_map (λ (x : Name × Meaning). x.1) symbols.terms place) ∙ is.1)
+  where
+    by_entry : (o : Option (Name × Meaning)) → as_macro o ≡ None → option_map (λ x. x.1) o ≡ Some (meaning.Macro is.0) → ⊥
+    by_entry None f g = cc
+    by_entry (Some (name, meaning.Constant n s id)) f g = cc
+    by_entry (Some (name, meaning.Defined s id)) f g = cc
+    by_entry (Some (name, meaning.Macro k)) f g = cc
 
 -- the macro that is found is the one that is there
 pub callee_found : (symbols : Symbols) (place : ℕ) (m callee : Macro) → Some m ≡ macro_at symbols place → at_slot (map (λ x. x.1) symbols.terms) place ≡ Some (meaning.Macro callee) → m ≡ callee

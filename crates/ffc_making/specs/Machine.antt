@@ -1,5 +1,5 @@
 -- A machine that makes nodes by code, and its result.
-use Rattle.std.specs.Prelude.{◌≡◌, ℕ, zero, suc, ◌+◌, ◌≤◌, ◌⊎◌, List, [], ◌∷◌, ◌++◌, length, map, reverse, Option, Some, None, Result, Ok, Err, slice_get}
+use Rattle.std.specs.Prelude.{◌≡◌, ◌≢◌, ℕ, zero, suc, ◌+◌, ◌≤◌, ◌⊎◌, List, [], ◌∷◌, ◌++◌, length, map, reverse, Option, Some, None, Result, Ok, Err, slice_get}
 use Rattle.ffc_term.specs.declared.node.Node.{Node}
 use Rattle.ffc_term.specs.declared.node.Node.TheVariants as node
 use Rattle.ffc_term.specs.declared.node.Sort.{Sort}
@@ -122,6 +122,14 @@ pub record CanGo (symbols : Env Meaning) (nodes : List Node) (w : Making) : Type
   pub steps : ℕ
   pub wanted : Made
   pub goes : GoesOn (suc steps) symbols wanted nodes w
+
+-- the code of a macro ends, or a node waits
+abbrev pub CanEnd : Making → Type 0
+CanEnd w = w.calls ≡ [] → w.stack ≢ []
+
+-- the name at this place is that of a macro
+abbrev pub IsMacroAt : Env Meaning → ℕ → Type 0
+IsMacroAt symbols place = (callee : Macro) × (at_slot (map (λ x. x.1) symbols) place ≡ Some (meaning.Macro callee))
 
 pub record CanAct (symbols : Env Meaning) (nodes : List Node) (w : Making) (o : Op) : Type 0 where
   pub steps : ℕ

@@ -1,5 +1,5 @@
 //! Interns the nodes of terms, operation by operation, on stacks of its own.
-ghost use Rattle.std.specs.Prelude.{◌≡◌, ◌≤◌, ◌+◌, ◌++◌, ◌∷◌, [], ℕ, suc, List, length, map, reverse, slice_get, OnOk};
+ghost use Rattle.std.specs.Prelude.{◌≡◌, ◌<◌, ◌≤◌, ◌+◌, ◌++◌, ◌∷◌, [], ℕ, suc, List, length, map, reverse, slice_get, OnOk};
 ghost use Rattle.std.specs.Prelude.{Some, None};
 ghost use Rattle.ffc_term.specs.declared.node.Node.{Node};
 ghost use Rattle.ffc_term.specs.Tables.{Fits, IsNumbered, IsFieldIte, IsTable};
@@ -14,8 +14,8 @@ ghost use Rattle.ffc_terms.specs.declared.scope.Meaning.{Meaning};
 ghost use Rattle.ffc_terms.specs.declared.scope.Meaning.TheVariants as meaning;
 ghost use Rattle.ffc_smt.specs.Meaning.{Env};
 ghost use Rattle.ffc_making.specs.Machine as machine;
-ghost use Rattle.ffc_making.specs.Machine.{Acts, AreLast, CanAct, CanApply, CanGo, CanRun, GoesOn, IsCodeOf, Puts};
-ghost use Rattle.ffc_making.specs.Machine.{Runs, Steps, Takes};
+ghost use Rattle.ffc_making.specs.Machine.{Acts, AreLast, CanAct, CanApply, CanEnd, CanGo, CanRun, GoesOn, IsCodeOf};
+ghost use Rattle.ffc_making.specs.Machine.{IsMacroAt, Puts, Runs, Steps, Takes};
 
 use ffc_parts::{Operator, apply, put};
 use ffc_term::{Node, NodeId, NodeTable, TermStop};
@@ -99,13 +99,14 @@ impl<'a> Maker<'a> {
 
     /// The code ends: that of a macro, or that of the whole term.
     fn end(&mut self) -> Result<Option<NodeId>, TermStop>
+        requires { CanEnd self.old }
         ensures { (n : ℕ) (symbols : Env Meaning) (wanted : Made) (nodes : List Node) → IsTable nodes → self.old.rest
             ≡ [] → GoesOn (suc n) symbols wanted nodes self.old → Steps n symbols wanted nodes nodes self.new result }
     {
         match self.calls.pop() {
             None => match self.stack.pop() {
                 Some(id) => Ok(Some(id)),
-                None => Err(TermStop::Memory),
+                None => unreachable!(),
             },
             Some(last) => {
                 self.locals.truncate(self.base);
@@ -131,16 +132,12 @@ impl<'a> Maker<'a> {
 
     /// A local variable's node waits.
     fn fetch(&mut self, slot: usize) -> Result<(), AllocError>
+        requires { self.old.base + slot < length self.old.locals }
         ensures { OnOk result ((id : ℕ) → slice_get self.old.locals (self.old.base + slot) ≡ Some id → self.new
             ≡ machine.waiting self.old.rest id self.old) }
     {
-        let Some(place) = self.base.checked_add(slot) else {
-            return Err(AllocError);
-        };
-        let Some(id) = self.locals.get(place) else {
-            return Err(AllocError);
-        };
-        self.stack.push(*id)?;
+        let id = self.locals[self.base + slot];
+        self.stack.push(id)?;
         Ok(())
     }
 
@@ -185,13 +182,14 @@ impl<'a> Maker<'a> {
 
     /// A macro's code comes next, with the last nodes as its parameters.
     fn call(&mut self, symbols: &'a Symbols, place: usize, count: usize) -> Result<(), AllocError>
+        requires { IsMacroAt symbols.now.terms place }
         ensures { OnOk result ((callee : Macro) (kept ids : List ℕ) → at_slot (map (λ x. x.1) symbols.now.terms) place
             ≡ Some (meaning.Macro callee) → AreLast self.old.stack kept ids count
             → self.new ≡ machine.making callee.code.items (length self.old.locals)
             (self.old.calls ++ machine.saved self.old.rest self.old.base ∷ []) kept (self.old.locals ++ reverse ids)) }
     {
         let Some(callee) = symbols.macro_at(place) else {
-            return Err(AllocError);
+            unreachable!();
         };
         self.calls.push(Return {
             rest: self.rest,
@@ -308,7 +306,7 @@ pub fn make(
     match maker.run(alloc, table, symbols, 2 * (limit as u64) + 1) {
         Ok(Some(id)) => Ok(id),
         // The steps are enough.
-        Ok(None) => Err(TermStop::Memory),
+        Ok(None) => unreachable!(),
         Err(stop) => Err(stop),
     }
 }

@@ -25,14 +25,15 @@ returns-in-Ok-Some c = λ t is.
     let found : c.in-Ok-Some.field-0 ≡ Some c.in-Ok-Some.id = search rules in
     subst (λ x. Runs wanted c.args.table.now c.run.new.table (Ok x)) found (c.in-Ok-Some.ensures r.0 wanted (omega (arith, few)) goes)
 
-pub returns-in-Ok-None : goal.returns-in-Ok-None
-returns-in-Ok-None c = λ t is.
-    let r = code_goes c.args.table.now c.args.symbols.now.terms t c.args.limit c.args.code.now is in
+pub unreachable-requires : goal.unreachable-requires
+unreachable-requires c =
+    let t = c.requires.0 in
+    let r = code_goes c.args.table.now c.args.symbols.now.terms t c.args.limit c.args.code.now c.requires.1 in
     let few = r.1 in
     let wanted = made [] c.args.table.now t in
     let goes = subst (λ w. GoesOn r.0 c.args.symbols.now.terms wanted c.args.table.now w) (sym c.new-maker.ensures) r.2 in
     let none : c.in-Ok-None.field-0 ≡ None = search rules in
-    absurd (subst (λ x. Runs wanted c.args.table.now c.run.new.table (Ok x)) none (c.in-Ok-None.ensures r.0 wanted (omega (arith, few)) goes))
+    subst (λ x. Runs wanted c.args.table.now c.run.new.table (Ok x)) none (c.in-Ok-None.ensures r.0 wanted (omega (arith, few)) goes)
 
 pub returns : goal.returns
 returns c = λ t is.

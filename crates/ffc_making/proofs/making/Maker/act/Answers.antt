@@ -7,6 +7,12 @@ use Rattle.ffc_making.specs.Machine.{Goes, GoesOn, making, waiting}
 use Rattle.ffc_making.proofs.StepLemmas.{put_acts}
 use Rattle.ffc_making.proofs.making.Maker.act.Goals as goal
 
+pub call-requires : goal.call-requires
+call-requires c =
+    let is : c.args.op ≡ op.Call c.in-Call.place c.in-Call.count = search rules in
+    let g = subst (λ o. Goes (GoesOn c.requires.steps c.args.symbols.now.terms c.requires.wanted) c.args.symbols.now.terms c.requires.wanted c.args.table.now c.args.self.now (o ∷ c.args.self.now.rest)) is c.requires.goes in
+    (g.callee, g.there)
+
 pub returns-in-Truth-true : goal.returns-in-Truth-true
 returns-in-Truth-true c = λ n wanted goes.
     let is : c.args.op ≡ op.Truth true = search rules in

@@ -1,10 +1,15 @@
-use Rattle.std.proofs.Common.{rules, ◌≡◌, ◌++◌, ◌∷◌, [], length, map, reverse, Some, refl, sym, ap, ◌∙◌}
+use Rattle.std.proofs.Common.{rules, ◌≡◌, ◌++◌, ◌∷◌, [], length, map, reverse, Some, None, refl, sym, ap, ◌∙◌}
 use Rattle.ffc_terms.specs.Callees.{macro_at}
 use Rattle.ffc_terms.specs.declared.scope.Macro.{Macro}
 use Rattle.std.proofs.lemmas.List.{map-append}
 use Rattle.ffc_making.specs.Machine.{saved}
-use Rattle.ffc_making.proofs.StepLemmas.{callee_found, on_ok, same_making}
+use Rattle.ffc_making.proofs.StepLemmas.{callee_found, macro_found, on_ok, same_making}
 use Rattle.ffc_making.proofs.making.Maker.call.Goals as goal
+
+pub unreachable-requires : goal.unreachable-requires
+unreachable-requires c =
+    let none : macro_at c.args.symbols.now c.args.place ≡ None = search rules in
+    macro_found c.args.symbols.now c.args.place c.requires none
 
 pub returns : goal.returns
 returns c = on_ok c.move_last.result c.move_last.ensures (λ moved callee kept ids there last.
