@@ -1,4 +1,6 @@
-pub mod Causes
+pub mod Combinations
 pub mod Conjunctions
+pub mod Forced
 pub mod Linear
+pub mod Monomials
 pub mod Rows

@@ -1,9 +1,14 @@
 -- Checks that the definitions are tried on, and what these say of them.
-use Rattle.std.specs.Prelude.{◌≡◌, ℕ, true, false, [], ◌∷◌}
+use Rattle.std.specs.Prelude.{◌≡◌, ℕ, true, false, [], ◌∷◌, replicate, ◌+◌, length}
 use Rattle.ffc_term.specs.declared.node.Node.TheVariants as node
 use Rattle.ffc_rules.specs.Entries.{NodeCheck, limits}
+use Rattle.ffc_rules.specs.Cones.{cone}
+use Rattle.ffc_bounds.specs.Combinations.{literals_of, degrees_of, variables_of, row_count, combination_units}
 use Rattle.ffc_bounds.specs.Conjunctions.{asserted, equations, disequations}
+use Rattle.ffc_bounds.specs.Forced.{IsRefutedByForcing}
 use Rattle.ffc_bounds.specs.Linear.{is_linear_within}
+use Rattle.ffc_bounds.specs.Monomials.{columns}
+use Rattle.ffc_clause.specs.Clauses.{plus, minus}
 
 -- x * x = a number, over an order
 abbrev pub square_check : ℕ → ℕ → NodeCheck
@@ -129,3 +134,102 @@ pub record AreLinear : Type 0 where
   pub ite : is_linear_within limits ite_check 100 ≡ false
   -- nothing to decide takes no unit
   pub nothing : is_linear_within limits true_check 0 ≡ true
+
+-- a, not a or b, and not b
+abbrev pub implication_check : NodeCheck
+implication_check = record {
+  nodes = node.BoolConst 0 ∷ node.BoolConst 1 ∷ node.Not 0 ∷ node.Or (2 ∷ 1 ∷ []) ∷ node.Not 1 ∷ [];
+  declared = 0 ∷ 1 ∷ [];
+  in_force = 0 ∷ 3 ∷ 4 ∷ [];
+  first_order = 2;
+}
+
+-- two truth values are equal, and they are not
+abbrev pub exclusive_check : NodeCheck
+exclusive_check = record {
+  nodes = node.BoolConst 0 ∷ node.BoolConst 1 ∷ node.Iff 0 1 ∷ node.Xor 0 1 ∷ [];
+  declared = 0 ∷ 1 ∷ [];
+  in_force = 2 ∷ 3 ∷ [];
+  first_order = 2;
+}
+
+-- false beside equalities of two fields
+abbrev pub false_in_two_fields_check : NodeCheck
+false_in_two_fields_check = record {
+  nodes = node.FieldConst 0 5 ∷ node.Eq 0 0 ∷ node.FieldConst 1 3 ∷ node.Eq 2 2 ∷ node.False ∷ [];
+  declared = 0 ∷ 2 ∷ [];
+  in_force = 1 ∷ 3 ∷ 4 ∷ [];
+  first_order = 5;
+}
+
+-- false beside an equality of a power of x
+abbrev pub false_beside_power_check : ℕ → NodeCheck
+false_beside_power_check exponent = record {
+  nodes = node.FieldConst 0 5 ∷ node.Mul (replicate exponent 0) ∷ node.Eq 1 0 ∷ node.False ∷ [];
+  declared = 0 ∷ [];
+  in_force = 2 ∷ 3 ∷ [];
+  first_order = 5;
+}
+
+-- false beside an equality of a power of x + 1
+abbrev pub false_beside_sum_check : ℕ → NodeCheck
+false_beside_sum_check exponent = record {
+  nodes = node.FieldConst 0 5 ∷ node.Num 1 5 ∷ node.Add (0 ∷ 1 ∷ []) ∷ node.Mul (replicate exponent 2) ∷ node.Eq 3 0 ∷ node.False ∷ [];
+  declared = 0 ∷ [];
+  in_force = 4 ∷ 5 ∷ [];
+  first_order = 5;
+}
+
+pub record ForcingRefutes : Type 0 where
+  -- b and its negation: two nodes
+  pub negation : IsRefutedByForcing 2 (record boolean_check { in_force = 0 ∷ 1 ∷ [] })
+  pub negation_spent : IsRefutedByForcing 1 (record boolean_check { in_force = 0 ∷ 1 ∷ [] }) → ⊥
+  pub false_node : IsRefutedByForcing 1 (record boolean_check { in_force = 2 ∷ [] })
+  -- through a clause of three literals
+  pub implication : IsRefutedByForcing 5 implication_check
+  pub implication_spent : IsRefutedByForcing 4 implication_check → ⊥
+  -- an unsatisfiable check with no unit beyond its assertions
+  pub exclusive : (budget : ℕ) → IsRefutedByForcing budget exclusive_check → ⊥
+  -- a satisfiable one
+  pub satisfiable : (budget : ℕ) → IsRefutedByForcing budget (record boolean_check { in_force = 1 ∷ [] }) → ⊥
+  pub two_fields : (budget : ℕ) → IsRefutedByForcing budget false_in_two_fields_check → ⊥
+  -- the limits on degree and length, and one above them
+  pub degree : IsRefutedByForcing 4 (false_beside_power_check 255)
+  pub high : (budget : ℕ) → IsRefutedByForcing budget (false_beside_power_check 256) → ⊥
+  pub length : IsRefutedByForcing 6 (false_beside_sum_check 16)
+  pub long : (budget : ℕ) → IsRefutedByForcing budget (false_beside_sum_check 17) → ⊥
+
+-- x y = 1 and x = 0, over an order
+abbrev pub product_check : ℕ → NodeCheck
+product_check order = record {
+  nodes = node.FieldConst 0 order ∷ node.FieldConst 1 order ∷ node.Mul (0 ∷ 1 ∷ []) ∷ node.Num 1 order ∷ node.Eq 2 3 ∷ node.Num 0 order ∷ node.Eq 0 5 ∷ [];
+  declared = 0 ∷ 1 ∷ [];
+  in_force = 4 ∷ 6 ∷ [];
+  first_order = order;
+}
+
+-- z = 1 - x v, x z = 0, z /= 0 and z /= 1, over an order
+abbrev pub gadget_check : ℕ → NodeCheck
+gadget_check order = record {
+  nodes = node.FieldConst 0 order ∷ node.FieldConst 1 order ∷ node.FieldConst 2 order ∷ node.Num 1 order ∷ node.Mul (0 ∷ 1 ∷ []) ∷ node.Neg 4 ∷ node.Add (3 ∷ 5 ∷ []) ∷ node.Eq 2 6 ∷ node.Mul (0 ∷ 2 ∷ []) ∷ node.Num 0 order ∷ node.Eq 8 9 ∷ node.Eq 2 9 ∷ node.Not 11 ∷ node.Eq 2 3 ∷ node.Not 13 ∷ [];
+  declared = 0 ∷ 1 ∷ 2 ∷ [];
+  in_force = 7 ∷ 10 ∷ 12 ∷ 14 ∷ [];
+  first_order = order;
+}
+
+pub record AreCombined : Type 0 where
+  -- the equalities x y = 1 and x = 0: 6 monomials in x and y, 1 multiple of the first and 3 of the second
+  pub degrees : degrees_of (product_check 17).nodes (4 ∷ 6 ∷ []) [] ≡ 2 ∷ 1 ∷ []
+  pub variables : variables_of (product_check 17) (4 ∷ 6 ∷ []) [] ≡ 0 ∷ 1 ∷ []
+  pub columns_of_two : columns 2 (0 ∷ 1 ∷ []) ≡ 6
+  pub rows_of_two : row_count 2 (0 ∷ 1 ∷ []) (2 ∷ 1 ∷ []) ≡ 4
+  -- a generator of a higher degree has no multiples
+  pub rows_of_one : row_count 1 (0 ∷ 1 ∷ []) (2 ∷ 1 ∷ []) ≡ 1
+  pub product : length (cone (product_check 17).nodes (4 ∷ 6 ∷ [])) + combination_units 1 (product_check 17) (4 ∷ 6 ∷ []) [] ≡ 55
+  -- disequations have variables of their own, and a degree more
+  pub gadget_literals : literals_of (7 ∷ 10 ∷ []) (11 ∷ 13 ∷ []) ≡ minus 7 ∷ minus 10 ∷ plus 11 ∷ plus 13 ∷ []
+  pub gadget_degrees : degrees_of (gadget_check 17).nodes (7 ∷ 10 ∷ []) (11 ∷ 13 ∷ []) ≡ 2 ∷ 2 ∷ 2 ∷ 2 ∷ []
+  pub gadget_variables : variables_of (gadget_check 17) (7 ∷ 10 ∷ []) (11 ∷ 13 ∷ []) ≡ 0 ∷ 1 ∷ 2 ∷ 17 ∷ 18 ∷ []
+  -- the degrees from 2 to 4, and to 5, both without and with the disequations
+  pub gadget : length (cone (gadget_check 17).nodes (gadget_check 17).in_force) + combination_units 3 (gadget_check 17) (7 ∷ 10 ∷ []) (11 ∷ 13 ∷ []) ≡ 25799
+  pub gadget_more : length (cone (gadget_check 17).nodes (gadget_check 17).in_force) + combination_units 4 (gadget_check 17) (7 ∷ 10 ∷ []) (11 ∷ 13 ∷ []) ≡ 143175

@@ -2,7 +2,7 @@
 use Rattle.std.proofs.Common.{◌≡◌, ℕ, ◌+◌, ◌^◌, ◌<◌, ◌≤◌, List, [], ◌∷◌, ◌++◌, length, codes, refl, sym, ap, ◌∙◌, subst, arith, lit≤, true}
 use Rattle.std.proofs.lemmas.List.{length-append}
 use Rattle.std.proofs.lemmas.Fmt.{length-decimal-le}
-use Rattle.ffc_bounds.specs.Causes.{IsCauseBeyond}
+use Rattle.ffc_theory.specs.Bounds.{IsCauseBeyond}
 use Rattle.ffc_cert.specs.declared.entries.Entry.TheVariants.{Unknown}
 use Rattle.ffc_cert.specs.declared.entries.Cause.{Cause}
 use Rattle.ffc_cert.specs.declared.entries.Cause.TheVariants.{Degree, Terms, Steps, Memory}

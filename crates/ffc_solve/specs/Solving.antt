@@ -1,7 +1,7 @@
 -- What a run of the solver writes: the certificate and the answers, whole or up to where it stopped.
 use Rattle.std.specs.Prelude.{◌≡◌, ℕ, ◌+◌, ◌<◌, ◌≤◌, ◌⊎◌, List, [], ◌∷◌, ◌++◌, length, take, Option, Some, None, slice_get}
 use Rattle.ffc_base.specs.Outside.{Becomes, Appends, AppendsPrefix}
-use Rattle.ffc_bounds.specs.Causes.{LeavesBeyondBounds}
+use Rattle.ffc_theory.specs.Bounds.{LeavesBeyondBounds}
 use Rattle.ffc_cert.specs.declared.entries.Entry.{Entry}
 use Rattle.ffc_cert.specs.declared.entries.Entry.TheVariants.{Sat, UnsatCases, UnsatSteps, Unknown}
 use Rattle.ffc_cert.specs.Spelling.{header, entry_text, text_of}

@@ -4,7 +4,7 @@ use Rattle.std.specs.List.{list_all, list_any}
 use Rattle.std.proofs.lemmas.Bool.{false≢true, cases_Bool}
 use Rattle.std.proofs.lemmas.Bool.Decides.{nat_tests}
 use Rattle.ffc_field.specs.declared.id.FieldId.{FieldId}
-use Rattle.ffc_bounds.specs.Causes.{IsBeyondBounds, IsCauseBeyond}
+use Rattle.ffc_theory.specs.Bounds.{IsBeyondBounds, IsCauseBeyond}
 use Rattle.ffc_bounds.specs.Conjunctions.{is_conjunction, has_no_ite, has_one_order}
 use Rattle.ffc_bounds.specs.Linear.{is_affine, is_linear, is_linear_within}
 use Rattle.ffc_rules.specs.Cones.{atoms}

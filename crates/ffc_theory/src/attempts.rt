@@ -1,6 +1,6 @@
 //! Attempts with a bound: each decides every check of its kind for which so many units suffice.
 ghost use Rattle.std.specs.Prelude.{◌≡◌, true, Ok, None, IfOk, IfSome};
-ghost use Rattle.ffc_bounds.specs.Causes.{IsBeyondBounds};
+ghost use Rattle.ffc_theory.specs.Bounds.{IsBeyondBounds};
 ghost use Rattle.ffc_bounds.specs.Conjunctions.{has_order};
 ghost use Rattle.ffc_check.specs.Judged.{judged_check};
 ghost use Rattle.ffc_linear.specs.Answering.{IsLinearAnswer};

@@ -1,7 +1,7 @@
 //! Deciding a check.
 ghost use Rattle.std.specs.Prelude.{◌≡◌, ◌+◌, ◌≤◌, true, false, OnOk, IfOk, IfErr, IfSome, IfNone};
 ghost use Rattle.ffc_base.specs.Metering.{total};
-ghost use Rattle.ffc_bounds.specs.Causes.{IsCauseBeyond};
+ghost use Rattle.ffc_theory.specs.Bounds.{IsCauseBeyond};
 ghost use Rattle.ffc_cert.specs.WellFormed.{IsReadable};
 ghost use Rattle.ffc_rules.specs.Causes.{is_small};
 ghost use Rattle.ffc_rules.specs.Entries.{limits, EntryOk};
