@@ -1,0 +1,6 @@
+(set-logic QF_FF)
+(define-sort F () (_ FiniteField 5))
+(declare-const x F)
+(assert (or (= x (as ff1 F)) (= x (as ff2 F))))
+(assert (= (ff.mul x x x) (as ff2 F)))
+(check-sat)

@@ -1,0 +1,5 @@
+(set-logic QF_FF)
+(define-sort F () (_ FiniteField 18446744069414584321))
+(declare-const x F)
+(assert (= (ff.mul x x) (as ff7 F)))
+(check-sat)

@@ -1,0 +1,7 @@
+(set-logic QF_FF)
+(define-sort F () (_ FiniteField 18446744069414584321))
+(declare-const x F)
+(assert (= (ff.mul x x) (as ff4 F)))
+(check-sat)
+(assert (and true x))
+(check-sat)

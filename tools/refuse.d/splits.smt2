@@ -1,0 +1,8 @@
+(set-logic QF_FF)
+(define-sort F () (_ FiniteField 18446744069414584321))
+(declare-const x F)
+(declare-const y F)
+(assert (= (ff.mul x x) (as ff4 F)))
+(assert (= (ff.mul y y) (as ff9 F)))
+(assert (= (ff.mul x y) (as ff7 F)))
+(check-sat)

@@ -1,0 +1,8 @@
+(set-logic QF_FF)
+(define-sort F () (_ FiniteField 18446744069414584321))
+(declare-const x F)
+(declare-const y F)
+(assert (= (ff.add (ff.mul x x) (ff.neg x) (as ff1 F)) (as ff0 F)))
+(assert (= (ff.mul y y) (as ff4 F)))
+(assert (distinct x (as ff4294967296 F)))
+(check-sat)
