@@ -20,11 +20,14 @@ third_fails true true false d e is = refl
 third_fails true false false d e is = refl
 third_fails false b false d e is = refl
 
-two_fields_beyond : (budget : ℕ) (c : NodeCheck) → has_one_order c.nodes c.in_force ≡ false → IsBeyondBounds budget c
+two_fields_not_linear : (budget : ℕ) (c : NodeCheck) → has_one_order c.nodes c.in_force ≡ false → is_linear_within limits c budget ≡ false
 unfolding is_linear is_linear_within
-two_fields_beyond budget c two = third_fails (is_conjunction c.nodes c.in_force) (has_no_ite c.nodes c.in_force) (has_one_order c.nodes c.in_force) (is_affine limits c) _ two
+two_fields_not_linear budget c two = third_fails (is_conjunction c.nodes c.in_force) (has_no_ite c.nodes c.in_force) (has_one_order c.nodes c.in_force) (is_affine limits c) _ two
 
--- a check that is not over one field is not linear
+two_fields_beyond : (budget : ℕ) (c : NodeCheck) → has_one_order c.nodes c.in_force ≡ false → IsBeyondBounds budget c
+two_fields_beyond budget c two = record { not_linear = two_fields_not_linear budget c two; not_forced = λ f. false≢true (sym two ∙ f.one_field) }
+
+-- no bound speaks of a check that is not over one field
 pub no_field_beyond : (budget : ℕ) (c : NodeCheck) (found : Option FieldId) → ((id : FieldId) → found ≡ Some id → ⊥)
     → IfNone found (has_one_order c.nodes c.in_force ≡ false) → IsBeyondBounds budget c
 no_field_beyond budget c None none two = two_fields_beyond budget c two
@@ -37,9 +40,9 @@ fourth_fails true true false false e is = refl
 fourth_fails true false c false e is = refl
 fourth_fails false b c false e is = refl
 
-not_affine_beyond : (budget : ℕ) (c : NodeCheck) → is_affine limits c ≡ false → IsBeyondBounds budget c
+not_affine_not_linear : (budget : ℕ) (c : NodeCheck) → is_affine limits c ≡ false → is_linear_within limits c budget ≡ false
 unfolding is_linear is_linear_within
-not_affine_beyond budget c high = fourth_fails (is_conjunction c.nodes c.in_force) (has_no_ite c.nodes c.in_force) (has_one_order c.nodes c.in_force) (is_affine limits c) _ high
+not_affine_not_linear budget c high = fourth_fails (is_conjunction c.nodes c.in_force) (has_no_ite c.nodes c.in_force) (has_one_order c.nodes c.in_force) (is_affine limits c) _ high
 
 -- where one of some passes a test, and none that does is right, not all are right
 one_fails : (test right : ℕ → Bool) → ((id : ℕ) → test id ≡ true → right id ≡ false) → (ids : List ℕ) → list_any test ids ≡ true → list_all right ids ≡ false
@@ -64,11 +67,15 @@ too_long n b long = both_fail b (nat_le n 65536) (grind (arith, nat_tests, long)
     both_fail true b is = is
     both_fail false b is = refl
 
--- a check with an equality that passes a limit is not linear
+-- no bound speaks of a check with an equality that passes a limit
 pub limit_beyond : (budget : ℕ) (c : NodeCheck) (stop : DecideStop) → IsPassed c stop → IsCauseBeyond budget c (cause_of stop)
 limit_beyond budget c (stops.Spent t r a k) passed = absurd passed
-limit_beyond budget c stops.TooHigh passed =
-    not_affine_beyond budget c (one_fails (λ id. nat_lt 255 (degree_at c.nodes id)) _ (λ id high. too_high (degree_at c.nodes id) (nat_le (length_at c.nodes id) 65536) high) (atoms c.nodes c.in_force) passed)
-limit_beyond budget c stops.TooLong passed =
-    not_affine_beyond budget c (one_fails (λ id. nat_lt 65536 (length_at c.nodes id)) _ (λ id long. too_long (length_at c.nodes id) (nat_le (degree_at c.nodes id) 1) long) (atoms c.nodes c.in_force) passed.1)
+limit_beyond budget c stops.TooHigh passed = record {
+  not_linear = not_affine_not_linear budget c (one_fails (λ id. nat_lt 255 (degree_at c.nodes id)) _ (λ id high. too_high (degree_at c.nodes id) (nat_le (length_at c.nodes id) 65536) high) (atoms c.nodes c.in_force) passed);
+  not_forced = λ f. false≢true (sym f.low ∙ passed);
+}
+limit_beyond budget c stops.TooLong passed = record {
+  not_linear = not_affine_not_linear budget c (one_fails (λ id. nat_lt 65536 (length_at c.nodes id)) _ (λ id long. too_long (length_at c.nodes id) (nat_le (degree_at c.nodes id) 1) long) (atoms c.nodes c.in_force) passed.1);
+  not_forced = λ f. false≢true (sym f.short ∙ passed.1);
+}
 limit_beyond budget c stops.Memory passed = tt

@@ -5,11 +5,20 @@ use Rattle.ffc_cert.specs.declared.entries.Entry.TheVariants.{Sat, UnsatCases, U
 use Rattle.ffc_cert.specs.declared.entries.Cause.{Cause}
 use Rattle.ffc_cert.specs.declared.entries.Cause.TheVariants.{Degree, Terms, Steps, Memory}
 use Rattle.ffc_rules.specs.Entries.{NodeCheck, limits}
+use Rattle.ffc_linear.specs.declared.deciding.LinearAnswer.{LinearAnswer}
+use Rattle.ffc_linear.specs.declared.deciding.LinearAnswer.TheVariants.{Undecided}
+use Rattle.ffc_flat.specs.Answering.{IsRightAnswer}
+use Rattle.ffc_bounds.specs.Forced.{IsRefutedByForcing}
 use Rattle.ffc_bounds.specs.Linear.{is_linear_within}
 
 -- no bound says that the check is decided within the budget
-abbrev pub IsBeyondBounds : ℕ → NodeCheck → Type 0
-IsBeyondBounds budget c = is_linear_within limits c budget ≡ false
+pub record IsBeyondBounds (budget : ℕ) (c : NodeCheck) : Type 0 where
+  pub not_linear : is_linear_within limits c budget ≡ false
+  pub not_forced : IsRefutedByForcing budget c → ⊥
+
+-- an answer is right, and leaves the check undecided only where no bound speaks of it
+abbrev pub IsBoundedAnswer : NodeCheck → ℕ → LinearAnswer → Type 0
+IsBoundedAnswer c budget answer = IsRightAnswer c answer × (answer ≡ Undecided → IsBeyondBounds budget c)
 
 -- a check that is left undecided for this cause is such a check, or memory was out
 abbrev pub IsCauseBeyond : ℕ → NodeCheck → Cause → Type 0

@@ -1,9 +1,8 @@
 //! Attempts with a bound: each decides every check of its kind for which so many units suffice.
 ghost use Rattle.std.specs.Prelude.{◌≡◌, true, Ok, None, IfOk, IfSome};
-ghost use Rattle.ffc_theory.specs.Bounds.{IsBeyondBounds};
+ghost use Rattle.ffc_theory.specs.Bounds.{IsBeyondBounds, IsBoundedAnswer};
 ghost use Rattle.ffc_bounds.specs.Conjunctions.{has_order};
 ghost use Rattle.ffc_check.specs.Judged.{judged_check};
-ghost use Rattle.ffc_linear.specs.Answering.{IsLinearAnswer};
 ghost use Rattle.ffc_rules.specs.Laws.{IsValid};
 ghost use Rattle.ffc_trials.specs.Parts.{IsConeOf};
 ghost use Rattle.ffc_trials.specs.Stops.{IsGiven};
@@ -11,36 +10,57 @@ ghost use Rattle.ffc_trials.specs.Stops.{IsGiven};
 use ffc_base::Meter;
 use ffc_cert::Entry;
 use ffc_field::{Field, ForField};
+use ffc_flat::flat;
 use ffc_linear::{LinearAnswer, linear};
 use ffc_term::Check;
 use ffc_trials::{Cone, completed_model, field_of};
 use std::alloc::{AllocError, Global};
 
-/// An attempt by linear algebra, with a meter of its own.
+/// Answers a check by linear algebra, and else by what its clauses force. Each of the two has a meter of its own.
+fn answer_within<F: Field>(
+    alloc: Global,
+    check: &Check,
+    cone: &Cone,
+    steps: u64,
+) -> Result<LinearAnswer, AllocError>
+    requires valid { IsValid (judged_check check.now) }
+    requires cone { IsConeOf (judged_check check.now) cone.now }
+    requires field { has_order check.now.table.now check.now.in_force.now F.ORDER ≡ true }
+    ensures { IfOk result (IsBoundedAnswer (judged_check check.now) steps) }
+{
+    let mut meter = Meter::new(steps);
+    let answer = linear::<F>(alloc, check, cone, &mut meter)?;
+    if !matches!(answer, LinearAnswer::Undecided) {
+        return Ok(answer);
+    }
+    let mut meter = Meter::new(steps);
+    flat(alloc, check, cone, &mut meter)
+}
+
+/// The attempts with a bound, over the field of a check.
 #[derive(Clone, Copy)]
-struct LinearAttempt<'a> {
+struct Attempts<'a> {
     alloc: Global,
     check: &'a Check<'a>,
     cone: &'a Cone,
     steps: u64,
 }
 
-impl ForField for LinearAttempt<'_> {
+impl ForField for Attempts<'_> {
     type Out = Result<LinearAnswer, AllocError>;
 
     ghost can_run = { λ w p. IsValid (judged_check w.check.now)
         × IsConeOf (judged_check w.check.now) w.cone.now
         × (has_order w.check.now.table.now w.check.now.in_force.now p ≡ true) };
 
-    ghost gives = { λ w _ r. IfOk r (IsLinearAnswer (judged_check w.check.now) w.steps) };
+    ghost gives = { λ w _ r. IfOk r (IsBoundedAnswer (judged_check w.check.now) w.steps) };
 
     fn run<F: Field>(self) -> Result<LinearAnswer, AllocError> {
-        let mut meter = Meter::new(self.steps);
-        linear::<F>(self.alloc, self.check, self.cone, &mut meter)
+        answer_within::<F>(self.alloc, self.check, self.cone, self.steps)
     }
 }
 
-/// The entry of a check that is linear within a budget of `steps`. None of any other.
+/// The entry of a check that a bound says is decided within a budget of `steps`. None of any other.
 pub(crate) fn decided_within(
     alloc: Global,
     check: &Check,
@@ -55,13 +75,13 @@ pub(crate) fn decided_within(
     let Some(field) = field_of(check, cone) else {
         return Ok(None);
     };
-    let attempt = LinearAttempt {
+    let attempts = Attempts {
         alloc,
         check,
         cone,
         steps,
     };
-    match field.run(attempt)? {
+    match field.run(attempts)? {
         LinearAnswer::Undecided => Ok(None),
         LinearAnswer::Values(known) => {
             let pairs = completed_model(alloc, check, known.as_slice())?;
