@@ -1,0 +1,7 @@
+(set-logic QF_FF)
+(define-sort F () (_ FiniteField 2013265921))
+(declare-const x F)
+(declare-const y F)
+(assert (= (ff.mul x y) (as ff6 F)))
+(assert (= (ff.add (ff.mul x x) (ff.mul y y)) (as ff13 F)))
+(check-sat)
