@@ -1,0 +1,9 @@
+pub mod RangeLemmas
+pub mod SideLemmas
+pub mod LineLemmas
+pub mod WithinLemmas
+pub mod ForcedLemmas
+pub mod ChoiceLemmas
+pub mod AttemptLemmas
+pub mod SearchLemmas
+pub mod RecordLemmas
