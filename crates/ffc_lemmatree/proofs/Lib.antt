@@ -1,0 +1,13 @@
+pub mod BoundedTree
+pub mod Branches
+pub mod Chains
+pub mod Closing
+pub mod Grammar
+pub mod Lines
+pub mod OneVariable
+pub mod Polynomials
+pub mod Readable
+pub mod Refuting
+pub mod Steps
+pub mod Texts
+pub mod Writing
