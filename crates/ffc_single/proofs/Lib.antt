@@ -1,0 +1,11 @@
+pub mod CaseLemmas
+pub mod CommonRootLemmas
+pub mod DecisionLemmas
+pub mod DividingLemmas
+pub mod EndingLemmas
+pub mod EuclidLemmas
+pub mod FlatLemmas
+pub mod ModelLemmas
+pub mod RootLemmas
+pub mod SideLemmas
+pub mod UnitLemmas
