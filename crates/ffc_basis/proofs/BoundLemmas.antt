@@ -1,7 +1,7 @@
 -- How many units a reduction takes: each cancels a monomial, and they all differ.
-use Rattle.std.proofs.Common.{◌≡◌, ◌≢◌, ℕ, zero, suc, ◌+◌, ◌*◌, ◌<◌, ◌≤◌, List, [], ◌∷◌, ◌++◌, length, get_or, sym, ap, ap₂, ◌∙◌, subst, inl, inr, arith}
+use Rattle.std.proofs.Common.{◌≡◌, ◌≢◌, ℕ, zero, suc, ◌+◌, ◌*◌, ◌<◌, ◌≤◌, ◌⊎◌, List, [], ◌∷◌, ◌++◌, length, get_or, sym, ap, ap₂, ◌∙◌, subst, inl, inr, arith}
 use Rattle.std.proofs.Math.Nat.{mul-le-mul_right}
-use Rattle.std.proofs.lemmas.Bool.{cases_eq}
+use Rattle.std.proofs.lemmas.Bool.{cases_eq, cases_lt}
 use Rattle.std.specs.declared.cmp.Ordering.{Ordering}
 use Rattle.std.specs.declared.cmp.Ordering.TheVariants.{Greater}
 use Rattle.ffc_base.specs.Metering.{Spending, total, one_more}
@@ -10,8 +10,8 @@ use Rattle.ffc_field.specs.Binomial.{choose}
 use Rattle.ffc_field.specs.Modular.{IsPrime, sub_mod}
 use Rattle.ffc_field.proofs.ModularLaws.{sub_mod-self}
 use Rattle.ffc_ring.specs.Monomial.{Monomial, IsMonomial, exponent, degree, Divides, mono_lcm, mono_quotient}
-use Rattle.ffc_ring.specs.Polynomial.{Terms, AreTerms, coefficient, IsNoneOf, term_product}
-use Rattle.ffc_ring.specs.Counting.{IsIn, AreDifferent, AreUpTo as AreMonomialsUpTo}
+use Rattle.ffc_ring.specs.Polynomial.{Terms, AreTerms, coefficient, SamePolynomial, IsNoneOf, term_product}
+use Rattle.ffc_ring.specs.Counting.{IsIn}
 use Rattle.ffc_ring.proofs.CountingLemmas.{count_of_monomials}
 use Rattle.ffc_ring.proofs.MonomialLemmas.{exponent-mono_mul, degree-mono_mul, degree_of_divisor, IsMonomialFrom-mono_quotient, exponent-mono_quotient, IsMonomial-mono_lcm, exponent-mono_lcm}
 use Rattle.ffc_ring.proofs.PolynomialLemmas.{coefficient-difference, monomial_of_coefficient, shifted_monomial}
@@ -20,7 +20,8 @@ use Rattle.ffc_mono.specs.MonomialOrder.{IsMonomialOrder}
 use Rattle.ffc_mono.proofs.LeadingLemmas.{greater_trans, not_itself}
 use Rattle.ffc_basis.specs.declared.line.Line.{Line}
 use Rattle.ffc_basis.specs.Lines.{polys_of}
-use Rattle.ffc_basis.specs.Reduction.{IsCancelled}
+use Rattle.ffc_basis.specs.Reduction.{IsIrreducible, AreIrreducible, IsCancelled}
+use Rattle.ffc_basis.specs.Remainders.{AreAbove, AreCancelled, IsCounted}
 use Rattle.ffc_basis.specs.Completion.{IsSPolynomial}
 use Rattle.ffc_basis.specs.Completed.{IsFront}
 use Rattle.ffc_basis.specs.Units.{TakesReductions, AreInVariables, IsUpTo, AreUpTo, IsReductionBound, IsPairBound, IsPairsBound, IsCompletionBound}
@@ -29,41 +30,32 @@ use Rattle.ffc_basis.specs.PairTable.{ArePairs, AreFew, IsPendingAt, seconds, se
 use Rattle.ffc_basis.proofs.FewLemmas.{settled_square, pending_square}
 use Rattle.ffc_poly.specs.Ordered.{IsOrdered}
 use Rattle.ffc_basis.proofs.OrderedTerms.{AreTerms-ordered, coefficient-none}
-use Rattle.ffc_basis.proofs.ReductionLemmas.{some_at}
+use Rattle.ffc_basis.proofs.ReductionLemmas.{place_of_monomial, some_at}
 use Rattle.ffc_basis.proofs.AddedLemmas.{polys-append_all}
 
--- each of these monomials is above that one
-abbrev pub AreAbove : (Monomial → Monomial → Ordering) → List Monomial → Monomial → Type 0
-AreAbove cmp [] x = Unit {0}
-AreAbove cmp (m ∷ ms) x = (cmp m x ≡ Greater) × AreAbove cmp ms x
-
--- The monomials that a reduction has cancelled, the last one first: they differ, the terms from a place on are below them, and
--- they have no other variable and no higher degree than the polynomial, where the order is graded.
-pub record AreCancelled (p : ℕ) (cmp : Monomial → Monomial → Ordering) (gs : List Terms) (poly rest : Terms) (place : ℕ) (ms : List Monomial) : Type 0 where
-  pub different : AreDifferent ms
-  pub below : (j : ℕ) → place ≤ j → j < length rest → AreAbove cmp ms (get_or rest j (0, [])).1
-  pub within : (vs : List ℕ) (d : ℕ) → IsGradedIn vs cmp → AreInVariables p vs gs → IsUpTo p vs d poly → AreMonomialsUpTo vs d ms × IsUpTo p vs d rest
-
--- so many units were taken of it
-abbrev pub IsCounted : ℕ → (Monomial → Monomial → Ordering) → List Terms → Terms → Terms → ℕ → Spending → Spending → Type 0
-IsCounted p cmp gs poly rest place old new =
-    (ms : List Monomial) × AreCancelled p cmp gs poly rest place ms × (new.reductions ≡ old.reductions + length ms)
-
-pub counted_begins : (p : ℕ) (cmp : Monomial → Monomial → Ordering) (gs : List Terms) (poly rest : Terms) (place : ℕ) (s : Spending) → rest ≡ poly → IsCounted p cmp gs poly rest place s s
-counted_begins p cmp gs poly rest place s is = (
+-- nothing was taken yet
+pub counted_begins : (p : ℕ) (cmp : Monomial → Monomial → Ordering) (gs : List Terms) (poly rest : Terms) (s : Spending) → rest ≡ poly → IsCounted p cmp gs poly rest s s
+counted_begins p cmp gs poly rest s is = (
   [],
   record {
     different = tt;
-    below = λ j h l. tt;
+    below = λ x some. inr tt;
     within = λ vs d graded lines up. (tt, subst (IsUpTo p vs d) (sym is) up);
   },
   omega arith,
 )
 
-pub counted_later : (p : ℕ) (cmp : Monomial → Monomial → Ordering) (gs : List Terms) (poly rest : Terms) (place : ℕ) (old new : Spending) → IsCounted p cmp gs poly rest place old new → IsCounted p cmp gs poly rest (place + 1) old new
-counted_later p cmp gs poly rest place old new (ms, c, n) = (
+-- the same of other terms of the same polynomial
+pub counted_same : (p : ℕ) (cmp : Monomial → Monomial → Ordering) (gs : List Terms) (poly rest next : Terms) (old new : Spending) → SamePolynomial p rest next → IsCounted p cmp gs poly rest old new → IsCounted p cmp gs poly next old new
+counted_same p cmp gs poly rest next old new same (ms, c, n) = (
   ms,
-  record { different = c.different; below = λ j h l. c.below j (omega arith) l; within = c.within },
+  record {
+    different = c.different;
+    below = λ x some. c.below x (λ none. some (sym (same x) ∙ none));
+    within = λ vs d graded lines up.
+        let within = c.within vs d graded lines up in
+        (within.0, λ x some. within.1 x (λ none. some (sym (same x) ∙ none)));
+  },
   n,
 )
 
@@ -76,33 +68,54 @@ module _ (cmp : Monomial → Monomial → Ordering) (laws : IsMonomialOrder cmp)
   above_through [] m x v h = tt
   above_through (n ∷ ms) m x v h = (greater_trans cmp laws n m x v.0 h, above_through ms m x v.1 h)
 
+  -- the monomials that were cancelled are above one that is left and that a line divides
+  above_reducible : (p : ℕ) (gs : List Terms) (poly rest : Terms) (ms : List Monomial) (m : Monomial) → AreCancelled p cmp gs poly rest ms → coefficient p rest m ≢ 0 → (IsIrreducible p cmp gs m → ⊥) → AreAbove cmp ms m
+  above_reducible p gs poly rest ms m c some reducible =
+      elim (c.below m some) [ inl none ↦ absurd (reducible none) | inr above ↦ above ]
+
   -- a monomial more
-  pub counted_next : (p : ℕ) (gs : List Terms) (poly rest next : Terms) (place : ℕ) (old mid new : Spending) → place < length rest → IsCancelled p cmp gs rest next place → new ≡ one_more mid Reduction
-      → IsCounted p cmp gs poly rest place old mid → IsCounted p cmp gs poly next place old new
-  counted_next p gs poly rest next place old mid new h step taken (ms, c, n) =
-      let m = (get_or rest place (0, [])).1 in
+  pub counted_cancel : (p : ℕ) (gs : List Terms) (poly rest next : Terms) (m : Monomial) (old mid new : Spending) → IsMonomial m → coefficient p rest m ≢ 0 → (IsIrreducible p cmp gs m → ⊥)
+      → ((x : Monomial) → coefficient p next x ≢ 0 → IsIrreducible p cmp gs x ⊎ (cmp m x ≡ Greater))
+      → ((vs : List ℕ) (d : ℕ) → IsGradedIn vs cmp → AreInVariables p vs gs → IsUpTo p vs d rest → IsUpTo p vs d next)
+      → new ≡ one_more mid Reduction → IsCounted p cmp gs poly rest old mid → IsCounted p cmp gs poly next old new
+  counted_cancel p gs poly rest next m old mid new monomial some reducible below up_to taken (ms, c, n) =
+      let above = above_reducible p gs poly rest ms m c some reducible in
       let more : new.reductions ≡ mid.reductions + 1 = ap (λ s. s.reductions) taken in (
         m ∷ ms,
         record {
-          different = (none_of_above ms m (c.below place (omega arith) h), c.different);
-          below = λ j after l. (step.below j after l, above_through ms m (get_or next j (0, [])).1 (c.below place (omega arith) h) (step.below j after l));
+          different = (none_of_above ms m above, c.different);
+          below = λ x there.
+              elim (below x there) [ inl none ↦ inl none | inr under ↦ inr (under, above_through ms m x above under) ];
           within = λ vs d graded lines up.
               let old_within = c.within vs d graded lines up in
-              let top = old_within.1 m step.some in
-              ((step.monomial, top.0, top.1, old_within.0), step.up_to vs d graded lines old_within.1);
+              let top = old_within.1 m some in
+              ((monomial, top.0, top.1, old_within.0), up_to vs d graded lines old_within.1);
         },
         omega arith,
       )
 
-  -- the units for the monomials and one more, which is being cancelled
-  pub attempt_is_bounded : (p : ℕ) (gs : List Terms) (poly rest : Terms) (place : ℕ) (old mid new : Spending) → place < length rest → IsMonomial (get_or rest place (0, [])).1 → coefficient p rest (get_or rest place (0, [])).1 ≢ 0
-      → new ≡ one_more mid Reduction → TakesReductions old mid → IsCounted p cmp gs poly rest place old mid → IsReductionBound p cmp gs poly old new
-  attempt_is_bounded p gs poly rest place old mid new h monomial some taken t (ms, c, n) vs d graded lines up =
+  -- the same of a term at a place, where the terms before it are irreducible
+  pub counted_next : (p : ℕ) (gs : List Terms) (poly rest next : Terms) (place : ℕ) (old mid new : Spending) → IsCancelled p cmp gs rest next place → (IsIrreducible p cmp gs (get_or rest place (0, [])).1 → ⊥) → AreIrreducible p cmp gs next place
+      → new ≡ one_more mid Reduction → IsCounted p cmp gs poly rest old mid → IsCounted p cmp gs poly next old new
+  counted_next p gs poly rest next place old mid new step reducible irreducible taken counted =
       let m = (get_or rest place (0, [])).1 in
+      counted_cancel p gs poly rest next m old mid new step.monomial step.some reducible
+      (λ x some.
+      let there = place_of_monomial p next x some in
+      elim (cases_lt there.0 place) [
+        | inl before ↦ inl (subst (IsIrreducible p cmp gs) there.2 (irreducible there.0 before))
+        | inr after ↦ inr (subst (λ y. cmp m y ≡ Greater) there.2 (step.below there.0 after there.1))
+      ])
+      step.up_to taken counted
+
+  -- the units for the monomials and one more, which is being cancelled
+  pub attempt_is_bounded : (p : ℕ) (gs : List Terms) (poly rest : Terms) (m : Monomial) (old mid new : Spending) → IsMonomial m → coefficient p rest m ≢ 0 → (IsIrreducible p cmp gs m → ⊥)
+      → new ≡ one_more mid Reduction → TakesReductions old mid → IsCounted p cmp gs poly rest old mid → IsReductionBound p cmp gs poly old new
+  attempt_is_bounded p gs poly rest m old mid new monomial some reducible taken t (ms, c, n) vs d graded lines up =
       let within = c.within vs d graded lines up in
       let top = within.1 m some in
       let most : suc (length ms) ≤ choose (length vs + d) d =
-      count_of_monomials vs d (m ∷ ms) (none_of_above ms m (c.below place (omega arith) h), c.different) (monomial, top.0, top.1, within.0) in
+      count_of_monomials vs d (m ∷ ms) (none_of_above ms m (above_reducible p gs poly rest ms m c some reducible), c.different) (monomial, top.0, top.1, within.0) in
       let reductions : new.reductions ≡ mid.reductions + 1 = ap (λ s. s.reductions) taken in
       let trials : new.trials ≡ mid.trials = ap (λ s. s.trials) taken in
       let assignments : new.assignments ≡ mid.assignments = ap (λ s. s.assignments) taken in
@@ -111,13 +124,13 @@ module _ (cmp : Monomial → Monomial → Ordering) (laws : IsMonomialOrder cmp)
 
 -- the same of ordered terms
 pub attempt_at : (p : ℕ) → IsPrime p → (cmp : Monomial → Monomial → Ordering) → IsMonomialOrder cmp → (limit : ℕ) (gs : List Terms) (poly rest : Terms) (place : ℕ) (old mid new : Spending) → IsOrdered p cmp limit rest → place < length rest
-    → new ≡ one_more mid Reduction → TakesReductions old mid → IsCounted p cmp gs poly rest place old mid → IsReductionBound p cmp gs poly old new
-attempt_at p prime cmp laws limit gs poly rest place old mid new o h taken t counted =
+    → (IsIrreducible p cmp gs (get_or rest place (0, [])).1 → ⊥) → new ≡ one_more mid Reduction → TakesReductions old mid → IsCounted p cmp gs poly rest old mid → IsReductionBound p cmp gs poly old new
+attempt_at p prime cmp laws limit gs poly rest place old mid new o h reducible taken t counted =
     let some = some_at p prime cmp laws limit rest place o h in
-    attempt_is_bounded cmp laws p gs poly rest place old mid new h (monomial_of_coefficient p rest (get_or rest place (0, [])).1 (AreTerms-ordered p cmp limit rest o) some) some taken t counted
+    attempt_is_bounded cmp laws p gs poly rest (get_or rest place (0, [])).1 old mid new (monomial_of_coefficient p rest (get_or rest place (0, [])).1 (AreTerms-ordered p cmp limit rest o) some) some reducible taken t counted
 
-pub counted_is_bounded : (p : ℕ) (cmp : Monomial → Monomial → Ordering) (gs : List Terms) (poly rest : Terms) (place : ℕ) (old mid new : Spending) → new ≡ mid → TakesReductions old mid → IsCounted p cmp gs poly rest place old mid → IsReductionBound p cmp gs poly old new
-counted_is_bounded p cmp gs poly rest place old mid new same t (ms, c, n) vs d graded lines up =
+pub counted_is_bounded : (p : ℕ) (cmp : Monomial → Monomial → Ordering) (gs : List Terms) (poly rest : Terms) (old mid new : Spending) → new ≡ mid → TakesReductions old mid → IsCounted p cmp gs poly rest old mid → IsReductionBound p cmp gs poly old new
+counted_is_bounded p cmp gs poly rest old mid new same t (ms, c, n) vs d graded lines up =
     let most : length ms ≤ choose (length vs + d) d = count_of_monomials vs d ms c.different (c.within vs d graded lines up).0 in
     let whole : total mid ≤ total old + choose (length vs + d) d = omega (arith, t.trials, t.assignments, t.chains) in
     subst (λ s. total s ≤ total old + choose (length vs + d) d) (sym same) whole

@@ -14,7 +14,10 @@ pub mod PairLemmas
 pub mod PairTableLemmas
 pub mod PartLemmas
 pub mod PartnerLemmas
+pub mod PlaceLemmas
 pub mod RaisedLemmas
 pub mod ReductionLemmas
 pub mod SPolynomialLemmas
+pub mod SplitLemmas
+pub mod TermCounts
 pub mod UnitLemmas

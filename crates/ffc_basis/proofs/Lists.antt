@@ -1,5 +1,5 @@
 -- Lists of lines and of terms, by their places.
-use Rattle.std.proofs.Common.{◌≡◌, ◌≢◌, ◌⊎◌, ℕ, zero, suc, ◌<◌, List, [], ◌∷◌, ◌++◌, length, get_or, take, refl, ap, inl, inr, arith, Result, Ok, Err, OnOk, IfOk}
+use Rattle.std.proofs.Common.{◌≡◌, ◌≢◌, ◌⊎◌, ℕ, zero, suc, ◌<◌, List, [], ◌∷◌, ◌++◌, length, get_or, take, refl, ap, inl, inr, arith, Result, Ok, Err, OnOk, OnErr, IfOk}
 use Rattle.ffc_poly.specs.declared.stop.PolyStop.{PolyStop}
 use Rattle.ffc_poly.specs.declared.stop.PolyStop.TheVariants.{DegreeOver, TermsOver, Memory}
 use Rattle.ffc_basis.specs.declared.line.Line.{Line}
@@ -45,9 +45,18 @@ limits DegreeOver a b h = inl (a refl)
 limits TermsOver a b h = inr (b refl)
 limits Memory a b h = absurd (h refl)
 
+pub only_memory : (stop : PolyStop) → (stop ≡ DegreeOver → ⊥) → (stop ≡ TermsOver → ⊥) → stop ≡ Memory
+only_memory DegreeOver a b = absurd (a refl)
+only_memory TermsOver a b = absurd (b refl)
+only_memory Memory a b = refl
+
 pub on_ok : {T E P Q : Type 0} (r : Result T E) → (P → Q) → OnOk r P → OnOk r Q
 on_ok (Ok x) f h = f h
 on_ok (Err e) f h = tt
+
+pub always_on_err : {T E P : Type 0} (r : Result T E) → P → OnErr r P
+always_on_err (Ok x) h = tt
+always_on_err (Err e) h = h
 
 pub if_ok : {T E : Type 0} (r : Result T E) (P Q : T → Type 0) → ((x : T) → P x → Q x) → IfOk r P → IfOk r Q
 if_ok (Ok x) P Q f h = f x h

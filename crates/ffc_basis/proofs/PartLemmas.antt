@@ -20,7 +20,7 @@ some_of_sum p a b n some =
     ]
 
 -- a single term has one monomial
-only_monomial : (p k : ℕ) (q m : Monomial) (single : Terms) → SamePolynomial p single ((k, q) ∷ []) → coefficient p single m ≢ 0 → m ≡ q
+pub only_monomial : (p k : ℕ) (q m : Monomial) (single : Terms) → SamePolynomial p single ((k, q) ∷ []) → coefficient p single m ≢ 0 → m ≡ q
 only_monomial p k q m single same some =
     elim (cases_monomial q m) [
       | inl is ↦ sym is

@@ -19,6 +19,7 @@ use Rattle.ffc_mono.proofs.LeadingLemmas.{greater_trans, not_itself, leading_at_
 use Rattle.ffc_poly.specs.Ordered.{IsAbove, IsOrdered}
 use Rattle.ffc_basis.proofs.OrderedTerms.{AreTerms-ordered, IsOrdered-at, coefficient-none, coefficient-other, coefficient-above, coefficient-first, first_nonzero, IsLeading-first}
 use Rattle.ffc_basis.specs.Lines.{Parts, combination, IsPolynomial, ArePolynomials}
+use Rattle.ffc_basis.specs.Remainders.{IsRemainder}
 use Rattle.ffc_basis.specs.Units.{AreInVariables, IsUpTo}
 use Rattle.ffc_basis.specs.Reduction.{IsIrreducible, IsReduced, IsAtMostLead, IsStep, IsReduction, AreIrreducible, SameFirst, IsCancelled, IsRecorded, IsStopped, PassesLimit}
 
@@ -98,6 +99,9 @@ module _ (p : ℕ) (prime : IsPrime p) (cmp : Monomial → Monomial → Ordering
   pub some_at : (ts : Terms) (j : ℕ) → IsOrdered p cmp limit ts → j < length ts → coefficient p ts (get_or ts j (0, [])).1 ≢ 0
   some_at ts j o h none = omega (arith, (IsOrdered-at p cmp limit ts j o h).0, coefficient-at ts j o h, none)
 
+  nonzero_at : (ts : Terms) (j : ℕ) → IsOrdered p cmp limit ts → j < length ts → (get_or ts j (0, [])).0 ≢ 0
+  nonzero_at ts j o h none = omega (arith, (IsOrdered-at p cmp limit ts j o h).0, none)
+
   -- nothing is above itself, nor both above and below
   no_circle : (m k : Monomial) → cmp m k ≡ Greater → cmp k m ≡ Greater → ⊥
   no_circle m k e f = not_itself cmp laws m m (greater_trans cmp laws m k m e f) refl
@@ -116,6 +120,14 @@ module _ (p : ℕ) (prime : IsPrime p) (cmp : Monomial → Monomial → Ordering
       let lead = IsLeading-first p cmp laws limit t ts o in
       (t.0, t.1, lead, at_most_lead (t ∷ ts) t.0 t.1 m lead some)
 
+  -- a reduction is a remainder whose terms are in order, with polynomials as parts
+  pub remainder_of : (gs : List Terms) (poly rest : Terms) (parts : Parts) → IsReduction p cmp gs poly rest parts → IsRemainder p cmp gs poly rest parts
+  remainder_of gs poly rest parts r = record { whole = r.whole; before = r.before; at_most = r.at_most; lower = r.lower }
+
+  pub reduction_of : (gs : List Terms) (poly rest : Terms) (parts : Parts) → IsRemainder p cmp gs poly rest parts → IsPolynomial p cmp rest → ArePolynomials p cmp parts → IsReduction p cmp gs poly rest parts
+  reduction_of gs poly rest parts r left polynomials =
+      record { whole = r.whole; before = r.before; at_most = r.at_most; lower = r.lower; left = left; polynomials = polynomials }
+
   -- nothing is subtracted yet
   pub reduction_begins : (gs : List Terms) (poly rest : Terms) (parts : Parts) → IsOrdered p cmp limit poly → IsPolynomial p cmp poly → rest ≡ poly → parts ≡ [] → IsReduction p cmp gs poly rest parts
   reduction_begins gs poly rest parts o within is none =
@@ -130,13 +142,7 @@ module _ (p : ℕ) (prime : IsPrime p) (cmp : Monomial → Monomial → Ordering
 
   -- ---- a step
 
-  module _ (gs : List Terms) (i k : ℕ) (q : Monomial) (rest : Terms) (place : ℕ) (o : IsOrdered p cmp limit rest) (within : place < length rest) (u : IsMonomial q) (below : k < p) (v : AreTerms (get_or gs i [])) (step : IsStep p cmp gs (get_or rest place (0, [])).0 (get_or rest place (0, [])).1 i k q) where
-    abbrev c : ℕ
-    c = (get_or rest place (0, [])).0
-
-    abbrev m : Monomial
-    m = (get_or rest place (0, [])).1
-
+  module _ (gs : List Terms) (i k : ℕ) (q : Monomial) (rest : Terms) (c : ℕ) (m : Monomial) (is : coefficient p rest m ≡ c) (present : c ≢ 0) (u : IsMonomial q) (below : k < p) (v : AreTerms (get_or gs i [])) (step : IsStep p cmp gs c m i k q) where
     abbrev g : Terms
     g = get_or gs i []
 
@@ -153,8 +159,7 @@ module _ (p : ℕ) (prime : IsPrime p) (cmp : Monomial → Monomial → Ordering
     factor_some =
         elim (cases_eq k 0) [
           | inl none ↦
-              let nothing : c ≡ 0 = sym step.leading.4 ∙ ap (λ x. mul_mod p x step.leading.0) none ∙ mul_mod-zero_first p step.leading.0 in
-              absurd (omega (arith, (IsOrdered-at p cmp limit rest place o within).0, nothing))
+              absurd (present (sym step.leading.4 ∙ ap (λ x. mul_mod p x step.leading.0) none ∙ mul_mod-zero_first p step.leading.0))
           | inr some ↦ omega arith
         ]
 
@@ -166,6 +171,9 @@ module _ (p : ℕ) (prime : IsPrime p) (cmp : Monomial → Monomial → Ordering
 
     positive : 0 < p
     positive = omega (arith, prime.least)
+
+    m_some : coefficient p rest m ≢ 0
+    m_some none = present (sym is ∙ none)
 
     -- each monomial of what is left was there, or is one of the multiple
     some_of_next : (next : Terms) → SamePolynomial p next (difference p rest multiple) → (x : Monomial) → coefficient p next x ≢ 0 → (coefficient p rest x ≢ 0) ⊎ (coefficient p multiple x ≢ 0)
@@ -181,16 +189,15 @@ module _ (p : ℕ) (prime : IsPrime p) (cmp : Monomial → Monomial → Ordering
         elim (some_of_next next left x some) [
           | inl old ↦ lower x old
           | inr new ↦
-              let top = lower m (some_at rest place o within) in
+              let top = lower m m_some in
               elim (leading_at_most cmp laws p multiple c m multiple_leads x new) [
                 | inl same ↦ subst (IsAtMostLead p cmp poly) (sym same) top
                 | inr under ↦ (top.0, top.1, top.2, λ above. top.3 (greater_trans cmp laws m x top.1 under above))
               ]
         ]
 
-    pub step_keeps : (next : Terms) (old new : Parts) → SamePolynomial p next (difference p rest multiple) → IsRecorded p old new i k q → IsPolynomial p cmp next → (ArePolynomials p cmp old → ArePolynomials p cmp new)
-        → (poly : Terms) → IsReduction p cmp gs poly rest old → IsReduction p cmp gs poly next new
-    step_keeps next old new left recorded is_polynomial are_polynomials poly so_far = record {
+    pub step_keeps : (next : Terms) (old new : Parts) → SamePolynomial p next (difference p rest multiple) → IsRecorded p old new i k q → (poly : Terms) → IsRemainder p cmp gs poly rest old → IsRemainder p cmp gs poly next new
+    step_keeps next old new left recorded poly so_far = record {
       whole = whole_after p positive poly rest next (combination gs old) (combination gs new) multiple so_far.whole left (recorded.sum gs);
       before = recorded.before (length gs) step.within so_far.before;
       at_most = λ j x has.
@@ -199,21 +206,19 @@ module _ (p : ℕ) (prime : IsPrime p) (cmp : Monomial → Monomial → Ordering
             | inr (here, is) ↦
                 subst (λ a. (d : ℕ) × (n : Monomial) × IsLeading p cmp (get_or gs a []) d n × IsAtMostLead p cmp poly (mono_mul x n)) (sym here)
                 (subst (λ y. (d : ℕ) × (n : Monomial) × IsLeading p cmp (get_or gs i []) d n × IsAtMostLead p cmp poly (mono_mul y n)) (sym is)
-                (step.leading.0, step.leading.1, step.leading.2, subst (IsAtMostLead p cmp poly) (sym product_is) (so_far.lower m (some_at rest place o within))))
+                (step.leading.0, step.leading.1, step.leading.2, subst (IsAtMostLead p cmp poly) (sym product_is) (so_far.lower m m_some)))
           ];
       lower = next_is_lower poly next left so_far.lower;
-      left = is_polynomial;
-      polynomials = are_polynomials so_far.polynomials;
     }
 
     -- each monomial of what is left was there and is another one, or is below the cancelled one
-    next_is_below : (next : Terms) → SamePolynomial p next (difference p rest multiple) → (x : Monomial) → coefficient p next x ≢ 0 → ((coefficient p rest x ≢ 0) × (x ≢ m)) ⊎ (cmp m x ≡ Greater)
+    pub next_is_below : (next : Terms) → SamePolynomial p next (difference p rest multiple) → (x : Monomial) → coefficient p next x ≢ 0 → ((coefficient p rest x ≢ 0) × (x ≢ m)) ⊎ (cmp m x ≡ Greater)
     next_is_below next left x some =
         elim (cases_monomial x m) [
           | inl same ↦
               let gone : coefficient p next m ≡ 0 =
-              left m ∙ coefficient-difference p positive rest multiple m ∙ ap₂ (sub_mod p) (coefficient-at rest place o within) multiple_leads.0
-              ∙ sub_mod-self p c (let low : c < p = (IsOrdered-at p cmp limit rest place o within).1 in omega arith) in
+              left m ∙ coefficient-difference p positive rest multiple m ∙ ap₂ (sub_mod p) is multiple_leads.0
+              ∙ sub_mod-self p c (let low : coefficient p rest m < p = mod-lt _ positive in omega (arith, is)) in
               absurd (some (ap (coefficient p next) same ∙ gone))
           | inr other ↦
               elim (some_of_next next left x some) [
@@ -223,8 +228,14 @@ module _ (p : ℕ) (prime : IsPrime p) (cmp : Monomial → Monomial → Ordering
               ]
         ]
 
-    m_monomial : IsMonomial m
-    m_monomial = monomial_of_coefficient p rest m (AreTerms-ordered p cmp limit rest o) (some_at rest place o within)
+    pub m_monomial : IsMonomial m
+    m_monomial = subst IsMonomial step.leading.3 (IsMonomial-mono_mul step.leading.1 q n_monomial u)
+
+    -- the line's leading monomial divides the cancelled one
+    pub m_reducible : IsIrreducible p cmp gs m → ⊥
+    m_reducible none =
+        none i step.within step.leading.0 step.leading.1 step.leading.2 (λ x.
+        let sum : exponent m x ≡ exponent step.leading.1 x + exponent q x = ap (λ y. exponent y x) (sym step.leading.3) ∙ exponent-mono_mul step.leading.1 q n_monomial u x in omega arith)
 
     -- the variables of the factor are those of the cancelled monomial
     factor_in : (vs : List ℕ) → IsIn vs m → IsIn vs q
@@ -239,13 +250,13 @@ module _ (p : ℕ) (prime : IsPrime p) (cmp : Monomial → Monomial → Ordering
         ]
 
     -- no variable and no higher degree comes in
-    next_up_to : (next : Terms) → SamePolynomial p next (difference p rest multiple) → (vs : List ℕ) (d : ℕ) → IsGradedIn vs cmp → AreInVariables p vs gs → IsUpTo p vs d rest → IsUpTo p vs d next
+    pub next_up_to : (next : Terms) → SamePolynomial p next (difference p rest multiple) → (vs : List ℕ) (d : ℕ) → IsGradedIn vs cmp → AreInVariables p vs gs → IsUpTo p vs d rest → IsUpTo p vs d next
     next_up_to next left vs d graded in_lines up x some =
         elim (some_of_next next left x some) [
           | inl old ↦ up x old
           | inr new ↦
               let shifted = shifted_monomial p k q x g u v new in
-              let top = up m (some_at rest place o within) in
+              let top = up m m_some in
               let in_x : IsIn vs x = subst (IsIn vs) (sym shifted.3) (product_in vs shifted.0 shifted.1 (factor_in vs top.0) (in_lines i shifted.0 shifted.2)) in
               let x_monomial : IsMonomial x = subst IsMonomial (sym shifted.3) (IsMonomial-mono_mul q shifted.0 u shifted.1) in
               elim (leading_at_most cmp laws p multiple c m multiple_leads x new) [
@@ -331,20 +342,20 @@ module _ (p : ℕ) (prime : IsPrime p) (cmp : Monomial → Monomial → Ordering
   pub step_cancels : (gs : List Terms) (i k : ℕ) (q : Monomial) (rest next : Terms) (place : ℕ) → IsOrdered p cmp limit rest → IsOrdered p cmp limit next → place < length rest → IsMonomial q → k < p → AreTerms (get_or gs i [])
       → IsStep p cmp gs (get_or rest place (0, [])).0 (get_or rest place (0, [])).1 i k q → SamePolynomial p next (difference p rest (term_product k q (get_or gs i []))) → SameFirst rest next place → IsCancelled p cmp gs rest next place
   step_cancels gs i k q rest next place o w within u below v step left first = record {
-    monomial = m_monomial gs i k q rest place o within u below v step;
+    monomial = m_monomial gs i k q rest (get_or rest place (0, [])).0 (get_or rest place (0, [])).1 (coefficient-at rest place o within) (nonzero_at rest place o within) u below v step;
     some = some_at rest place o within;
     below = λ j beyond h.
-        elim (next_is_below gs i k q rest place o within u below v step next left (get_or next j (0, [])).1 (some_at next j w h)) [
+        elim (next_is_below gs i k q rest (get_or rest place (0, [])).0 (get_or rest place (0, [])).1 (coefficient-at rest place o within) (nonzero_at rest place o within) u below v step next left (get_or next j (0, [])).1 (some_at next j w h)) [
           | inl (old, other) ↦ below_cancelled rest next place j o w first beyond h old other
           | inr under ↦ under
         ];
-    up_to = next_up_to gs i k q rest place o within u below v step next left;
+    up_to = next_up_to gs i k q rest (get_or rest place (0, [])).0 (get_or rest place (0, [])).1 (coefficient-at rest place o within) (nonzero_at rest place o within) u below v step next left;
   }
 
   pub step_first : (gs : List Terms) (i k : ℕ) (q : Monomial) (rest next : Terms) (place : ℕ) → IsOrdered p cmp limit rest → IsOrdered p cmp limit next → place < length rest → IsMonomial q → k < p → AreTerms (get_or gs i [])
       → IsStep p cmp gs (get_or rest place (0, [])).0 (get_or rest place (0, [])).1 i k q → SamePolynomial p next (difference p rest (term_product k q (get_or gs i []))) → SameFirst rest next place
   step_first gs i k q rest next place o w within u below v step left =
-      first_same rest next place o w within (kept_above gs i k q rest place o within u below v step next left)
+      first_same rest next place o w within (kept_above gs i k q rest (get_or rest place (0, [])).0 (get_or rest place (0, [])).1 (coefficient-at rest place o within) (nonzero_at rest place o within) u below v step next left)
 
   -- a step that passes a limit
   pub stopped : (gs : List Terms) (rest : Terms) (parts : Parts) (place i k : ℕ) (q : Monomial) → IsOrdered p cmp limit rest → place < length rest → IsStep p cmp gs (get_or rest place (0, [])).0 (get_or rest place (0, [])).1 i k q → PassesLimit p gs rest parts i k q → IsStopped p cmp gs rest parts i q
@@ -356,10 +367,12 @@ module _ (p : ℕ) (prime : IsPrime p) (cmp : Monomial → Monomial → Ordering
   pub line_step : (gs : List Terms) (i k : ℕ) (q q' : Monomial) (line rest next : Terms) (place : ℕ) (old new : Parts) → get_or gs i [] ≡ line → q' ≡ q → IsOrdered p cmp limit rest → place < length rest → IsMonomial q' → k < p → IsOrdered p cmp limit line
       → IsStep p cmp gs (get_or rest place (0, [])).0 (get_or rest place (0, [])).1 i k q → SamePolynomial p next (difference p rest (term_product k q' line)) → IsRecorded p old new i k q
       → IsPolynomial p cmp next → (ArePolynomials p cmp old → ArePolynomials p cmp new) → (poly : Terms) → IsReduction p cmp gs poly rest old → IsReduction p cmp gs poly next new
-  line_step gs i k q q' line rest next place old new is same o within u below v step left recorded is_polynomial are_polynomials =
-      step_keeps gs i k q rest place o within (subst IsMonomial same u) below (subst AreTerms (sym is) (AreTerms-ordered p cmp limit line v)) step next old new
+  line_step gs i k q q' line rest next place old new is same o within u below v step left recorded is_polynomial are_polynomials poly so_far =
+      reduction_of gs poly next new
+      (step_keeps gs i k q rest (get_or rest place (0, [])).0 (get_or rest place (0, [])).1 (coefficient-at rest place o within) (nonzero_at rest place o within) (subst IsMonomial same u) below (subst AreTerms (sym is) (AreTerms-ordered p cmp limit line v)) step next old new
       (subst (λ x. SamePolynomial p next (difference p rest (term_product k x (get_or gs i [])))) same
-      (subst (λ ts. SamePolynomial p next (difference p rest (term_product k q' ts))) (sym is) left)) recorded is_polynomial are_polynomials
+      (subst (λ ts. SamePolynomial p next (difference p rest (term_product k q' ts))) (sym is) left)) recorded poly (remainder_of gs poly rest old so_far))
+      is_polynomial (are_polynomials so_far.polynomials)
 
   pub line_first : (gs : List Terms) (i k : ℕ) (q q' : Monomial) (line rest next : Terms) (place : ℕ) → get_or gs i [] ≡ line → q' ≡ q → IsOrdered p cmp limit rest → IsOrdered p cmp limit next → place < length rest → IsMonomial q' → k < p → IsOrdered p cmp limit line
       → IsStep p cmp gs (get_or rest place (0, [])).0 (get_or rest place (0, [])).1 i k q → SamePolynomial p next (difference p rest (term_product k q' line)) → SameFirst rest next place

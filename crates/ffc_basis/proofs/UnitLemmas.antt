@@ -1,6 +1,6 @@
 -- Units that are taken of a budget, one call after another.
-use Rattle.std.proofs.Common.{◌≡◌, ◌+◌, refl, ap, ◌∙◌, arith}
-use Rattle.ffc_base.specs.Metering.{Spending, one_more}
+use Rattle.std.proofs.Common.{◌≡◌, ◌+◌, ◌≤◌, refl, ap, ◌∙◌, arith}
+use Rattle.ffc_base.specs.Metering.{Spending, total, one_more}
 use Rattle.ffc_base.specs.declared.meter.Unit.TheVariants.{Reduction}
 use Rattle.ffc_basis.specs.Units.{TakesReductions}
 
@@ -39,3 +39,7 @@ takes_same a b is = record {
 -- with one more unit
 pub takes_next : (a b c : Spending) → TakesReductions a b → c ≡ one_more b Reduction → TakesReductions a c
 takes_next a b c t is = takes_both a b c t (takes_one b c is)
+
+-- nothing is given back
+pub takes_no_less : (a b : Spending) → TakesReductions a b → total a ≤ total b
+takes_no_less a b t = omega (arith, t.trials, t.assignments, t.chains, t.taken)

@@ -7,4 +7,5 @@ pub mod Lines
 pub mod Outcomes
 pub mod PairTable
 pub mod Reduction
+pub mod Remainders
 pub mod Units

@@ -12,6 +12,7 @@ mod pair;
 mod pairing;
 mod queue;
 mod reduction;
+mod remainder;
 mod spoly;
 
 pub use basis::Basis;

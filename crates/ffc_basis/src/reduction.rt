@@ -1,6 +1,6 @@
 //! Reduction by the lines of a basis.
 ghost use Rattle.std.specs.Prelude.{◌≡◌, ◌≢◌, ℕ, ◌<◌, ◌⊎◌, [], ◌∷◌, ◌++◌, length, vec_len, get_or, IfOk, IfErr, IfSome};
-ghost use Rattle.std.specs.Prelude.{IfNone, OnOk, OnErr, IsErrOf};
+ghost use Rattle.std.specs.Prelude.{IfNone, OnOk, OnErr, IsErrOf, IsTrue, MatchOption};
 ghost use Rattle.ffc_base.specs.Metering.{Metered};
 ghost use Rattle.ffc_field.specs.Modular.{mul_mod};
 ghost use Rattle.ffc_ring.specs.Monomial.{Divides, mono_mul};
@@ -14,10 +14,11 @@ ghost use Rattle.ffc_basis.specs.Units.{TakesReductions, IsReductionBound};
 use crate::dividing::oldest_divisor;
 use crate::index::Index;
 use crate::line::{Line, LineId};
+use crate::remainder::go_on;
 use ffc_base::{Meter, Stop, Unit};
 use ffc_field::Field;
 use ffc_mono::{Mono, MonoOrder, MonoRef};
-use ffc_poly::{Poly, PolyStop};
+use ffc_poly::{Poly, PolyStop, TERM_LIMIT};
 use std::alloc::{AllocError, Global};
 
 /// What is left of a polynomial, and the multiples of lines that were subtracted.
@@ -86,7 +87,7 @@ pub(crate) fn multiple_of<F: Field>(
 }
 
 /// The multiple of a line that has the leading term c*m, of the oldest line where there are several.
-fn step_at<F: Field, O: MonoOrder>(
+pub(crate) fn step_at<F: Field, O: MonoOrder>(
     alloc: Global,
     lines: &[Line<F, O>],
     index: &Index,
@@ -98,6 +99,8 @@ fn step_at<F: Field, O: MonoOrder>(
     ensures some { IfOk result (λ o. IfSome o (λ s.
         IsStep F.ORDER O.cmp (polys_of lines.now) (F.value c) m.entry.powers.now s.line (F.value s.coefficient)
         s.monomial)) }
+    ensures reducible { IfOk result (λ o. IfSome o (λ s.
+        IsIrreducible F.ORDER O.cmp (polys_of lines.now) m.entry.powers.now → ⊥)) }
 {
     let Some(number) = oldest_divisor(lines, index, m) else {
         return Ok(None);
@@ -126,7 +129,10 @@ pub(crate) fn term<F: Field, O: MonoOrder>(
 }
 
 /// The place of a part of a line.
-fn place_of<F: Field, O: MonoOrder>(parts: &[(LineId, Poly<F, O>)], line: LineId) -> Option<usize>
+pub(crate) fn place_of<F: Field, O: MonoOrder>(
+    parts: &[(LineId, Poly<F, O>)],
+    line: LineId,
+) -> Option<usize>
     ensures some { IfSome result (λ i. (i < length parts.now) × ((get_or parts.now i (0, [])).0 ≡ line)) }
     ensures none { IfNone result (IsLineOfNone line parts.now) }
 {
@@ -176,6 +182,47 @@ pub(crate) fn append<F: Field, O: MonoOrder>(
     }
 }
 
+/// Whether the part at a place, if any, can have one more term.
+pub(crate) fn has_room<F: Field, O: MonoOrder>(
+    parts: &[(LineId, Poly<F, O>)],
+    place: Option<usize>,
+) -> bool
+    requires { IfSome place (λ i. i < length parts.now) }
+    ensures { IsTrue result → IfSome place (λ i. length (get_or parts.now i (0, [])).1 < TERM_LIMIT) }
+{
+    match place {
+        Some(i) => parts[i].1.len() < TERM_LIMIT,
+        None => true,
+    }
+}
+
+/// Adds a multiple to the part of its line at a place, or as a part of its own.
+pub(crate) fn record_at<F: Field, O: MonoOrder>(
+    parts: &mut Vec<(LineId, Poly<F, O>)>,
+    place: Option<usize>,
+    step: &Step<F>,
+) -> Result<(), PolyStop>
+    requires some { IfSome place (λ i. (i < length parts.old.items)
+        × ((get_or parts.old.items i (0, [])).0 ≡ step.now.line)) }
+    requires none { IfNone place (IsLineOfNone step.now.line parts.old.items) }
+    ensures recorded { OnOk result
+        (IsRecorded F.ORDER parts.old.items parts.new.items step.now.line (F.value step.now.coefficient)
+        step.now.monomial) }
+    ensures polynomials { OnOk result (ArePolynomials F.ORDER O.cmp parts.old.items
+        → ArePolynomials F.ORDER O.cmp parts.new.items) }
+    ensures over { IsErrOf result PolyStop.TermsOver → MatchOption place ⊥ (λ i. PassesTerms F.ORDER 131072
+        ((get_or parts.old.items i (0, [])).1 ++ (F.value step.now.coefficient, step.now.monomial) ∷ [])) }
+    ensures no_product { IsErrOf result PolyStop.DegreeOver → ⊥ }
+    ensures unchanged { OnErr result (parts.new.items ≡ parts.old.items) }
+{
+    let single = term(*parts.allocator(), step.coefficient, &step.monomial)?;
+    let _length = single.len();
+    match place {
+        Some(place) => add_at(parts, place, &single),
+        None => append(parts, step.line as u64, single),
+    }
+}
+
 /// Adds a multiple to the part of its line.
 pub(crate) fn record<F: Field, O: MonoOrder>(
     parts: &mut Vec<(LineId, Poly<F, O>)>,
@@ -191,13 +238,8 @@ pub(crate) fn record<F: Field, O: MonoOrder>(
     ensures no_product { IsErrOf result PolyStop.DegreeOver → ⊥ }
     ensures unchanged { OnErr result (parts.new.items ≡ parts.old.items) }
 {
-    let single = term(*parts.allocator(), step.coefficient, &step.monomial)?;
-    let line = step.line as u64;
-    let _length = single.len();
-    match place_of(parts.as_slice(), line) {
-        Some(place) => add_at(parts, place, &single),
-        None => append(parts, line, single),
-    }
+    let place = place_of(parts.as_slice(), step.line as u64);
+    record_at(parts, place, step)
 }
 
 /// Subtracts a multiple that cancels the term at a place, and records it.
@@ -249,6 +291,16 @@ pub(crate) fn past_limit(stop: PolyStop) -> Result<(), AllocError>
     }
 }
 
+/// The error where no limit can be passed.
+pub(crate) fn only_memory(stop: PolyStop) -> AllocError
+    requires { stop ≡ PolyStop.Memory }
+{
+    match stop {
+        PolyStop::Memory => AllocError,
+        _ => unreachable!(),
+    }
+}
+
 /// Reduces a polynomial, from its leading term on, until no leading monomial of a line divides a monomial that is left, or a
 /// limit is passed.
 pub(crate) fn reduce_by<F: Field, O: MonoOrder>(
@@ -280,7 +332,19 @@ pub(crate) fn reduce_by<F: Field, O: MonoOrder>(
         };
         meter.take(Unit::Reduction)?;
         match subtract(lines, &mut rest, &mut parts, place, &step) {
-            Ok(()) => {}
+            Ok(()) => {
+                let further = go_on(
+                    alloc,
+                    lines,
+                    index,
+                    (rest, place),
+                    step.line,
+                    &mut parts,
+                    meter,
+                )?;
+                let _new_length = further.0.len();
+                (rest, place) = further;
+            }
             Err(stop) => {
                 past_limit(stop)?;
                 return Ok(Reduced {

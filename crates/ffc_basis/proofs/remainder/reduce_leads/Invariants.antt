@@ -1,0 +1,13 @@
+use Rattle.ffc_basis.specs.Lines.{polys_of}
+use Rattle.ffc_basis.specs.Reduction.{IsReduced}
+use Rattle.ffc_basis.specs.Remainders.{Continues, IsSplit, front_of, whole_of}
+use Rattle.ffc_basis.specs.Units.{TakesReductions}
+use Rattle.ffc_basis.proofs.remainder.reduce_leads.Given as goal
+
+abbrev pub invariant-loop : goal.invariant-loop
+invariant-loop g l = record {
+  split : IsSplit g.F.Field.ORDER g.O.MonoOrder.cmp (front_of g.F.Field.value l.rest) l.rest.left l.rest.most;
+  reduced : IsReduced g.F.Field.ORDER g.O.MonoOrder.cmp (polys_of l.lines) (front_of g.F.Field.value l.rest);
+  continues : Continues g.F.Field.ORDER g.O.MonoOrder.cmp (polys_of l.lines) (whole_of g.F.Field.value l.fn.rest) l.fn.parts.items l.fn.meter (whole_of g.F.Field.value l.rest) l.parts.items l.meter;
+  takes : TakesReductions l.fn.meter l.meter;
+}
