@@ -3,7 +3,9 @@ use crate::faults::{fault_name, fault_sentence};
 use crate::page::Page;
 use crate::places::{line_at, write_line, write_met};
 use crate::rules::{form_name, form_sentence, rule_name, rule_sentence};
+use crate::sorts::write_sorts;
 use crate::walk::Walk;
+use ffc_lex::FaultCode;
 use ffc_script::ScriptStop;
 use ffc_words::ScriptFault;
 use std::alloc::Global;
@@ -34,8 +36,15 @@ fn walk_through(alloc: Global, script: &[u8]) -> Result<(), ScriptStop> {
     Ok(())
 }
 
+/// Writes what is wrong with what was met at a fault; of a term of the wrong sort, which sort it has, and which belongs there.
+fn write_wrong(alloc: Global, fault: ScriptFault, script: &[u8], page: &mut Page) {
+    if fault.code != FaultCode::Sort || !write_sorts(alloc, script, fault, page) {
+        page.text(fault_sentence(fault.code));
+    }
+}
+
 /// Writes the fault of a script: its place, its name, what was met, and the line with a caret.
-fn write_fault(fault: ScriptFault, name: &str, script: &[u8], page: &mut Page) {
+fn write_fault(alloc: Global, fault: ScriptFault, name: &str, script: &[u8], page: &mut Page) {
     page.text(name);
     page.text(":");
     page.number(fault.line);
@@ -46,7 +55,7 @@ fn write_fault(fault: ScriptFault, name: &str, script: &[u8], page: &mut Page) {
     page.text(": ");
     write_met(script, fault.line, fault.column, page);
     page.text(" ");
-    page.text(fault_sentence(fault.code));
+    write_wrong(alloc, fault, script, page);
     page.text(" [fault ");
     page.number(u64::from(fault.code.number()));
     page.text("]\n");
@@ -59,7 +68,7 @@ pub fn write_script_fault(alloc: Global, name: &str, script: &[u8], page: &mut P
         Ok(()) => false,
         Err(stop) => match stop {
             ScriptStop::Fault(fault) => {
-                write_fault(fault, name, script, page);
+                write_fault(alloc, fault, name, script, page);
                 true
             }
             ScriptStop::Memory => false,

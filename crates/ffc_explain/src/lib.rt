@@ -14,6 +14,7 @@ mod polynomials;
 mod refutation;
 mod rules;
 mod schemes;
+mod sorts;
 mod trees;
 mod values;
 mod walk;
