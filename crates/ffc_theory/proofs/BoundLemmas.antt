@@ -1,12 +1,17 @@
 -- Checks that no bound speaks of.
-use Rattle.std.proofs.Common.{◌≡◌, ℕ, Bool, true, false, ◌&&◌, ◌||◌, nat_lt, nat_le, List, [], ◌∷◌, refl, sym, ap, ◌∙◌, inl, inr, arith, Option, Some, None, IfNone}
+use Rattle.std.proofs.Common.{Result, Ok, Err, IfOk, ◌≡◌, ℕ, Bool, true, false, ◌&&◌, ◌||◌, nat_lt, nat_le, List, [], ◌∷◌, refl, sym, ap, ◌∙◌, inl, inr, arith, Option, Some, None, IfNone}
 use Rattle.std.specs.List.{list_all, list_any}
 use Rattle.std.proofs.lemmas.Bool.{false≢true, cases_Bool}
 use Rattle.std.proofs.lemmas.Bool.Decides.{nat_tests}
 use Rattle.ffc_field.specs.declared.id.FieldId.{FieldId}
-use Rattle.ffc_theory.specs.Bounds.{IsBeyondBounds, IsCauseBeyond}
+use Rattle.ffc_theory.specs.Bounds.{IsBeyondBounds, IsBoundedAnswer, IsCauseBeyond}
 use Rattle.ffc_bounds.specs.Conjunctions.{is_conjunction, has_no_ite, has_one_order}
 use Rattle.ffc_bounds.specs.Linear.{is_affine, is_linear, is_linear_within}
+use Rattle.ffc_bounds.specs.Forced.{IsRefutedByForcing}
+use Rattle.ffc_flat.specs.Answering.{IsRightAnswer}
+use Rattle.ffc_linear.specs.declared.deciding.LinearAnswer.{LinearAnswer}
+use Rattle.ffc_linear.specs.declared.deciding.LinearAnswer.TheVariants.{Undecided}
+use Rattle.ffc_single.specs.Bounds.{IsDecidedSingle}
 use Rattle.ffc_rules.specs.Cones.{atoms}
 use Rattle.ffc_rules.specs.Entries.{NodeCheck, limits}
 use Rattle.ffc_term.specs.Measuring.{degree_at, length_at}
@@ -25,7 +30,11 @@ unfolding is_linear is_linear_within
 two_fields_not_linear budget c two = third_fails (is_conjunction c.nodes c.in_force) (has_no_ite c.nodes c.in_force) (has_one_order c.nodes c.in_force) (is_affine limits c) _ two
 
 two_fields_beyond : (budget : ℕ) (c : NodeCheck) → has_one_order c.nodes c.in_force ≡ false → IsBeyondBounds budget c
-two_fields_beyond budget c two = record { not_linear = two_fields_not_linear budget c two; not_forced = λ f. false≢true (sym two ∙ f.one_field) }
+two_fields_beyond budget c two = record {
+  not_linear = two_fields_not_linear budget c two;
+  not_forced = λ f. false≢true (sym two ∙ f.one_field);
+  not_single = λ f. false≢true (sym two ∙ f.one_field);
+}
 
 -- no bound speaks of a check that is not over one field
 pub no_field_beyond : (budget : ℕ) (c : NodeCheck) (found : Option FieldId) → ((id : FieldId) → found ≡ Some id → ⊥)
@@ -73,9 +82,18 @@ limit_beyond budget c (stops.Spent t r a k) passed = absurd passed
 limit_beyond budget c stops.TooHigh passed = record {
   not_linear = not_affine_not_linear budget c (one_fails (λ id. nat_lt 255 (degree_at c.nodes id)) _ (λ id high. too_high (degree_at c.nodes id) (nat_le (length_at c.nodes id) 65536) high) (atoms c.nodes c.in_force) passed);
   not_forced = λ f. false≢true (sym f.low ∙ passed);
+  not_single = λ f. false≢true (sym f.low ∙ passed);
 }
 limit_beyond budget c stops.TooLong passed = record {
   not_linear = not_affine_not_linear budget c (one_fails (λ id. nat_lt 65536 (length_at c.nodes id)) _ (λ id long. too_long (length_at c.nodes id) (nat_le (degree_at c.nodes id) 1) long) (atoms c.nodes c.in_force) passed.1);
   not_forced = λ f. false≢true (sym f.short ∙ passed.1);
+  not_single = λ f. false≢true (sym f.short ∙ passed.1);
 }
 limit_beyond budget c stops.Memory passed = tt
+
+-- where the earlier attempts leave a check, the answer of the last one is bounded
+pub last_is_bounded : {E : Type 0} (budget : ℕ) (c : NodeCheck) (result : Result LinearAnswer E) → is_linear_within limits c budget ≡ false → (IsRefutedByForcing budget c → ⊥)
+    → IfOk result (IsRightAnswer c) → (result ≡ Ok Undecided → IsDecidedSingle budget c → ⊥) → IfOk result (IsBoundedAnswer c budget)
+last_is_bounded budget c (Ok answer) not_linear not_forced right undecided =
+    (right, λ is. record { not_linear = not_linear; not_forced = not_forced; not_single = undecided (ap Ok is) })
+last_is_bounded budget c (Err e) not_linear not_forced right undecided = tt

@@ -10,11 +10,13 @@ use Rattle.ffc_linear.specs.declared.deciding.LinearAnswer.TheVariants.{Undecide
 use Rattle.ffc_flat.specs.Answering.{IsRightAnswer}
 use Rattle.ffc_bounds.specs.Forced.{IsRefutedByForcing}
 use Rattle.ffc_bounds.specs.Linear.{is_linear_within}
+use Rattle.ffc_single.specs.Bounds.{IsDecidedSingle}
 
 -- no bound says that the check is decided within the budget
 pub record IsBeyondBounds (budget : ℕ) (c : NodeCheck) : Type 0 where
   pub not_linear : is_linear_within limits c budget ≡ false
   pub not_forced : IsRefutedByForcing budget c → ⊥
+  pub not_single : IsDecidedSingle budget c → ⊥
 
 -- an answer is right, and leaves the check undecided only where no bound speaks of it
 abbrev pub IsBoundedAnswer : NodeCheck → ℕ → LinearAnswer → Type 0

@@ -1,22 +1,66 @@
 //! Attempts with a bound: each decides every check of its kind for which so many units suffice.
-ghost use Rattle.std.specs.Prelude.{◌≡◌, true, Ok, None, IfOk, IfSome};
+ghost use Rattle.std.specs.Prelude.{◌≡◌, true, false, Ok, None, IfOk, IfSome};
 ghost use Rattle.ffc_theory.specs.Bounds.{IsBeyondBounds, IsBoundedAnswer};
 ghost use Rattle.ffc_bounds.specs.Conjunctions.{has_order};
+ghost use Rattle.ffc_bounds.specs.Linear.{is_linear_within};
 ghost use Rattle.ffc_check.specs.Judged.{judged_check};
+ghost use Rattle.ffc_flat.specs.Answering.{IsRightAnswer};
+ghost use Rattle.ffc_rules.specs.Entries.{limits};
 ghost use Rattle.ffc_rules.specs.Laws.{IsValid};
+ghost use Rattle.ffc_single.specs.Bounds.{IsDecidedSingle};
 ghost use Rattle.ffc_trials.specs.Parts.{IsConeOf};
-ghost use Rattle.ffc_trials.specs.Stops.{IsGiven};
+ghost use Rattle.ffc_trials.specs.Stops.{IsGiven, IsWithinLimits};
 
 use ffc_base::Meter;
 use ffc_cert::Entry;
 use ffc_field::{Field, ForField};
 use ffc_flat::flat;
 use ffc_linear::{LinearAnswer, linear};
+use ffc_single::single;
 use ffc_term::Check;
 use ffc_trials::{Cone, completed_model, field_of};
 use std::alloc::{AllocError, Global};
 
-/// Answers a check by linear algebra, and else by what its clauses force. Each of the two has a meter of its own.
+/// Answers a check by the roots of its equations in one constant.
+fn answer_by_roots<F: Field>(
+    alloc: Global,
+    check: &Check,
+    cone: &Cone,
+    steps: u64,
+) -> Result<LinearAnswer, AllocError>
+    requires valid { IsValid (judged_check check.now) }
+    requires cone { IsConeOf (judged_check check.now) cone.now }
+    requires field { has_order check.now.table.now check.now.in_force.now F.ORDER ≡ true }
+    requires within { IsWithinLimits (judged_check check.now) }
+    ensures right { IfOk result (IsRightAnswer (judged_check check.now)) }
+    ensures undecided { result ≡ Ok LinearAnswer.Undecided → IsDecidedSingle steps (judged_check check.now) → ⊥ }
+{
+    let mut meter = Meter::new(steps);
+    single::<F>(alloc, check, cone, &mut meter)
+}
+
+/// Answers a check by what its clauses force, and else by roots.
+fn answer_by_clauses<F: Field>(
+    alloc: Global,
+    check: &Check,
+    cone: &Cone,
+    steps: u64,
+) -> Result<LinearAnswer, AllocError>
+    requires valid { IsValid (judged_check check.now) }
+    requires cone { IsConeOf (judged_check check.now) cone.now }
+    requires field { has_order check.now.table.now check.now.in_force.now F.ORDER ≡ true }
+    requires within { IsWithinLimits (judged_check check.now) }
+    requires not_linear { is_linear_within limits (judged_check check.now) steps ≡ false }
+    ensures { IfOk result (IsBoundedAnswer (judged_check check.now) steps) }
+{
+    let mut meter = Meter::new(steps);
+    match flat(alloc, check, cone, &mut meter)? {
+        LinearAnswer::Undecided => answer_by_roots::<F>(alloc, check, cone, steps),
+        answer => Ok(answer),
+    }
+}
+
+/// Answers a check by linear algebra, and else by the other attempts. Each has a meter of its own.
 fn answer_within<F: Field>(
     alloc: Global,
     check: &Check,
@@ -26,6 +70,7 @@ fn answer_within<F: Field>(
     requires valid { IsValid (judged_check check.now) }
     requires cone { IsConeOf (judged_check check.now) cone.now }
     requires field { has_order check.now.table.now check.now.in_force.now F.ORDER ≡ true }
+    requires within { IsWithinLimits (judged_check check.now) }
     ensures { IfOk result (IsBoundedAnswer (judged_check check.now) steps) }
 {
     let mut meter = Meter::new(steps);
@@ -33,8 +78,7 @@ fn answer_within<F: Field>(
     if !matches!(answer, LinearAnswer::Undecided) {
         return Ok(answer);
     }
-    let mut meter = Meter::new(steps);
-    flat(alloc, check, cone, &mut meter)
+    answer_by_clauses::<F>(alloc, check, cone, steps)
 }
 
 /// The attempts with a bound, over the field of a check.
@@ -51,6 +95,7 @@ impl ForField for Attempts<'_> {
 
     ghost can_run = { λ w p. IsValid (judged_check w.check.now)
         × IsConeOf (judged_check w.check.now) w.cone.now
+        × IsWithinLimits (judged_check w.check.now)
         × (has_order w.check.now.table.now w.check.now.in_force.now p ≡ true) };
 
     ghost gives = { λ w _ r. IfOk r (IsBoundedAnswer (judged_check w.check.now) w.steps) };
@@ -69,6 +114,7 @@ pub(crate) fn decided_within(
 ) -> Result<Option<Entry>, AllocError>
     requires valid { IsValid (judged_check check.now) }
     requires cone { IsConeOf (judged_check check.now) cone.now }
+    requires within { IsWithinLimits (judged_check check.now) }
     ensures given { IfOk result (λ found. IfSome found (IsGiven (judged_check check.now))) }
     ensures beyond { result ≡ Ok None → IsBeyondBounds steps (judged_check check.now) }
 {
