@@ -1,29 +1,30 @@
 -- The line that a reduced S-polynomial gives.
-use Rattle.std.proofs.Common.{◌≡◌, ◌≢◌, ℕ, zero, suc, ◌+◌, ◌-◌, ◌*◌, ◌%◌, ◌<◌, ◌≤◌, List, [], ◌∷◌, ◌++◌, length, get_or, refl, sym, ap, ◌∙◌, subst, inl, inr, arith, mod-eq_of_lt, append-nil, append_assoc, length-append, mul_assoc, one-mul, take, set, map, min, filter, nat_lt}
-use Rattle.std.proofs.Math.Nat.{add-mul-mod_self_left}
+use Rattle.std.proofs.Common.{◌≡◌, ◌≢◌, ℕ, zero, suc, ◌+◌, ◌*◌, ◌%◌, ◌<◌, ◌≤◌, List, [], ◌∷◌, ◌++◌, length, get_or, refl, sym, ap, ap₂, ◌∙◌, mod-lt, subst, inl, inr, arith, mod-eq_of_lt, append-nil, append_assoc, length-append, mul_assoc, one-mul, take, set, map, min, filter, nat_lt}
+use Rattle.std.proofs.Math.Nat.{zero-mod, zero-mul, mod-mod, add-mul, mul-add, mul_comm}
 use Rattle.std.proofs.Math.ListN.{get_or-append}
 use Rattle.std.specs.declared.cmp.Ordering.{Ordering}
-use Rattle.ffc_field.specs.Modular.{IsPrime, mul_mod}
-use Rattle.ffc_field.proofs.ModularLaws.{mul_mod-comm}
+use Rattle.ffc_field.specs.Modular.{IsPrime, mul_mod, neg_mod}
+use Rattle.ffc_field.proofs.ModularLaws.{mul_mod-comm, add_mod-neg}
 use Rattle.ffc_ring.specs.Monomial.{Monomial, mono_mul}
 use Rattle.ffc_ring.specs.Polynomial.{Terms, AreTerms, written, coefficient, SamePolynomial, product, term_product, scaled}
-use Rattle.ffc_ring.proofs.PolynomialLemmas.{written-append, written-scaled, sum_alike, times_alike, same_sums, same_term_products, cases_monomial}
+use Rattle.ffc_ring.proofs.PolynomialLemmas.{weighted, one_at, written-is_weighted, weighted-term_product, cancel_mod, written-append, written-scaled, sum_alike, times_alike, same_sums, same_term_products, cases_monomial}
 use Rattle.ffc_mono.specs.MonomialOrder.{IsMonomialOrder}
 use Rattle.ffc_mono.specs.Leading.{IsLeading}
 use Rattle.ffc_mono.proofs.LeadingLemmas.{one_leading}
 use Rattle.ffc_basis.specs.declared.line.Line.{Line}
-use Rattle.ffc_basis.specs.Lines.{Parts, polys_of, combination, AreBefore, IsLine, AreLinesFrom, AreLines, AreLists, IsAddedTo}
-use Rattle.ffc_basis.specs.Reduction.{IsIrreducible, IsReduced, IsAtMostLead, ArePartsAtMost, IsReduction}
+use Rattle.ffc_basis.specs.Lines.{Parts, polys_of, combination, AreBefore, IsLine, AreLinesFrom, AreLines, AreLists, AreTermLists, IsAddedTo}
+use Rattle.ffc_basis.specs.Reduction.{IsIrreducible, IsReduced, IsAtMostLead, ArePartsAtMost}
+use Rattle.ffc_basis.specs.Remainders.{IsRemainder}
 use Rattle.ffc_basis.specs.Completion.{IsSPolynomial, ReducesToZero, IsPairClosed, IsPairOver}
 use Rattle.ffc_basis.specs.Completed.{IsAddedLine, AreAdded, IsFront}
-use Rattle.ffc_basis.specs.Outcomes.{ArePartsOf, IsMonic}
+use Rattle.ffc_basis.specs.Outcomes.{AreSubtracted, IsMonic}
 use Rattle.ffc_basis.specs.PairTable.{AreBothClosed, IsState, ArePairs, forgotten, with_state}
 use Rattle.ffc_basis.specs.declared.pair.PairRecord.{PairRecord}
 use Rattle.ffc_basis.specs.declared.pair.PairState.TheVariants.{Closed, Over}
-use Rattle.ffc_basis.proofs.OrderedTerms.{coefficient-none, coefficient-other, lists_of_polynomials}
+use Rattle.ffc_basis.proofs.OrderedTerms.{coefficient-none, coefficient-other}
 use Rattle.ffc_basis.proofs.LineLemmas.{AreLinesFrom-alike, polys-append, take_front}
 use Rattle.ffc_basis.proofs.Lists.{length-polys, lists_push}
-use Rattle.ffc_basis.proofs.PairLemmas.{whole_times, combination-grown, AreBefore-grown, part_is_before, leading_of_scaled, leading_same, one_s_polynomial_closes, symmetric_pairs_close}
+use Rattle.ffc_basis.proofs.PairLemmas.{combination-grown, AreBefore-grown, part_is_before, leading_of_scaled, leading_same, one_s_polynomial_closes, symmetric_pairs_close}
 use Rattle.ffc_basis.proofs.PairTableLemmas.{pairs_grown, pairs_cut, pairs_set, record_is, state_by_all, over_by_all}
 use Rattle.ffc_basis.proofs.SPolynomialLemmas.{scaled_combination, scaled_before}
 
@@ -138,19 +139,52 @@ line_added p ls ks l is v w = subst (AreLines p) (sym is) (lines_push p ls l v w
 
 -- ---- what is left of an S-polynomial
 
--- the negated parts and the S-polynomial's multiples make what is left
-rest_is_sum : (p : ℕ) → 0 < p → (s rest old x y : Terms) → SamePolynomial p s (rest ++ old) → SamePolynomial p s (x ++ y) → SamePolynomial p ((scaled (p - 1) old ++ x) ++ y) rest
-rest_is_sum p h s rest old x y whole sum m =
-    let o = written old m in
+nothing_times : (p a b : ℕ) → a % p ≡ 0 → (a * b) % p ≡ 0
+nothing_times p a b none = times_alike p a 0 b (none ∙ sym (zero-mod p)) ∙ ap (λ n. n % p) (zero-mul b) ∙ zero-mod p
+
+negated_sum : (p k : ℕ) → k < p → (neg_mod p k + k) % p ≡ 0
+negated_sum p k low = ap (λ n. n % p) (let turned : neg_mod p k + k ≡ k + neg_mod p k = omega arith in turned) ∙ add_mod-neg p k (omega arith)
+
+-- the multiple by a negated factor is the negated multiple
+negated_multiple : (p k : ℕ) (m : Monomial) (a : Terms) → k < p → (x : Monomial) → (written (term_product (neg_mod p k) m a) x + written (term_product k m a) x) % p ≡ 0
+negated_multiple p k m a low x =
+    let w = weighted (λ n. one_at x (mono_mul m n)) a in
+    let at : (c : ℕ) → written (term_product c m a) x ≡ c * w = λ c. written-is_weighted (term_product c m a) x ∙ weighted-term_product (one_at x) c m a in
+    ap (λ n. n % p) (ap₂ ◌+◌ (at (neg_mod p k)) (at k) ∙ sym (add-mul (neg_mod p k) k w)) ∙ nothing_times p (neg_mod p k + k) w (negated_sum p k low)
+
+-- what is left and the record with the S-polynomial's multiples subtracted make 0
+rest_is_negated : (p : ℕ) → 0 < p → (s rest old x y x' y' new : Terms) → SamePolynomial p s (rest ++ old) → SamePolynomial p s (x ++ y) → ((m : Monomial) → (written x' m + written x m) % p ≡ 0) → ((m : Monomial) → (written y' m + written y m) % p ≡ 0)
+    → SamePolynomial p new ((old ++ x') ++ y') → (m : Monomial) → (written rest m + written new m) % p ≡ 0
+rest_is_negated p h s rest old x y x' y' new whole sum first second is m =
     let r = written rest m in
-    let t = written x m + written y m in
-    let left : written ((scaled (p - 1) old ++ x) ++ y) m ≡ (p - 1) * o + t =
-    omega (arith, written-append (scaled (p - 1) old ++ x) y m, written-append (scaled (p - 1) old) x m, written-scaled (p - 1) old m) in
-    let both : t % p ≡ (r + o) % p =
-    ap (λ k. k % p) (sym (written-append x y m)) ∙ sym (sum m) ∙ whole m ∙ ap (λ k. k % p) (written-append rest old m) in
-    let all : ((p - 1) * o + t) % p ≡ ((p - 1) * o + (r + o)) % p = sum_alike p ((p - 1) * o) ((p - 1) * o) t (r + o) refl both in
-    let turned : (p - 1) * o + (r + o) ≡ r + p * o = omega (arith, whole_times p o h) in
-    ap (λ k. k % p) left ∙ all ∙ ap (λ k. k % p) turned ∙ add-mul-mod_self_left r p o
+    let o = written old m in
+    let both : (r + o) % p ≡ (written x m + written y m) % p =
+    ap (λ k. k % p) (sym (written-append rest old m)) ∙ sym (whole m) ∙ sum m ∙ ap (λ k. k % p) (written-append x y m) in
+    let added : written ((old ++ x') ++ y') m ≡ o + (written x' m + written y' m) = omega (arith, written-append (old ++ x') y' m, written-append old x' m) in
+    sum_alike p r r (written new m) (o + (written x' m + written y' m)) refl (is m ∙ ap (λ k. k % p) added)
+    ∙ ap (λ k. k % p) (let turned : r + (o + (written x' m + written y' m)) ≡ (r + o) + (written x' m + written y' m) = omega arith in turned)
+    ∙ sum_alike p (r + o) (written x m + written y m) (written x' m + written y' m) (written x' m + written y' m) both refl
+    ∙ ap (λ k. k % p) (let turned : (written x m + written y m) + (written x' m + written y' m) ≡ (written x' m + written x m) + (written y' m + written y m) = omega arith in turned)
+    ∙ sum_alike p (written x' m + written x m) 0 (written y' m + written y m) 0 (first m ∙ sym (zero-mod p)) (second m ∙ sym (zero-mod p))
+    ∙ zero-mod p
+
+-- so is a multiple of the one the negated multiple of the other
+multiples_negated : (p f : ℕ) (rest new : Terms) → f < p → ((m : Monomial) → (written rest m + written new m) % p ≡ 0) → SamePolynomial p (scaled f rest) (scaled (neg_mod p f) new)
+multiples_negated p f rest new low none m =
+    let a = written rest m in
+    let b = written new m in
+    let g = neg_mod p f in
+    let positive : 0 < p = omega arith in
+    let first : (f * a + f * b) % p ≡ 0 =
+    ap (λ n. n % p) (sym (mul-add f a b) ∙ mul_comm f (a + b)) ∙ nothing_times p (a + b) f (none m) in
+    let second : (g * b + f * b) % p ≡ 0 =
+    ap (λ n. n % p) (sym (add-mul g f b)) ∙ nothing_times p (g + f) b (negated_sum p f low) in
+    let r = (f * b) % p in
+    let low_r : r < p = mod-lt (f * b) positive in
+    ap (λ n. n % p) (written-scaled f rest m)
+    ∙ cancel_mod p (f * a) (g * b) r (omega arith)
+    (sum_alike p (f * a) (f * a) r (f * b) refl (mod-mod (f * b) p) ∙ first ∙ sym second ∙ sum_alike p (g * b) (g * b) (f * b) r refl (sym (mod-mod (f * b) p)))
+    ∙ ap (λ n. n % p) (sym (written-scaled g new m))
 
 -- a polynomial times a factor and its inverse
 back_again : (p c d : ℕ) (a : Terms) → 1 < p → mul_mod p c d ≡ 1 → SamePolynomial p (scaled d (scaled c a)) a
@@ -171,7 +205,7 @@ last_poly : (gs : List Terms) (g : Terms) → get_or (gs ++ g ∷ []) (length gs
 last_poly [] g = refl
 last_poly (h ∷ gs) g = last_poly gs g
 
-module _ (p : ℕ) (prime : IsPrime p) (cmp : Monomial → Monomial → Ordering) (laws : IsMonomialOrder cmp) (gs : List Terms) (s rest : Terms) (parts : Parts) (reduction : IsReduction p cmp gs s rest parts) (g : Terms) (e d : ℕ) (m : Monomial) (lead : IsLeading p cmp rest d m) (inverse : mul_mod p e d ≡ 1) (multiple : SamePolynomial p g (scaled e rest)) where
+module _ (p : ℕ) (prime : IsPrime p) (cmp : Monomial → Monomial → Ordering) (laws : IsMonomialOrder cmp) (gs : List Terms) (s rest : Terms) (parts : Parts) (reduction : IsRemainder p cmp gs s rest parts) (lists : AreTermLists parts) (g : Terms) (e d : ℕ) (m : Monomial) (lead : IsLeading p cmp rest d m) (inverse : mul_mod p e d ≡ 1) (multiple : SamePolynomial p g (scaled e rest)) where
   g_leads : IsLeading p cmp g (mul_mod p e d) m
   g_leads =
       leading_same p cmp (scaled e rest) g (λ q. sym (multiple q)) (mul_mod p e d) m
@@ -219,7 +253,7 @@ module _ (p : ℕ) (prime : IsPrime p) (cmp : Monomial → Monomial → Ordering
     (omega (arith, longer), AreBefore-grown (length gs) (length all) parts (omega (arith, longer)) reduction.before),
     at_most,
     s_from_all,
-    ((tt, tt), lists_of_polynomials p cmp parts reduction.polynomials),
+    ((tt, tt), lists),
   )
 
   pub closed_with_rest : (i j : ℕ) → i < length gs → j < length gs → AreTerms (get_or gs i []) → AreTerms (get_or gs j []) → IsSPolynomial p cmp (get_or gs i []) (get_or gs j []) s → AreBothClosed p cmp all i j
@@ -245,10 +279,10 @@ module _ (p : ℕ) (prime : IsPrime p) (cmp : Monomial → Monomial → Ordering
 
 -- what is left of a reduction to zero
 pub closed_by_reduction : (p : ℕ) → IsPrime p → (cmp : Monomial → Monomial → Ordering) → IsMonomialOrder cmp → (gs : List Terms) (i j : ℕ) (s rest : Terms) (parts : Parts) → AreTerms (get_or gs i []) → AreTerms (get_or gs j [])
-    → IsSPolynomial p cmp (get_or gs i []) (get_or gs j []) s → IsReduction p cmp gs s rest parts → rest ≡ [] → AreBothClosed p cmp gs i j
-closed_by_reduction p prime cmp laws gs i j s rest parts x y is reduction none =
+    → IsSPolynomial p cmp (get_or gs i []) (get_or gs j []) s → IsRemainder p cmp gs s rest parts → AreTermLists parts → rest ≡ [] → AreBothClosed p cmp gs i j
+closed_by_reduction p prime cmp laws gs i j s rest parts x y is reduction lists none =
     let zero : ReducesToZero p cmp gs s =
-    (parts, reduction.before, reduction.at_most, (λ m. reduction.whole m ∙ ap (λ ts. coefficient p (ts ++ combination gs parts) m) none), lists_of_polynomials p cmp parts reduction.polynomials) in
+    (parts, reduction.before, reduction.at_most, (λ m. reduction.whole m ∙ ap (λ ts. coefficient p (ts ++ combination gs parts) m) none), lists) in
     let closed : IsPairClosed p cmp gs i j = one_s_polynomial_closes p cmp laws gs i j s is zero in
     (closed, symmetric_pairs_close p cmp (omega (arith, prime.least)) gs i j x y closed)
 
@@ -256,28 +290,30 @@ closed_by_reduction p prime cmp laws gs i j s rest parts x y is reduction none =
 pub line_of_rest : {F O : Type 0} (p : ℕ) → IsPrime p → (cmp : Monomial → Monomial → Ordering) → IsMonomialOrder cmp → (gs : List Terms) (i j k l : ℕ) (u v : Monomial) (s rest : Terms) (parts found : Parts) (line : Line F O)
     → i < length gs → j < length gs → AreTerms (get_or gs i []) → AreTerms (get_or gs j [])
     → IsSPolynomial p cmp (get_or gs i []) (get_or gs j []) s → SamePolynomial p s (term_product k u (get_or gs i []) ++ term_product l v (get_or gs j []))
-    → IsReduction p cmp gs s rest parts → IsReduced p cmp gs rest → ArePartsOf p parts i k u j l v found → IsMonic p cmp rest found line
+    → IsRemainder p cmp gs s rest parts → AreTermLists parts → IsReduced p cmp gs rest → k < p → l < p → AreSubtracted p parts i k u j l v found → IsMonic p cmp rest found line
     → IsLine p gs (length gs) line × IsAddedLine p cmp gs line × AreBothClosed p cmp (gs ++ line.poly ∷ []) i j
-line_of_rest p prime cmp laws gs i j k l u v s rest parts found line h g x y is sum reduction reduced parts_of monic =
+line_of_rest p prime cmp laws gs i j k l u v s rest parts found line h g x y is sum reduction lists reduced k_low l_low subtracted monic =
     let positive : 0 < p = omega (arith, prime.least) in
     let a = term_product k u (get_or gs i []) in
     let b = term_product l v (get_or gs j []) in
+    let factor = neg_mod p monic.factor in
     let before : AreBefore (length gs) line.parts.items =
-    scaled_before p monic.factor (length gs) found line.parts.items monic.scaled_parts (parts_of.before (length gs) h g reduction.before) in
+    scaled_before p factor (length gs) found line.parts.items monic.scaled_parts (subtracted.before (length gs) h g reduction.before) in
     let whole : SamePolynomial p line.poly (combination gs line.parts.items) =
     λ q. monic.multiple q
-    ∙ same_term_products p monic.factor [] rest (combination gs found)
-    (λ r. sym (parts_of.sum gs r ∙ rest_is_sum p positive s rest (combination gs parts) a b reduction.whole sum r)) q
-    ∙ sym (scaled_combination p monic.factor gs found line.parts.items monic.scaled_parts q) in
+    ∙ multiples_negated p monic.factor rest (combination gs found) monic.below
+    (rest_is_negated p positive s rest (combination gs parts) a b (term_product (neg_mod p k) u (get_or gs i [])) (term_product (neg_mod p l) v (get_or gs j [])) (combination gs found) reduction.whole sum
+    (negated_multiple p k u (get_or gs i []) k_low) (negated_multiple p l v (get_or gs j []) l_low) (subtracted.sum gs)) q
+    ∙ sym (scaled_combination p factor gs found line.parts.items monic.scaled_parts q) in
     let nonzero : line.poly ≢ [] =
-    g_is_not_zero p prime cmp laws gs s rest parts reduction line.poly monic.factor monic.coefficient monic.monomial monic.leading monic.inverse monic.multiple in (
+    g_is_not_zero p prime cmp laws gs s rest parts reduction lists line.poly monic.factor monic.coefficient monic.monomial monic.leading monic.inverse monic.multiple in (
       (before, λ _. whole),
       record {
         has_parts = λ none.
-            some_lead p prime cmp laws gs s rest parts reduction line.poly monic.factor monic.coefficient monic.monomial monic.leading monic.inverse monic.multiple
+            some_lead p prime cmp laws gs s rest parts reduction lists line.poly monic.factor monic.coefficient monic.monomial monic.leading monic.inverse monic.multiple
             (whole monic.monomial ∙ ap (λ ps. coefficient p (combination gs ps) monic.monomial) none ∙ coefficient-none p monic.monomial);
         nonzero = nonzero;
-        irreducible = irreducible_lead p prime cmp laws gs s rest parts reduction line.poly monic.factor monic.coefficient monic.monomial monic.leading monic.inverse monic.multiple reduced;
+        irreducible = irreducible_lead p prime cmp laws gs s rest parts reduction lists line.poly monic.factor monic.coefficient monic.monomial monic.leading monic.inverse monic.multiple reduced;
       },
-      closed_with_rest p prime cmp laws gs s rest parts reduction line.poly monic.factor monic.coefficient monic.monomial monic.leading monic.inverse monic.multiple i j h g x y is,
+      closed_with_rest p prime cmp laws gs s rest parts reduction lists line.poly monic.factor monic.coefficient monic.monomial monic.leading monic.inverse monic.multiple i j h g x y is,
     )

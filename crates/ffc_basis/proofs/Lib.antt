@@ -16,6 +16,7 @@ pub mod PartLemmas
 pub mod PartnerLemmas
 pub mod PlaceLemmas
 pub mod RaisedLemmas
+pub mod RecordLemmas
 pub mod ReductionLemmas
 pub mod SPolynomialLemmas
 pub mod SplitLemmas

@@ -1,5 +1,5 @@
 -- Lists of lines and of terms, by their places.
-use Rattle.std.proofs.Common.{◌≡◌, ◌≢◌, ◌⊎◌, ℕ, zero, suc, ◌<◌, List, [], ◌∷◌, ◌++◌, length, get_or, take, refl, ap, inl, inr, arith, Result, Ok, Err, OnOk, OnErr, IfOk}
+use Rattle.std.proofs.Common.{◌≡◌, ◌≢◌, ◌⊎◌, ℕ, zero, suc, ◌<◌, List, [], ◌∷◌, ◌++◌, length, get_or, take, refl, ap, inl, inr, arith, Option, Some, None, IfSome, Result, Ok, Err, OnOk, OnErr, IfOk, IsErrOf}
 use Rattle.ffc_poly.specs.declared.stop.PolyStop.{PolyStop}
 use Rattle.ffc_poly.specs.declared.stop.PolyStop.TheVariants.{DegreeOver, TermsOver, Memory}
 use Rattle.ffc_basis.specs.declared.line.Line.{Line}
@@ -58,6 +58,17 @@ pub always_on_err : {T E P : Type 0} (r : Result T E) → P → OnErr r P
 always_on_err (Ok x) h = tt
 always_on_err (Err e) h = h
 
+pub if_some : {T : Type 0} (o : Option T) (P Q : T → Type 0) → ((x : T) → P x → Q x) → IfSome o P → IfSome o Q
+if_some None P Q f h = tt
+if_some (Some x) P Q f h = f x h
+
 pub if_ok : {T E : Type 0} (r : Result T E) (P Q : T → Type 0) → ((x : T) → P x → Q x) → IfOk r P → IfOk r Q
 if_ok (Ok x) P Q f h = f x h
 if_ok (Err e) P Q f h = tt
+
+abbrev err_or : {T E : Type 0} → Result T E → E → E
+err_or (Ok x) d = d
+err_or (Err e) d = e
+
+pub same_error : {T E : Type 0} (a b : E) → IsErrOf {T = T} {E = E} (Err a) b → a ≡ b
+same_error a b is = ap (λ r. err_or r a) is

@@ -7,8 +7,8 @@ use Rattle.ffc_ring.specs.Monomial.{Monomial}
 use Rattle.ffc_ring.specs.Polynomial.{Terms, written, coefficient, SamePolynomial, product, term_product}
 use Rattle.ffc_ring.proofs.PolynomialLemmas.{cases_monomial, written-append, coefficient-append, sum_alike, same_sums, same_products, product-append}
 use Rattle.ffc_basis.proofs.OrderedTerms.{coefficient-none, coefficient-other}
-use Rattle.std.specs.declared.cmp.Ordering.{Ordering}
-use Rattle.ffc_basis.specs.Lines.{Parts, combination, AreBefore, IsPolynomial, IsLineOfNone, ArePolynomials, HasMonomial}
+use Rattle.ffc_basis.specs.Lines.{Parts, combination, AreBefore, IsLineOfNone, HasMonomial}
+use Rattle.ffc_basis.specs.Records.{AreOfDifferentLines}
 use Rattle.ffc_basis.specs.Reduction.{IsRecorded, IsAddedAt}
 
 pub some_of_sum : (p : ℕ) (a b : Terms) (n : Monomial) → coefficient p (a ++ b) n ≢ 0 → (coefficient p a n ≢ 0) ⊎ (coefficient p b n ≢ 0)
@@ -135,17 +135,16 @@ no_line_push : (i line : ℕ) (t : Terms) (xs : Parts) → IsLineOfNone i xs →
 no_line_push i line t [] v other = (other, tt)
 no_line_push i line t (x ∷ xs) v other = (v.0, no_line_push i line t xs v.1 other)
 
-pub polynomials_push : (p : ℕ) (cmp : Monomial → Monomial → Ordering) (line : ℕ) (t : Terms) (xs : Parts) → IsPolynomial p cmp t → IsLineOfNone line xs → ArePolynomials p cmp xs → ArePolynomials p cmp (xs ++ (line, t) ∷ [])
-polynomials_push p cmp line t [] is none v = (is, tt, tt)
-polynomials_push p cmp line t (x ∷ xs) is none v =
-    (v.0, no_line_push x.0 line t xs v.1 (λ e. none.0 (sym e)), polynomials_push p cmp line t xs is none.1 v.2)
+pub lines_push : (line : ℕ) (t : Terms) (xs : Parts) → IsLineOfNone line xs → AreOfDifferentLines xs → AreOfDifferentLines (xs ++ (line, t) ∷ [])
+lines_push line t [] none v = (tt, tt)
+lines_push line t (x ∷ xs) none v = (no_line_push x.0 line t xs v.0 (λ e. none.0 (sym e)), lines_push line t xs none.1 v.1)
 
 no_line_set : (i : ℕ) (s : Terms) (xs : Parts) (j : ℕ) → IsLineOfNone i xs → IsLineOfNone i (set xs j ((get_or xs j (0, [])).0, s))
 no_line_set i s [] j v = tt
 no_line_set i s (x ∷ xs) zero v = (v.0, v.1)
 no_line_set i s (x ∷ xs) (suc j) v = (v.0, no_line_set i s xs j v.1)
 
-pub polynomials_set : (p : ℕ) (cmp : Monomial → Monomial → Ordering) (s : Terms) (xs : Parts) (j : ℕ) → IsPolynomial p cmp s → ArePolynomials p cmp xs → ArePolynomials p cmp (set xs j ((get_or xs j (0, [])).0, s))
-polynomials_set p cmp s [] j is v = tt
-polynomials_set p cmp s (x ∷ xs) zero is v = (is, v.1, v.2)
-polynomials_set p cmp s (x ∷ xs) (suc j) is v = (v.0, no_line_set x.0 s xs j v.1, polynomials_set p cmp s xs j is v.2)
+pub lines_set : (s : Terms) (xs : Parts) (j : ℕ) → AreOfDifferentLines xs → AreOfDifferentLines (set xs j ((get_or xs j (0, [])).0, s))
+lines_set s [] j v = tt
+lines_set s (x ∷ xs) zero v = (v.0, v.1)
+lines_set s (x ∷ xs) (suc j) v = (no_line_set x.0 s xs j v.0, lines_set s xs j v.1)

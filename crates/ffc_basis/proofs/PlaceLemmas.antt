@@ -1,5 +1,5 @@
 -- The place of a line's part, where there is one.
-use Rattle.std.proofs.Common.{◌≡◌, ℕ, ◌+◌, ◌<◌, [], ◌∷◌, ◌++◌, length, get_or, Option, Some, None, IfSome, MatchOption, refl, ap, arith, length-append}
+use Rattle.std.proofs.Common.{◌≡◌, ℕ, ◌<◌, [], ◌∷◌, ◌++◌, length, get_or, Option, Some, None, IfSome, MatchOption, refl, ap, arith, length-append}
 use Rattle.ffc_ring.specs.Monomial.{Monomial}
 use Rattle.ffc_ring.specs.Polynomial.{Terms, PassesTerms}
 use Rattle.ffc_basis.specs.Lines.{Parts, HasPart}

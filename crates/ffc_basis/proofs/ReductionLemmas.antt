@@ -18,10 +18,11 @@ use Rattle.ffc_mono.specs.Graded.{IsGradedIn}
 use Rattle.ffc_mono.proofs.LeadingLemmas.{greater_trans, not_itself, leading_at_most, leading_of_multiple}
 use Rattle.ffc_poly.specs.Ordered.{IsAbove, IsOrdered}
 use Rattle.ffc_basis.proofs.OrderedTerms.{AreTerms-ordered, IsOrdered-at, coefficient-none, coefficient-other, coefficient-above, coefficient-first, first_nonzero, IsLeading-first}
-use Rattle.ffc_basis.specs.Lines.{Parts, combination, IsPolynomial, ArePolynomials}
-use Rattle.ffc_basis.specs.Remainders.{IsRemainder}
+use Rattle.ffc_basis.specs.Lines.{Parts, combination, IsPolynomial}
+use Rattle.ffc_basis.specs.Records.{AreOfDifferentLines}
+use Rattle.ffc_basis.specs.Remainders.{IsRemainder, IsRecordedReduction}
 use Rattle.ffc_basis.specs.Units.{AreInVariables, IsUpTo}
-use Rattle.ffc_basis.specs.Reduction.{IsIrreducible, IsReduced, IsAtMostLead, IsStep, IsReduction, AreIrreducible, SameFirst, IsCancelled, IsRecorded, IsStopped, PassesLimit}
+use Rattle.ffc_basis.specs.Reduction.{IsIrreducible, IsReduced, IsAtMostLead, IsStep, AreIrreducible, SameFirst, IsCancelled, IsRecorded, IsStopped, PassesLimit}
 
 -- ---- sums modulo p
 
@@ -120,24 +121,18 @@ module _ (p : ℕ) (prime : IsPrime p) (cmp : Monomial → Monomial → Ordering
       let lead = IsLeading-first p cmp laws limit t ts o in
       (t.0, t.1, lead, at_most_lead (t ∷ ts) t.0 t.1 m lead some)
 
-  -- a reduction is a remainder whose terms are in order, with polynomials as parts
-  pub remainder_of : (gs : List Terms) (poly rest : Terms) (parts : Parts) → IsReduction p cmp gs poly rest parts → IsRemainder p cmp gs poly rest parts
-  remainder_of gs poly rest parts r = record { whole = r.whole; before = r.before; at_most = r.at_most; lower = r.lower }
-
-  pub reduction_of : (gs : List Terms) (poly rest : Terms) (parts : Parts) → IsRemainder p cmp gs poly rest parts → IsPolynomial p cmp rest → ArePolynomials p cmp parts → IsReduction p cmp gs poly rest parts
-  reduction_of gs poly rest parts r left polynomials =
-      record { whole = r.whole; before = r.before; at_most = r.at_most; lower = r.lower; left = left; polynomials = polynomials }
-
   -- nothing is subtracted yet
-  pub reduction_begins : (gs : List Terms) (poly rest : Terms) (parts : Parts) → IsOrdered p cmp limit poly → IsPolynomial p cmp poly → rest ≡ poly → parts ≡ [] → IsReduction p cmp gs poly rest parts
+  pub reduction_begins : (gs : List Terms) (poly rest : Terms) (parts : Parts) → IsOrdered p cmp limit poly → IsPolynomial p cmp poly → rest ≡ poly → parts ≡ [] → IsRecordedReduction p cmp gs poly rest parts
   reduction_begins gs poly rest parts o within is none =
-      subst (λ r. IsReduction p cmp gs poly r parts) (sym is) (subst (IsReduction p cmp gs poly poly) (sym none) record {
-        whole = λ m. ap (λ l. coefficient p l m) (sym (append-nil poly));
-        before = tt;
-        at_most = λ i m has. absurd has;
-        lower = lead_of_ordered poly o;
+      subst (λ r. IsRecordedReduction p cmp gs poly r parts) (sym is) (subst (IsRecordedReduction p cmp gs poly poly) (sym none) record {
+        remainder = record {
+          whole = λ m. ap (λ l. coefficient p l m) (sym (append-nil poly));
+          before = tt;
+          at_most = λ i m has. absurd has;
+          lower = lead_of_ordered poly o;
+        };
         left = within;
-        polynomials = tt;
+        lines = tt;
       })
 
   -- ---- a step
@@ -366,13 +361,14 @@ module _ (p : ℕ) (prime : IsPrime p) (cmp : Monomial → Monomial → Ordering
   -- a step by a line's polynomial and a monomial that are written otherwise
   pub line_step : (gs : List Terms) (i k : ℕ) (q q' : Monomial) (line rest next : Terms) (place : ℕ) (old new : Parts) → get_or gs i [] ≡ line → q' ≡ q → IsOrdered p cmp limit rest → place < length rest → IsMonomial q' → k < p → IsOrdered p cmp limit line
       → IsStep p cmp gs (get_or rest place (0, [])).0 (get_or rest place (0, [])).1 i k q → SamePolynomial p next (difference p rest (term_product k q' line)) → IsRecorded p old new i k q
-      → IsPolynomial p cmp next → (ArePolynomials p cmp old → ArePolynomials p cmp new) → (poly : Terms) → IsReduction p cmp gs poly rest old → IsReduction p cmp gs poly next new
-  line_step gs i k q q' line rest next place old new is same o within u below v step left recorded is_polynomial are_polynomials poly so_far =
-      reduction_of gs poly next new
-      (step_keeps gs i k q rest (get_or rest place (0, [])).0 (get_or rest place (0, [])).1 (coefficient-at rest place o within) (nonzero_at rest place o within) (subst IsMonomial same u) below (subst AreTerms (sym is) (AreTerms-ordered p cmp limit line v)) step next old new
-      (subst (λ x. SamePolynomial p next (difference p rest (term_product k x (get_or gs i [])))) same
-      (subst (λ ts. SamePolynomial p next (difference p rest (term_product k q' ts))) (sym is) left)) recorded poly (remainder_of gs poly rest old so_far))
-      is_polynomial (are_polynomials so_far.polynomials)
+      → IsPolynomial p cmp next → (AreOfDifferentLines old → AreOfDifferentLines new) → (poly : Terms) → IsRecordedReduction p cmp gs poly rest old → IsRecordedReduction p cmp gs poly next new
+  line_step gs i k q q' line rest next place old new is same o within u below v step left recorded is_polynomial are_lines poly so_far = record {
+    remainder = step_keeps gs i k q rest (get_or rest place (0, [])).0 (get_or rest place (0, [])).1 (coefficient-at rest place o within) (nonzero_at rest place o within) (subst IsMonomial same u) below (subst AreTerms (sym is) (AreTerms-ordered p cmp limit line v)) step next old new
+        (subst (λ x. SamePolynomial p next (difference p rest (term_product k x (get_or gs i [])))) same
+        (subst (λ ts. SamePolynomial p next (difference p rest (term_product k q' ts))) (sym is) left)) recorded poly so_far.remainder;
+    left = is_polynomial;
+    lines = are_lines so_far.lines;
+  }
 
   pub line_first : (gs : List Terms) (i k : ℕ) (q q' : Monomial) (line rest next : Terms) (place : ℕ) → get_or gs i [] ≡ line → q' ≡ q → IsOrdered p cmp limit rest → IsOrdered p cmp limit next → place < length rest → IsMonomial q' → k < p → IsOrdered p cmp limit line
       → IsStep p cmp gs (get_or rest place (0, [])).0 (get_or rest place (0, [])).1 i k q → SamePolynomial p next (difference p rest (term_product k q' line)) → SameFirst rest next place

@@ -14,7 +14,7 @@ use Rattle.ffc_basis.proofs.OrderedTerms.{coefficient-none, coefficient-other, P
 use Rattle.ffc_basis.specs.Lines.{Parts, combination, AreBefore}
 use Rattle.ffc_basis.specs.Reduction.{IsRecorded}
 use Rattle.ffc_basis.specs.Completion.{IsSPolynomial, PassesSPolynomial}
-use Rattle.ffc_basis.specs.Outcomes.{PassesDifference, AreScaled, ArePartsOf}
+use Rattle.ffc_basis.specs.Outcomes.{PassesDifference, AreScaled, AreSubtracted}
 
 -- ---- cofactors
 
@@ -165,16 +165,14 @@ scaled_next p c ts us vs i t u h is are same v =
     subst (AreScaled p c (take (i + 1) ts)) (sym are)
     (subst (λ l. AreScaled p c l (us ++ (t.0, u) ∷ [])) (sym (taken_more ts i t h is)) (scaled_push p c (take i ts) us t (t.0, u) v refl same))
 
--- the negated parts with two multiples recorded
-pub parts_recorded : (p : ℕ) (old negated middle new : Parts) (i k : ℕ) (u : Monomial) (j l : ℕ) (v : Monomial) → AreScaled p (p - 1) old negated → IsRecorded p negated middle i k u → IsRecorded p middle new j l v → ArePartsOf p old i k u j l v new
-parts_recorded p old negated middle new i k u j l v scaled_is first second = record {
+-- two multiples are recorded besides
+pub both_recorded : (p : ℕ) (old middle new : Parts) (i k : ℕ) (u : Monomial) (j l : ℕ) (v : Monomial) → IsRecorded p old middle i (neg_mod p k) u → IsRecorded p middle new j (neg_mod p l) v → AreSubtracted p old i k u j l v new
+both_recorded p old middle new i k u j l v first second = record {
   sum = λ gs q.
-      let x = term_product k u (get_or gs i []) in
-      let y = term_product l v (get_or gs j []) in
-      second.sum gs q
-      ∙ same_sums p (combination gs middle) (scaled (p - 1) (combination gs old) ++ x) y y
-      (λ r. first.sum gs r ∙ same_sums p (combination gs negated) (scaled (p - 1) (combination gs old)) x x (scaled_combination p (p - 1) gs old negated scaled_is) (λ _. refl) r) (λ _. refl) q;
-  before = λ n h g w. second.before n g (first.before n h (scaled_before p (p - 1) n old negated scaled_is w));
+      let x = term_product (neg_mod p k) u (get_or gs i []) in
+      let y = term_product (neg_mod p l) v (get_or gs j []) in
+      second.sum gs q ∙ same_sums p (combination gs middle) (combination gs old ++ x) y y (first.sum gs) (λ _. refl) q;
+  before = λ n h g w. second.before n g (first.before n h w);
 }
 
 -- which limit a difference passes
@@ -193,7 +191,3 @@ second_passes p a k u b l v raised Memory up degree terms some = absurd (some re
 
 pub raised_difference : (p : ℕ) (a raised s y : Terms) → SamePolynomial p raised a → SamePolynomial p s (difference p raised y) → SamePolynomial p s (difference p a y)
 raised_difference p a raised s y up is q = is q ∙ same_sums p raised a (scaled (p - 1) y) (scaled (p - 1) y) up (λ _. refl) q
-
--- the negation of 1
-pub minus_one : (p : ℕ) → 1 < p → neg_mod p (1 % p) ≡ p - 1
-minus_one p h = ap (λ x. (p - x) % p) (mod-eq_of_lt h) ∙ mod-eq_of_lt (let low : p - 1 < p = omega arith in low)

@@ -1,5 +1,5 @@
 -- Steps on a remainder that is split into finished terms and a sum of others, all of them below.
-use Rattle.std.proofs.Common.{◌≡◌, ◌≢◌, ℕ, zero, ◌+◌, ◌-◌, ◌%◌, ◌<◌, ◌≤◌, List, [], ◌∷◌, ◌++◌, length, get_or, refl, sym, ap, ap₂, ◌∙◌, subst, inl, inr, arith, append_assoc, mod-lt, mod-eq_of_lt, length-append}
+use Rattle.std.proofs.Common.{◌≡◌, ◌≢◌, ℕ, ◌+◌, ◌-◌, ◌%◌, ◌<◌, ◌≤◌, List, [], ◌∷◌, ◌++◌, length, get_or, refl, sym, ap, ap₂, ◌∙◌, subst, inl, inr, arith, append_assoc, mod-lt, mod-eq_of_lt, length-append}
 use Rattle.std.proofs.lemmas.Bool.{cases_eq}
 use Rattle.std.proofs.lemmas.List.{get_or_append_left}
 use Rattle.std.specs.declared.cmp.Ordering.{Ordering}
@@ -15,9 +15,10 @@ use Rattle.ffc_mono.specs.MonomialOrder.{IsMonomialOrder}
 use Rattle.ffc_mono.specs.Leading.{IsLeading}
 use Rattle.ffc_mono.proofs.LeadingLemmas.{greater_trans, not_itself, one_leading}
 use Rattle.ffc_poly.specs.Ordered.{IsAbove, IsOrdered, residues}
-use Rattle.ffc_basis.specs.Lines.{Parts, combination, IsPolynomial, ArePolynomials}
-use Rattle.ffc_basis.specs.Reduction.{IsIrreducible, IsReduced, IsStep, AreIrreducible, IsRecorded, IsReduction}
-use Rattle.ffc_basis.specs.Remainders.{IsRemainder, IsCounted, IsUnderway, Continues, StaysBounded, IsSplit, IsStepOfLead}
+use Rattle.ffc_basis.specs.Lines.{Parts, combination, IsPolynomial}
+use Rattle.ffc_basis.specs.Records.{AreOfDifferentLines}
+use Rattle.ffc_basis.specs.Reduction.{IsIrreducible, IsReduced, IsStep, AreIrreducible, IsRecorded}
+use Rattle.ffc_basis.specs.Remainders.{IsRemainder, IsRecordedReduction, IsCounted, IsUnderway, Continues, StaysBounded, IsSplit, IsStepOfLead}
 use Rattle.ffc_basis.specs.Units.{TakesReductions}
 use Rattle.ffc_basis.proofs.OrderedTerms.{coefficient-none, coefficient-other, coefficient-above, first_nonzero, above_with, IsLeading-first}
 use Rattle.ffc_basis.proofs.PartLemmas.{some_of_sum, only_monomial}
@@ -42,7 +43,7 @@ continues_same p cmp gs rest next parts others s t same is unpaid poly old h =
     subst (λ ts. IsUnderway p cmp gs poly next ts old t) (sym is)
     (subst (λ u. IsUnderway p cmp gs poly next parts old u) (sym unpaid) record {
       remainder = remainder_same p cmp gs poly rest next parts same h.remainder;
-      polynomials = h.polynomials;
+      lines = h.lines;
       counted = counted_same p cmp gs poly rest next old s same h.counted;
     })
 
@@ -54,23 +55,12 @@ stays_bounded p cmp gs rest next parts others s t u goes taken is poly old takes
     counted_is_bounded p cmp gs poly next old t u is (takes_both old s t takes taken) (goes poly old h).counted
 
 -- a reduction with its count, between two steps
-pub begins_underway : (p : ℕ) (cmp : Monomial → Monomial → Ordering) (gs : List Terms) (poly rest : Terms) (parts : Parts) (old s : Spending) → IsReduction p cmp gs poly rest parts → IsCounted p cmp gs poly rest old s → IsUnderway p cmp gs poly rest parts old s
-begins_underway p cmp gs poly rest parts old s r counted = record {
-  remainder = record { whole = r.whole; before = r.before; at_most = r.at_most; lower = r.lower };
-  polynomials = r.polynomials;
-  counted = counted;
-}
+pub begins_underway : (p : ℕ) (cmp : Monomial → Monomial → Ordering) (gs : List Terms) (poly rest : Terms) (parts : Parts) (old s : Spending) → IsRecordedReduction p cmp gs poly rest parts → IsCounted p cmp gs poly rest old s → IsUnderway p cmp gs poly rest parts old s
+begins_underway p cmp gs poly rest parts old s r counted = record { remainder = r.remainder; lines = r.lines; counted = counted }
 
 -- and with its terms in order again
-pub ends_underway : (p : ℕ) (cmp : Monomial → Monomial → Ordering) (gs : List Terms) (poly rest : Terms) (parts : Parts) (old s : Spending) → IsUnderway p cmp gs poly rest parts old s → IsPolynomial p cmp rest → IsReduction p cmp gs poly rest parts
-ends_underway p cmp gs poly rest parts old s h is = record {
-  whole = h.remainder.whole;
-  before = h.remainder.before;
-  at_most = h.remainder.at_most;
-  lower = h.remainder.lower;
-  left = is;
-  polynomials = h.polynomials;
-}
+pub ends_underway : (p : ℕ) (cmp : Monomial → Monomial → Ordering) (gs : List Terms) (poly rest : Terms) (parts : Parts) (old s : Spending) → IsUnderway p cmp gs poly rest parts old s → IsPolynomial p cmp rest → IsRecordedReduction p cmp gs poly rest parts
+ends_underway p cmp gs poly rest parts old s h is = record { remainder = h.remainder; left = is; lines = h.lines }
 
 -- ---- finished terms
 
@@ -217,11 +207,11 @@ module _ (p : ℕ) (prime : IsPrime p) (cmp : Monomial → Monomial → Ordering
     in_whole_some : coefficient p (front ++ left) m ≢ 0
     in_whole_some none = leading.2.1 (sym in_whole ∙ none)
 
-    pub cancelled_continues : (old new : Parts) (s t : Spending) → IsReduced p cmp gs front → IsRecorded p old new i k q → (ArePolynomials p cmp old → ArePolynomials p cmp new) → t ≡ one_more s Reduction → Continues p cmp gs (front ++ left) old s (front ++ next) new t
-    cancelled_continues old new s t reduced recorded are_polynomials taken poly begun h =
+    pub cancelled_continues : (old new : Parts) (s t : Spending) → IsReduced p cmp gs front → IsRecorded p old new i k q → (AreOfDifferentLines old → AreOfDifferentLines new) → t ≡ one_more s Reduction → Continues p cmp gs (front ++ left) old s (front ++ next) new t
+    cancelled_continues old new s t reduced recorded are_lines taken poly begun h =
         let whole = whole_next front left next (term_product k q (get_or gs i [])) same in record {
           remainder = step_keeps p prime cmp laws 1024 gs i k q (front ++ left) c m in_whole leading.2.1 u below v leading.3 (front ++ next) old new whole recorded poly h.remainder;
-          polynomials = are_polynomials h.polynomials;
+          lines = are_lines h.lines;
           counted = counted_cancel cmp laws p gs poly (front ++ left) (front ++ next) m begun s t
               (m_monomial p prime cmp laws 1024 gs i k q (front ++ left) c m in_whole leading.2.1 u below v leading.3) in_whole_some
               (m_reducible p prime cmp laws 1024 gs i k q (front ++ left) c m in_whole leading.2.1 u below v leading.3)

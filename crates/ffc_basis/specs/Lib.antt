@@ -6,6 +6,7 @@ pub mod Indexing
 pub mod Lines
 pub mod Outcomes
 pub mod PairTable
+pub mod Records
 pub mod Reduction
 pub mod Remainders
 pub mod Units

@@ -1,7 +1,7 @@
 -- What the S-polynomial of two lines gives.
-use Rattle.std.specs.Prelude.{◌≡◌, ℕ, ◌<◌, ◌-◌, ◌⊎◌, ◌++◌, List, [], ◌∷◌, length, get_or}
+use Rattle.std.specs.Prelude.{◌≡◌, ℕ, ◌<◌, ◌⊎◌, ◌++◌, List, [], ◌∷◌, length, get_or}
 use Rattle.std.specs.declared.cmp.Ordering.{Ordering}
-use Rattle.ffc_field.specs.Modular.{mul_mod}
+use Rattle.ffc_field.specs.Modular.{mul_mod, neg_mod}
 use Rattle.ffc_ring.specs.Monomial.{Monomial}
 use Rattle.ffc_ring.specs.Polynomial.{Terms, SamePolynomial, term_product, scaled, difference, PassesDegree, PassesTerms}
 use Rattle.ffc_mono.specs.Leading.{IsLeading}
@@ -40,18 +40,19 @@ AreScaled p c [] (u ∷ us) = ⊥
 AreScaled p c (t ∷ ts) [] = ⊥
 AreScaled p c (t ∷ ts) (u ∷ us) = (u.0 ≡ t.0) × SamePolynomial p u.1 (scaled c t.1) × AreScaled p c ts us
 
--- the negated parts and two multiples of lines
-pub record ArePartsOf (p : ℕ) (old : Parts) (i k : ℕ) (u : Monomial) (j l : ℕ) (v : Monomial) (new : Parts) : Type 0 where
+-- two multiples of lines are subtracted besides
+pub record AreSubtracted (p : ℕ) (old : Parts) (i k : ℕ) (u : Monomial) (j l : ℕ) (v : Monomial) (new : Parts) : Type 0 where
   pub sum : (gs : List Terms) → SamePolynomial p (combination gs new)
-      ((scaled (p - 1) (combination gs old) ++ term_product k u (get_or gs i [])) ++ term_product l v (get_or gs j []))
+      ((combination gs old ++ term_product (neg_mod p k) u (get_or gs i [])) ++ term_product (neg_mod p l) v (get_or gs j []))
   pub before : (n : ℕ) → i < n → j < n → AreBefore n old → AreBefore n new
 
--- the polynomial and its parts, times the inverse of the leading coefficient
+-- the polynomial, times the inverse of its leading coefficient, and the parts, negated and times that
 pub record IsMonic {F O : Type 0} (p : ℕ) (cmp : Monomial → Monomial → Ordering) (poly : Terms) (parts : Parts) (l : Line F O) : Type 0 where
   pub factor : ℕ
+  pub below : factor < p
   pub coefficient : ℕ
   pub monomial : Monomial
   pub leading : IsLeading p cmp poly coefficient monomial
   pub inverse : mul_mod p factor coefficient ≡ 1
   pub multiple : SamePolynomial p l.poly (scaled factor poly)
-  pub scaled_parts : AreScaled p factor parts l.parts.items
+  pub scaled_parts : AreScaled p (neg_mod p factor) parts l.parts.items

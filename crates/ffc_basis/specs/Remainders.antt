@@ -10,7 +10,8 @@ use Rattle.ffc_mono.specs.Leading.{IsLeading}
 use Rattle.ffc_mono.specs.Graded.{IsGradedIn}
 use Rattle.ffc_poly.specs.Ordered.{residues}
 use Rattle.ffc_basis.specs.declared.remainder.Remainder.{Remainder}
-use Rattle.ffc_basis.specs.Lines.{Parts, combination, AreBefore, ArePolynomials}
+use Rattle.ffc_basis.specs.Lines.{Parts, combination, AreBefore, IsPolynomial}
+use Rattle.ffc_basis.specs.Records.{AreOfDifferentLines}
 use Rattle.ffc_basis.specs.Reduction.{IsIrreducible, IsAtMostLead, ArePartsAtMost, IsStep}
 use Rattle.ffc_basis.specs.Units.{TakesReductions, AreInVariables, IsUpTo, IsReductionBound}
 
@@ -20,6 +21,12 @@ pub record IsRemainder (p : ℕ) (cmp : Monomial → Monomial → Ordering) (gs 
   pub before : AreBefore (length gs) parts
   pub at_most : ArePartsAtMost p cmp gs poly parts
   pub lower : (m : Monomial) → coefficient p rest m ≢ 0 → IsAtMostLead p cmp poly m
+
+-- what is left of a polynomial, with its terms in order, and the record of what was subtracted
+pub record IsRecordedReduction (p : ℕ) (cmp : Monomial → Monomial → Ordering) (gs : List Terms) (poly rest : Terms) (parts : Parts) : Type 0 where
+  pub remainder : IsRemainder p cmp gs poly rest parts
+  pub left : IsPolynomial p cmp rest
+  pub lines : AreOfDifferentLines parts
 
 -- each of these monomials is above that one
 abbrev pub AreAbove : (Monomial → Monomial → Ordering) → List Monomial → Monomial → Type 0
@@ -41,7 +48,7 @@ IsCounted p cmp gs poly rest old new =
 -- a reduction between two steps
 pub record IsUnderway (p : ℕ) (cmp : Monomial → Monomial → Ordering) (gs : List Terms) (poly rest : Terms) (parts : Parts) (old new : Spending) : Type 0 where
   pub remainder : IsRemainder p cmp gs poly rest parts
-  pub polynomials : ArePolynomials p cmp parts
+  pub lines : AreOfDifferentLines parts
   pub counted : IsCounted p cmp gs poly rest old new
 
 -- a reduction that has come to the one remainder has come to the other

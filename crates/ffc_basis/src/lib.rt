@@ -11,6 +11,7 @@ mod line;
 mod pair;
 mod pairing;
 mod queue;
+mod record;
 mod reduction;
 mod remainder;
 mod spoly;

@@ -1,24 +1,28 @@
 //! Reduction by the lines of a basis.
-ghost use Rattle.std.specs.Prelude.{◌≡◌, ◌≢◌, ℕ, ◌<◌, ◌⊎◌, [], ◌∷◌, ◌++◌, length, vec_len, get_or, IfOk, IfErr, IfSome};
-ghost use Rattle.std.specs.Prelude.{IfNone, OnOk, OnErr, IsErrOf, IsTrue, MatchOption};
+ghost use Rattle.std.specs.Prelude.{◌≡◌, ◌≢◌, ◌<◌, [], length, get_or, IfOk, IfErr, IfSome};
+ghost use Rattle.std.specs.Prelude.{IfNone, OnOk, OnErr};
 ghost use Rattle.ffc_base.specs.Metering.{Metered};
 ghost use Rattle.ffc_field.specs.Modular.{mul_mod};
 ghost use Rattle.ffc_ring.specs.Monomial.{Divides, mono_mul};
-ghost use Rattle.ffc_ring.specs.Polynomial.{Terms, SamePolynomial, PassesTerms};
+ghost use Rattle.ffc_ring.specs.Polynomial.{Terms};
 ghost use Rattle.ffc_basis.specs.Indexing.{IsIndexOf};
-ghost use Rattle.ffc_basis.specs.Lines.{polys_of, HasPart, IsLineOfNone, ArePolynomials};
-ghost use Rattle.ffc_basis.specs.Reduction.{IsIrreducible, IsStep, IsAddedAt, IsRecorded, IsReduction, IsReduced};
+ghost use Rattle.ffc_basis.specs.Lines.{polys_of, ArePolynomials};
+ghost use Rattle.ffc_basis.specs.Outcomes.{AreScaled};
+ghost use Rattle.ffc_basis.specs.Records.{AreOfDifferentLines};
+ghost use Rattle.ffc_basis.specs.Remainders.{IsRecordedReduction};
+ghost use Rattle.ffc_basis.specs.Reduction.{IsIrreducible, IsStep, IsReduction, IsReduced};
 ghost use Rattle.ffc_basis.specs.Reduction.{SameFirst, IsCancelled, IsStopped, PassesLimit};
 ghost use Rattle.ffc_basis.specs.Units.{TakesReductions, IsReductionBound};
 
 use crate::dividing::oldest_divisor;
 use crate::index::Index;
 use crate::line::{Line, LineId};
+use crate::record::Record;
 use crate::remainder::go_on;
 use ffc_base::{Meter, Stop, Unit};
 use ffc_field::Field;
 use ffc_mono::{Mono, MonoOrder, MonoRef};
-use ffc_poly::{Poly, PolyStop, TERM_LIMIT};
+use ffc_poly::{Poly, PolyStop};
 use std::alloc::{AllocError, Global};
 
 /// What is left of a polynomial, and the multiples of lines that were subtracted.
@@ -111,142 +115,11 @@ pub(crate) fn step_at<F: Field, O: MonoOrder>(
     Ok(Some(multiple_of(alloc, number, lead, c, m)?))
 }
 
-/// The polynomial c*m.
-pub(crate) fn term<F: Field, O: MonoOrder>(
-    alloc: Global,
-    c: F,
-    m: &Mono,
-) -> Result<Poly<F, O>, AllocError>
-    ensures { IfOk result (λ r. SamePolynomial F.ORDER r ((F.value c, m.now) ∷ [])) }
-{
-    let mut terms = Vec::new(alloc);
-    terms.push((c, m.clone()?))?;
-    match Poly::from_terms(alloc, terms.as_slice()) {
-        Ok(single) => Ok(single),
-        Err(PolyStop::Memory) => Err(AllocError),
-        Err(_) => unreachable!(),
-    }
-}
-
-/// The place of a part of a line.
-pub(crate) fn place_of<F: Field, O: MonoOrder>(
-    parts: &[(LineId, Poly<F, O>)],
-    line: LineId,
-) -> Option<usize>
-    ensures some { IfSome result (λ i. (i < length parts.now) × ((get_or parts.now i (0, [])).0 ≡ line)) }
-    ensures none { IfNone result (IsLineOfNone line parts.now) }
-{
-    for place in 0..parts.len() {
-        if parts[place].0 == line {
-            return Some(place);
-        }
-    }
-    None
-}
-
-/// Adds a polynomial to the part at a place.
-fn add_at<F: Field, O: MonoOrder>(
-    parts: &mut Vec<(LineId, Poly<F, O>)>,
-    place: usize,
-    more: &Poly<F, O>,
-) -> Result<(), PolyStop>
-    requires { place < vec_len parts.old }
-    ensures added { OnOk result (IsAddedAt F.ORDER parts.old.items parts.new.items place more.now) }
-    ensures polynomials { OnOk result (ArePolynomials F.ORDER O.cmp parts.old.items
-        → ArePolynomials F.ORDER O.cmp parts.new.items) }
-    ensures over { IsErrOf result PolyStop.TermsOver → PassesTerms F.ORDER 131072
-        ((get_or parts.old.items place (0, [])).1 ++ more.now) }
-    ensures no_product { IsErrOf result PolyStop.DegreeOver → ⊥ }
-    ensures unchanged { OnErr result (parts.new.items ≡ parts.old.items) }
-{
-    let line = parts[place].0;
-    let sum = parts[place].1.add(more)?;
-    let _length = sum.len();
-    parts[place] = (line, sum);
-    Ok(())
-}
-
-/// Appends a part.
-pub(crate) fn append<F: Field, O: MonoOrder>(
-    parts: &mut Vec<(LineId, Poly<F, O>)>,
-    line: LineId,
-    part: Poly<F, O>,
-) -> Result<(), PolyStop>
-    ensures appended { OnOk result (parts.new.items ≡ parts.old.items ++ (line, part) ∷ []) }
-    ensures memory { IfErr result (λ stop. stop ≡ PolyStop.Memory) }
-    ensures unchanged { OnErr result (parts.new.items ≡ parts.old.items) }
-{
-    match parts.push((line, part)) {
-        Ok(()) => Ok(()),
-        Err(_) => Err(PolyStop::Memory),
-    }
-}
-
-/// Whether the part at a place, if any, can have one more term.
-pub(crate) fn has_room<F: Field, O: MonoOrder>(
-    parts: &[(LineId, Poly<F, O>)],
-    place: Option<usize>,
-) -> bool
-    requires { IfSome place (λ i. i < length parts.now) }
-    ensures { IsTrue result → IfSome place (λ i. length (get_or parts.now i (0, [])).1 < TERM_LIMIT) }
-{
-    match place {
-        Some(i) => parts[i].1.len() < TERM_LIMIT,
-        None => true,
-    }
-}
-
-/// Adds a multiple to the part of its line at a place, or as a part of its own.
-pub(crate) fn record_at<F: Field, O: MonoOrder>(
-    parts: &mut Vec<(LineId, Poly<F, O>)>,
-    place: Option<usize>,
-    step: &Step<F>,
-) -> Result<(), PolyStop>
-    requires some { IfSome place (λ i. (i < length parts.old.items)
-        × ((get_or parts.old.items i (0, [])).0 ≡ step.now.line)) }
-    requires none { IfNone place (IsLineOfNone step.now.line parts.old.items) }
-    ensures recorded { OnOk result
-        (IsRecorded F.ORDER parts.old.items parts.new.items step.now.line (F.value step.now.coefficient)
-        step.now.monomial) }
-    ensures polynomials { OnOk result (ArePolynomials F.ORDER O.cmp parts.old.items
-        → ArePolynomials F.ORDER O.cmp parts.new.items) }
-    ensures over { IsErrOf result PolyStop.TermsOver → MatchOption place ⊥ (λ i. PassesTerms F.ORDER 131072
-        ((get_or parts.old.items i (0, [])).1 ++ (F.value step.now.coefficient, step.now.monomial) ∷ [])) }
-    ensures no_product { IsErrOf result PolyStop.DegreeOver → ⊥ }
-    ensures unchanged { OnErr result (parts.new.items ≡ parts.old.items) }
-{
-    let single = term(*parts.allocator(), step.coefficient, &step.monomial)?;
-    let _length = single.len();
-    match place {
-        Some(place) => add_at(parts, place, &single),
-        None => append(parts, step.line as u64, single),
-    }
-}
-
-/// Adds a multiple to the part of its line.
-pub(crate) fn record<F: Field, O: MonoOrder>(
-    parts: &mut Vec<(LineId, Poly<F, O>)>,
-    step: &Step<F>,
-) -> Result<(), PolyStop>
-    ensures recorded { OnOk result
-        (IsRecorded F.ORDER parts.old.items parts.new.items step.now.line (F.value step.now.coefficient)
-        step.now.monomial) }
-    ensures polynomials { OnOk result (ArePolynomials F.ORDER O.cmp parts.old.items
-        → ArePolynomials F.ORDER O.cmp parts.new.items) }
-    ensures over { IsErrOf result PolyStop.TermsOver → (t : Terms) × HasPart parts.old.items step.now.line t
-        × PassesTerms F.ORDER 131072 (t ++ (F.value step.now.coefficient, step.now.monomial) ∷ []) }
-    ensures no_product { IsErrOf result PolyStop.DegreeOver → ⊥ }
-    ensures unchanged { OnErr result (parts.new.items ≡ parts.old.items) }
-{
-    let place = place_of(parts.as_slice(), step.line as u64);
-    record_at(parts, place, step)
-}
-
 /// Subtracts a multiple that cancels the term at a place, and records it.
 fn subtract<F: Field, O: MonoOrder>(
     lines: &[Line<F, O>],
     rest: &mut Poly<F, O>,
-    parts: &mut Vec<(LineId, Poly<F, O>)>,
+    parts: &mut Record<F>,
     place: usize,
     step: &Step<F>,
 ) -> Result<(), PolyStop>
@@ -254,15 +127,15 @@ fn subtract<F: Field, O: MonoOrder>(
     requires step { IsStep F.ORDER O.cmp (polys_of lines.now) (get_or rest.old place (0, [])).0
         (get_or rest.old place (0, [])).1
         step.now.line (F.value step.now.coefficient) step.now.monomial }
-    ensures reduction { OnOk result ((poly : Terms) → IsReduction F.ORDER O.cmp (polys_of lines.now) poly rest.old
-        parts.old.items
-        → IsReduction F.ORDER O.cmp (polys_of lines.now) poly rest.new parts.new.items) }
+    ensures reduction { OnOk result ((poly : Terms)
+        → IsRecordedReduction F.ORDER O.cmp (polys_of lines.now) poly rest.old parts.old
+        → IsRecordedReduction F.ORDER O.cmp (polys_of lines.now) poly rest.new parts.new) }
     ensures first { OnOk result (SameFirst rest.old rest.new place) }
     ensures cancelled { OnOk result (IsCancelled F.ORDER O.cmp (polys_of lines.now) rest.old rest.new place) }
     ensures over { IfErr result (λ stop. stop ≢ PolyStop.Memory
-        → PassesLimit F.ORDER (polys_of lines.now) rest.old parts.old.items step.now.line (F.value step.now.coefficient)
+        → PassesLimit F.ORDER (polys_of lines.now) rest.old parts.old step.now.line (F.value step.now.coefficient)
         step.now.monomial) }
-    ensures unchanged { OnErr result ((rest.new ≡ rest.old) × (parts.new.items ≡ parts.old.items)) }
+    ensures unchanged { OnErr result ((rest.new ≡ rest.old) × (parts.new ≡ parts.old)) }
 {
     let poly = &lines[step.line].poly;
     let _length = (rest.len(), poly.len());
@@ -271,7 +144,7 @@ fn subtract<F: Field, O: MonoOrder>(
         Err(stop) => return Err(stop),
     };
     let _new_length = next.len();
-    match record(parts, step) {
+    match parts.add::<O>(step.line as u64, step.coefficient, &step.monomial) {
         Ok(()) => {
             *rest = next;
             Ok(())
@@ -301,28 +174,60 @@ pub(crate) fn only_memory(stop: PolyStop) -> AllocError
     }
 }
 
+/// What is left of a polynomial, and the record of the multiples of lines that were subtracted.
+pub(crate) struct Recorded<F: Field, O: MonoOrder> {
+    pub rest: Poly<F, O>,
+    pub parts: Record<F>,
+    /// A line and the monomial by which it was to be multiplied, where that passes a limit.
+    pub over: Option<(LineId, Mono)>,
+}
+
+impl<F: Field, O: MonoOrder> Drop for Recorded<F, O> {
+    fn drop(self) {
+        let Recorded {
+            rest: _,
+            parts: _,
+            over: _,
+        } = self;
+    }
+}
+
+impl<F: Field, O: MonoOrder> Recorded<F, O> {
+    /// The same with polynomials as parts.
+    pub(crate) fn finished(self) -> Result<Reduced<F, O>, AllocError>
+        ensures rest { IfOk result (λ r. r.rest ≡ self.rest) }
+        ensures over { IfOk result (λ r. r.over ≡ self.over) }
+        ensures same { IfOk result (λ r. AreScaled F.ORDER 1 self.parts r.parts.items) }
+        ensures polynomials { IfOk result (λ r. AreOfDifferentLines self.parts → ArePolynomials F.ORDER O.cmp r.parts.items) }
+    {
+        let Recorded { rest, parts, over } = self;
+        let parts = parts.times::<O>(F::of(1))?;
+        Ok(Reduced { rest, parts, over })
+    }
+}
+
 /// Reduces a polynomial, from its leading term on, until no leading monomial of a line divides a monomial that is left, or a
 /// limit is passed.
-pub(crate) fn reduce_by<F: Field, O: MonoOrder>(
+pub(crate) fn reduce_recorded<F: Field, O: MonoOrder>(
     alloc: Global,
     lines: &[Line<F, O>],
     index: &Index,
     poly: &Poly<F, O>,
     meter: &mut Meter,
-) -> Result<Reduced<F, O>, Stop>
+) -> Result<Recorded<F, O>, Stop>
     requires { IsIndexOf F.ORDER O.cmp (polys_of lines.now) index.now }
-    ensures reduction { IfOk result (λ r. IsReduction F.ORDER O.cmp (polys_of lines.now) poly.now r.rest
-        r.parts.items) }
+    ensures reduction { IfOk result (λ r. IsRecordedReduction F.ORDER O.cmp (polys_of lines.now) poly.now r.rest
+        r.parts) }
     ensures reduced { IfOk result (λ r. IfNone r.over (IsReduced F.ORDER O.cmp (polys_of lines.now) r.rest)) }
     ensures over { IfOk result
-        (λ r. IfSome r.over (λ t. IsStopped F.ORDER O.cmp (polys_of lines.now) r.rest r.parts.items t.0 t.1)) }
+        (λ r. IfSome r.over (λ t. IsStopped F.ORDER O.cmp (polys_of lines.now) r.rest r.parts t.0 t.1)) }
     ensures metered { Metered Stop.Spent result meter.old meter.new }
     ensures takes { TakesReductions meter.old meter.new }
     ensures bound { IsReductionBound F.ORDER O.cmp (polys_of lines.now) poly.now meter.old meter.new }
 {
     let _length = poly.len();
     let mut rest = poly.clone()?;
-    let mut parts = Vec::new(alloc);
+    let mut parts = Record::new(alloc);
     let mut place = 0;
     while place < rest.len() {
         let (c, m) = rest.term(place);
@@ -347,7 +252,7 @@ pub(crate) fn reduce_by<F: Field, O: MonoOrder>(
             }
             Err(stop) => {
                 past_limit(stop)?;
-                return Ok(Reduced {
+                return Ok(Recorded {
                     rest,
                     parts,
                     over: Some((step.line as u64, step.monomial)),
@@ -355,9 +260,32 @@ pub(crate) fn reduce_by<F: Field, O: MonoOrder>(
             }
         }
     }
-    Ok(Reduced {
+    Ok(Recorded {
         rest,
         parts,
         over: None,
     })
+}
+
+/// Reduces a polynomial, and makes polynomials of the parts.
+pub(crate) fn reduce_by<F: Field, O: MonoOrder>(
+    alloc: Global,
+    lines: &[Line<F, O>],
+    index: &Index,
+    poly: &Poly<F, O>,
+    meter: &mut Meter,
+) -> Result<Reduced<F, O>, Stop>
+    requires { IsIndexOf F.ORDER O.cmp (polys_of lines.now) index.now }
+    ensures reduction { IfOk result (λ r. IsReduction F.ORDER O.cmp (polys_of lines.now) poly.now r.rest
+        r.parts.items) }
+    ensures reduced { IfOk result (λ r. IfNone r.over (IsReduced F.ORDER O.cmp (polys_of lines.now) r.rest)) }
+    ensures over { IfOk result
+        (λ r. IfSome r.over (λ t. IsStopped F.ORDER O.cmp (polys_of lines.now) r.rest r.parts.items t.0 t.1)) }
+    ensures metered { Metered Stop.Spent result meter.old meter.new }
+    ensures takes { TakesReductions meter.old meter.new }
+    ensures bound { IsReductionBound F.ORDER O.cmp (polys_of lines.now) poly.now meter.old meter.new }
+{
+    let recorded = reduce_recorded(alloc, lines, index, poly, meter)?;
+    let reduced = recorded.finished()?;
+    Ok(reduced)
 }

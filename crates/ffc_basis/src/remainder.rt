@@ -7,14 +7,16 @@ ghost use Rattle.ffc_ring.specs.Monomial.{Monomial};
 ghost use Rattle.ffc_ring.specs.Polynomial.{Terms, SamePolynomial, term_product, difference};
 ghost use Rattle.ffc_mono.specs.Leading.{IsLeading};
 ghost use Rattle.ffc_basis.specs.Indexing.{IsIndexOf};
-ghost use Rattle.ffc_basis.specs.Lines.{polys_of, IsLineOfNone, ArePolynomials};
+ghost use Rattle.ffc_basis.specs.Lines.{polys_of, IsLineOfNone};
+ghost use Rattle.ffc_basis.specs.Records.{AreOfDifferentLines};
 ghost use Rattle.ffc_basis.specs.Reduction.{IsIrreducible, IsReduced, AreIrreducible, IsRecorded};
 ghost use Rattle.ffc_basis.specs.Remainders.{Continues, StaysBounded, IsSplit, IsStepOfLead, front_of, whole_of};
 ghost use Rattle.ffc_basis.specs.Units.{TakesReductions};
 
 use crate::index::Index;
-use crate::line::{Line, LineId};
-use crate::reduction::{Step, has_room, only_memory, past_limit, place_of, record_at, step_at};
+use crate::line::Line;
+use crate::record::Record;
+use crate::reduction::{Step, only_memory, past_limit, step_at};
 use ffc_base::{Meter, Stop, Unit};
 use ffc_field::Field;
 use ffc_mono::{Mono, MonoOrder};
@@ -128,21 +130,19 @@ fn subtract_within<F: Field, O: MonoOrder>(
 
 /// Records a multiple in the part at a place, which has room for it.
 fn record_within<F: Field, O: MonoOrder>(
-    parts: &mut Vec<(LineId, Poly<F, O>)>,
+    parts: &mut Record<F>,
     place: Option<usize>,
     step: &Step<F>,
 ) -> Result<(), AllocError>
-    requires some { IfSome place (λ i. (i < length parts.old.items)
-        × ((get_or parts.old.items i (0, [])).0 ≡ step.now.line)) }
-    requires none { IfNone place (IsLineOfNone step.now.line parts.old.items) }
-    requires room { IfSome place (λ i. length (get_or parts.old.items i (0, [])).1 < TERM_LIMIT) }
+    requires some { IfSome place (λ i. (i < length parts.old)
+        × ((get_or parts.old i (0, [])).0 ≡ step.now.line)) }
+    requires none { IfNone place (IsLineOfNone step.now.line parts.old) }
+    requires room { IfSome place (λ i. length (get_or parts.old i (0, [])).1 < TERM_LIMIT) }
     ensures recorded { OnOk result
-        (IsRecorded F.ORDER parts.old.items parts.new.items step.now.line (F.value step.now.coefficient)
-        step.now.monomial) }
-    ensures polynomials { OnOk result (ArePolynomials F.ORDER O.cmp parts.old.items
-        → ArePolynomials F.ORDER O.cmp parts.new.items) }
+        (IsRecorded F.ORDER parts.old parts.new step.now.line (F.value step.now.coefficient) step.now.monomial) }
+    ensures lines { OnOk result (AreOfDifferentLines parts.old → AreOfDifferentLines parts.new) }
 {
-    match record_at(parts, place, step) {
+    match parts.add_at::<O>(place, step.line as u64, step.coefficient, &step.monomial) {
         Ok(()) => Ok(()),
         Err(stop) => Err(only_memory(stop)),
     }
@@ -153,7 +153,7 @@ fn record_within<F: Field, O: MonoOrder>(
 fn cancel_lead<F: Field, O: MonoOrder>(
     lines: &[Line<F, O>],
     rest: &mut Remainder<F, O>,
-    parts: &mut Vec<(LineId, Poly<F, O>)>,
+    parts: &mut Record<F>,
     step: &Step<F>,
     meter: &mut Meter,
 ) -> Result<bool, Stop>
@@ -164,13 +164,13 @@ fn cancel_lead<F: Field, O: MonoOrder>(
     ensures split { OnOk result (IsSplit F.ORDER O.cmp (front_of F.value rest.new) rest.new.left rest.new.most) }
     ensures front { front_of F.value rest.new ≡ front_of F.value rest.old }
     ensures continues { OnOk result (Continues F.ORDER O.cmp (polys_of lines.now)
-        (whole_of F.value rest.old) parts.old.items meter.old (whole_of F.value rest.new) parts.new.items meter.new) }
+        (whole_of F.value rest.old) parts.old meter.old (whole_of F.value rest.new) parts.new meter.new) }
     ensures takes { TakesReductions meter.old meter.new }
     ensures unpaid { OnErr result (meter.new ≡ meter.old) }
     ensures spent { IsErrOf result Stop.Spent → total meter.new ≡ meter.new.budget }
 {
-    let place = place_of(parts.as_slice(), step.line as u64);
-    if !has_room(parts.as_slice(), place) {
+    let place = parts.place_of(step.line as u64);
+    if !parts.has_room(place) {
         return Ok(false);
     }
     let line = &lines[step.line].poly;
@@ -179,7 +179,7 @@ fn cancel_lead<F: Field, O: MonoOrder>(
     if !subtract_within(rest, line, step)? {
         return Ok(false);
     }
-    record_within(parts, place, step)?;
+    record_within::<F, O>(parts, place, step)?;
     meter.take(Unit::Reduction)?;
     Ok(true)
 }
@@ -190,7 +190,7 @@ fn reduce_lead<F: Field, O: MonoOrder>(
     lines: &[Line<F, O>],
     index: &Index,
     rest: &mut Remainder<F, O>,
-    parts: &mut Vec<(LineId, Poly<F, O>)>,
+    parts: &mut Record<F>,
     meter: &mut Meter,
 ) -> Result<bool, Stop>
     requires index { IsIndexOf F.ORDER O.cmp (polys_of lines.now) index.now }
@@ -199,7 +199,7 @@ fn reduce_lead<F: Field, O: MonoOrder>(
     ensures split { OnOk result (IsSplit F.ORDER O.cmp (front_of F.value rest.new) rest.new.left rest.new.most) }
     ensures reduced { OnOk result (IsReduced F.ORDER O.cmp (polys_of lines.now) (front_of F.value rest.new)) }
     ensures continues { OnOk result (Continues F.ORDER O.cmp (polys_of lines.now)
-        (whole_of F.value rest.old) parts.old.items meter.old (whole_of F.value rest.new) parts.new.items meter.new) }
+        (whole_of F.value rest.old) parts.old meter.old (whole_of F.value rest.new) parts.new meter.new) }
     ensures takes { TakesReductions meter.old meter.new }
     ensures unpaid { OnErr result (meter.new ≡ meter.old) }
     ensures spent { IsErrOf result Stop.Spent → total meter.new ≡ meter.new.budget }
@@ -250,7 +250,7 @@ fn reduce_leads<F: Field, O: MonoOrder>(
     lines: &[Line<F, O>],
     index: &Index,
     rest: &mut Remainder<F, O>,
-    parts: &mut Vec<(LineId, Poly<F, O>)>,
+    parts: &mut Record<F>,
     meter: &mut Meter,
 ) -> Result<(), Stop>
     requires index { IsIndexOf F.ORDER O.cmp (polys_of lines.now) index.now }
@@ -259,11 +259,11 @@ fn reduce_leads<F: Field, O: MonoOrder>(
     ensures split { OnOk result (IsSplit F.ORDER O.cmp (front_of F.value rest.new) rest.new.left rest.new.most) }
     ensures reduced { OnOk result (IsReduced F.ORDER O.cmp (polys_of lines.now) (front_of F.value rest.new)) }
     ensures continues { OnOk result (Continues F.ORDER O.cmp (polys_of lines.now)
-        (whole_of F.value rest.old) parts.old.items meter.old (whole_of F.value rest.new) parts.new.items meter.new) }
+        (whole_of F.value rest.old) parts.old meter.old (whole_of F.value rest.new) parts.new meter.new) }
     ensures metered { Metered Stop.Spent result meter.old meter.new }
     ensures takes { TakesReductions meter.old meter.new }
     ensures bound { OnErr result (StaysBounded F.ORDER O.cmp (polys_of lines.now) (whole_of F.value rest.old)
-        parts.old.items meter.old meter.new) }
+        parts.old meter.old meter.new) }
 {
     for _ in 0..u64::MAX {
         if !reduce_lead(alloc, lines, index, rest, parts, meter)? {
@@ -280,16 +280,16 @@ fn reduce_long<F: Field, O: MonoOrder>(
     lines: &[Line<F, O>],
     index: &Index,
     poly: &Poly<F, O>,
-    parts: &mut Vec<(LineId, Poly<F, O>)>,
+    parts: &mut Record<F>,
     meter: &mut Meter,
 ) -> Result<(Poly<F, O>, usize), Stop>
     requires { IsIndexOf F.ORDER O.cmp (polys_of lines.now) index.now }
     ensures continues { IfOk result (λ r. Continues F.ORDER O.cmp (polys_of lines.now)
-        poly.now parts.old.items meter.old r.0 parts.new.items meter.new) }
+        poly.now parts.old meter.old r.0 parts.new meter.new) }
     ensures irreducible { IfOk result (λ r. AreIrreducible F.ORDER O.cmp (polys_of lines.now) r.0 r.1) }
     ensures metered { Metered Stop.Spent result meter.old meter.new }
     ensures takes { TakesReductions meter.old meter.new }
-    ensures bound { OnErr result (StaysBounded F.ORDER O.cmp (polys_of lines.now) poly.now parts.old.items meter.old
+    ensures bound { OnErr result (StaysBounded F.ORDER O.cmp (polys_of lines.now) poly.now parts.old meter.old
         meter.new) }
 {
     let mut rest = begun(alloc, poly)?;
@@ -306,18 +306,18 @@ pub(crate) fn go_on<F: Field, O: MonoOrder>(
     index: &Index,
     rest: (Poly<F, O>, usize),
     line: usize,
-    parts: &mut Vec<(LineId, Poly<F, O>)>,
+    parts: &mut Record<F>,
     meter: &mut Meter,
 ) -> Result<(Poly<F, O>, usize), Stop>
     requires index { IsIndexOf F.ORDER O.cmp (polys_of lines.now) index.now }
     requires line { line < length lines.now }
     requires irreducible { AreIrreducible F.ORDER O.cmp (polys_of lines.now) rest.0 rest.1 }
     ensures continues { IfOk result (λ r. Continues F.ORDER O.cmp (polys_of lines.now)
-        rest.0 parts.old.items meter.old r.0 parts.new.items meter.new) }
+        rest.0 parts.old meter.old r.0 parts.new meter.new) }
     ensures irreducible { IfOk result (λ r. AreIrreducible F.ORDER O.cmp (polys_of lines.now) r.0 r.1) }
     ensures metered { Metered Stop.Spent result meter.old meter.new }
     ensures takes { TakesReductions meter.old meter.new }
-    ensures bound { OnErr result (StaysBounded F.ORDER O.cmp (polys_of lines.now) rest.0 parts.old.items meter.old
+    ensures bound { OnErr result (StaysBounded F.ORDER O.cmp (polys_of lines.now) rest.0 parts.old meter.old
         meter.new) }
 {
     if !is_long(rest.0.len().saturating_sub(rest.1), lines[line].poly.len()) {

@@ -5,15 +5,17 @@ ghost use Rattle.ffc_ring.specs.Monomial.{degree, mono_lcm};
 ghost use Rattle.ffc_ring.specs.Polynomial.{SamePolynomial, scaled, term_product, difference};
 ghost use Rattle.ffc_basis.specs.Indexing.{IsIndexOf};
 ghost use Rattle.ffc_basis.specs.Lines.{polys_of};
-ghost use Rattle.ffc_basis.specs.Reduction.{IsRecorded};
+ghost use Rattle.ffc_basis.specs.Reduction.{IsRecorded, IsReduced, IsStopped};
+ghost use Rattle.ffc_basis.specs.Remainders.{IsRecordedReduction};
 ghost use Rattle.ffc_basis.specs.Completion.{PassesSPolynomial};
 ghost use Rattle.ffc_basis.specs.PairTable.{AreBothClosed};
-ghost use Rattle.ffc_basis.specs.Outcomes.{IsOutcome, IsSum, PassesDifference, AreScaled, ArePartsOf, IsMonic};
+ghost use Rattle.ffc_basis.specs.Outcomes.{IsOutcome, IsSum, PassesDifference, AreScaled, AreSubtracted, IsMonic};
 ghost use Rattle.ffc_basis.specs.Units.{TakesReductions, IsPairBound};
 
 use crate::index::Index;
 use crate::line::{Line, LineId};
-use crate::reduction::{Reduced, Step, append, multiple_of, past_limit, record, reduce_by, term};
+use crate::record::Record;
+use crate::reduction::{Recorded, Step, multiple_of, past_limit, reduce_recorded};
 use ffc_base::{Meter, Stop};
 use ffc_field::Field;
 use ffc_mono::{Mono, MonoOrder, MonoRef, MonoStop};
@@ -141,65 +143,54 @@ fn scaled<F: Field, O: MonoOrder>(c: F, poly: &Poly<F, O>) -> Result<Poly<F, O>,
     }
 }
 
-/// The parts times a constant.
-fn scaled_parts<F: Field, O: MonoOrder>(
-    alloc: Global,
-    c: F,
-    parts: &[(LineId, Poly<F, O>)],
-) -> Result<Vec<(LineId, Poly<F, O>)>, AllocError>
-    ensures { IfOk result (λ r. AreScaled F.ORDER (F.value c) parts.now r.items) }
-{
-    let mut multiples = Vec::new(alloc);
-    for part in parts {
-        multiples.push((part.0, scaled(c, &part.1)?))?;
-    }
-    Ok(multiples)
-}
-
-/// Adds a multiple to the part of its line, or as a part of its own where that part would have too many terms.
+/// Records a multiple in the part of its line, or as a part of its own where that part would have too many terms.
 fn record_anyway<F: Field, O: MonoOrder>(
-    parts: &mut Vec<(LineId, Poly<F, O>)>,
-    step: &Step<F>,
+    parts: &mut Record<F>,
+    line: LineId,
+    c: F,
+    m: &Mono,
 ) -> Result<(), AllocError>
-    ensures { OnOk result
-        (IsRecorded F.ORDER parts.old.items parts.new.items step.now.line (F.value step.now.coefficient)
-        step.now.monomial) }
+    ensures { OnOk result (IsRecorded F.ORDER parts.old parts.new line (F.value c) m.now) }
 {
-    match record(parts, step) {
+    match parts.add::<O>(line, c, m) {
         Ok(()) => Ok(()),
         Err(stop) => {
             past_limit(stop)?;
-            let single = term(*parts.allocator(), step.coefficient, &step.monomial)?;
-            match append(parts, step.line as u64, single) {
-                Ok(()) => Ok(()),
-                Err(PolyStop::Memory) => Err(AllocError),
-                Err(_) => unreachable!(),
-            }
+            parts.append(line, c, m)
         }
     }
 }
 
-/// The parts of what is left of an S-polynomial.
-fn parts_of<F: Field, O: MonoOrder>(
-    alloc: Global,
+/// Records the two multiples that an S-polynomial is the sum of, negated: so the sum of all that is recorded is what is left of
+/// it, negated.
+fn record_both<F: Field, O: MonoOrder>(
+    parts: &mut Record<F>,
     spoly: &SPolynomial<F, O>,
-    reduced: &Reduced<F, O>,
-) -> Result<Vec<(LineId, Poly<F, O>)>, AllocError>
-    ensures { IfOk result (λ r. ArePartsOf F.ORDER reduced.now.parts.items
+) -> Result<(), AllocError>
+    ensures { OnOk result (AreSubtracted F.ORDER parts.old
         spoly.now.first.line (F.value spoly.now.first.coefficient) spoly.now.first.monomial
-        spoly.now.second.line (F.value spoly.now.second.coefficient) spoly.now.second.monomial r.items) }
+        spoly.now.second.line (F.value spoly.now.second.coefficient) spoly.now.second.monomial parts.new) }
 {
-    let mut parts = scaled_parts(alloc, F::of(1).neg(), reduced.parts.as_slice())?;
-    record_anyway(&mut parts, &spoly.first)?;
-    record_anyway(&mut parts, &spoly.second)?;
-    Ok(parts)
+    let first = &spoly.first;
+    let second = &spoly.second;
+    record_anyway::<F, O>(
+        parts,
+        first.line as u64,
+        first.coefficient.neg(),
+        &first.monomial,
+    )?;
+    record_anyway::<F, O>(
+        parts,
+        second.line as u64,
+        second.coefficient.neg(),
+        &second.monomial,
+    )
 }
 
-/// The line whose polynomial has the leading coefficient 1.
+/// The line whose polynomial has the leading coefficient 1, where the polynomial is the negated sum of the recorded multiples.
 fn monic<F: Field, O: MonoOrder>(
-    alloc: Global,
     poly: &Poly<F, O>,
-    parts: &[(LineId, Poly<F, O>)],
+    parts: &Record<F>,
 ) -> Result<Line<F, O>, AllocError>
     requires { poly.now ≢ [] }
     ensures { IfOk result (IsMonic F.ORDER O.cmp poly.now parts.now) }
@@ -212,8 +203,41 @@ fn monic<F: Field, O: MonoOrder>(
     };
     Ok(Line {
         poly: scaled(inverse, poly)?,
-        parts: scaled_parts(alloc, inverse, parts)?,
+        parts: parts.times::<O>(inverse.neg())?,
     })
+}
+
+/// What the reduced S-polynomial of two lines gives.
+fn outcome_of<F: Field, O: MonoOrder>(
+    lines: &[Line<F, O>],
+    i: usize,
+    j: usize,
+    spoly: &SPolynomial<F, O>,
+    mut recorded: Recorded<F, O>,
+) -> Result<Outcome<F, O>, AllocError>
+    requires first { i < length lines.now }
+    requires second { j < length lines.now }
+    requires sum { IsSum F.ORDER F.value O.cmp (polys_of lines.now) i j spoly.now }
+    requires reduction { IsRecordedReduction F.ORDER O.cmp (polys_of lines.now) spoly.now.poly recorded.rest
+        recorded.parts }
+    requires reduced { IfNone recorded.over (IsReduced F.ORDER O.cmp (polys_of lines.now) recorded.rest) }
+    requires over { IfSome recorded.over
+        (λ t. IsStopped F.ORDER O.cmp (polys_of lines.now) recorded.rest recorded.parts t.0 t.1) }
+    ensures { IfOk result (IsOutcome F.ORDER O.cmp (polys_of lines.now) i j) }
+{
+    let _lengths = (lines[i].poly.len(), lines[j].poly.len());
+    if recorded.over.is_some() {
+        // The pair is set aside for parts that are polynomials.
+        let _reduced = recorded.finished()?;
+        return Ok(Outcome::Over);
+    }
+    let _count = recorded.parts.len();
+    if recorded.rest.is_zero() {
+        return Ok(Outcome::Closed);
+    }
+    record_both(&mut recorded.parts, spoly)?;
+    let line = monic(&recorded.rest, &recorded.parts)?;
+    Ok(Outcome::Added(line))
 }
 
 /// Reduces the S-polynomial of two lines.
@@ -244,14 +268,7 @@ pub(crate) fn reduce_pair<F: Field, O: MonoOrder>(
     let Some(spoly) = found else {
         return Ok(Outcome::Closed);
     };
-    let reduced = reduce_by(alloc, lines, index, &spoly.poly, meter)?;
-    if reduced.over.is_some() {
-        return Ok(Outcome::Over);
-    }
-    if reduced.rest.is_zero() {
-        return Ok(Outcome::Closed);
-    }
-    let parts = parts_of(alloc, &spoly, &reduced)?;
-    let line = monic(alloc, &reduced.rest, parts.as_slice())?;
-    Ok(Outcome::Added(line))
+    let recorded = reduce_recorded(alloc, lines, index, &spoly.poly, meter)?;
+    let outcome = outcome_of(lines, i, j, &spoly, recorded)?;
+    Ok(outcome)
 }

@@ -12,22 +12,22 @@ returns-in-Err-clause-over g c = λ memory.
     let step = c.args.step.now in
     let line : Terms = (get_or ls step.line c.index-lines-step.result).poly in
     let is : get_or (polys_of ls) step.line [] ≡ line = poly_at ls step.line c.index-lines-step.result (omega (arith, c.requires.step.within, length-polys ls)) in
-    line_passes g.F.Field.ORDER (polys_of ls) step.line (g.F.Field.value step.coefficient) step.monomial c.as_ref.result.powers.now line c.args.rest.now c.args.parts.now.items is c.as_ref.ensures
+    line_passes g.F.Field.ORDER (polys_of ls) step.line (g.F.Field.value step.coefficient) step.monomial c.as_ref.result.powers.now line c.args.rest.now c.args.parts.now is c.as_ref.ensures
     (limits c.in-Err.stop (λ e. c.in-Err.ensures.degree_over.0 (ap (λ stop. Err stop) e)) (λ e. c.in-Err.ensures.terms_over (ap (λ stop. Err stop) e)) memory)
 
-pub returns-in-Ok-record-clause-reduction : goal.returns-in-Ok-record-clause-reduction
-returns-in-Ok-record-clause-reduction g c =
+pub returns-in-Ok-add-clause-reduction : goal.returns-in-Ok-add-clause-reduction
+returns-in-Ok-add-clause-reduction g c =
     let ls = c.args.lines.now in
     let step = c.args.step.now in
     let line : Terms = (get_or ls step.line c.index-lines-step.result).poly in
     let is : get_or (polys_of ls) step.line [] ≡ line = poly_at ls step.line c.index-lines-step.result (omega (arith, c.requires.step.within, length-polys ls)) in
     line_step g.F.Field.ORDER g.met.F.Field.prime g.O.MonoOrder.cmp g.met.O.MonoOrder.laws DEGREE_LIMIT (polys_of ls) step.line (g.F.Field.value step.coefficient) step.monomial c.as_ref.result.powers.now
-    line c.args.rest.now c.in-Ok.next c.args.place c.args.parts.now.items c.record.new.parts.items is c.as_ref.ensures c.len.ensures.ordered c.requires.within c.as_ref.result.is_monomial
-    (g.met.F.Field.below step.coefficient) c.len-2.ensures.ordered c.requires.step c.in-Ok.ensures.difference c.in-Ok-record.ensures.recorded
-    (c.len-new_length.ensures.ordered, omega (arith, c.len-new_length.ensures.value, c.len-new_length.ensures.fits)) c.in-Ok-record.ensures.polynomials
+    line c.args.rest.now c.in-Ok.next c.args.place c.args.parts.now c.add.new.self is c.as_ref.ensures c.len.ensures.ordered c.requires.within c.as_ref.result.is_monomial
+    (g.met.F.Field.below step.coefficient) c.len-2.ensures.ordered c.requires.step c.in-Ok.ensures.difference c.in-Ok-add.ensures.recorded
+    (c.len-new_length.ensures.ordered, omega (arith, c.len-new_length.ensures.value, c.len-new_length.ensures.fits)) c.in-Ok-add.ensures.lines
 
-pub returns-in-Ok-record-clause-first : goal.returns-in-Ok-record-clause-first
-returns-in-Ok-record-clause-first g c =
+pub returns-in-Ok-add-clause-first : goal.returns-in-Ok-add-clause-first
+returns-in-Ok-add-clause-first g c =
     let ls = c.args.lines.now in
     let step = c.args.step.now in
     let line : Terms = (get_or ls step.line c.index-lines-step.result).poly in
@@ -36,8 +36,8 @@ returns-in-Ok-record-clause-first g c =
     line c.args.rest.now c.in-Ok.next c.args.place is c.as_ref.ensures c.len.ensures.ordered c.len-new_length.ensures.ordered c.requires.within c.as_ref.result.is_monomial
     (g.met.F.Field.below step.coefficient) c.len-2.ensures.ordered c.requires.step c.in-Ok.ensures.difference
 
-pub returns-in-Ok-record-clause-cancelled : goal.returns-in-Ok-record-clause-cancelled
-returns-in-Ok-record-clause-cancelled g c =
+pub returns-in-Ok-add-clause-cancelled : goal.returns-in-Ok-add-clause-cancelled
+returns-in-Ok-add-clause-cancelled g c =
     let ls = c.args.lines.now in
     let step = c.args.step.now in
     let line : Terms = (get_or ls step.line c.index-lines-step.result).poly in

@@ -42,11 +42,11 @@ returns-clause-continues g c =
     let front : Terms = front_of g.F.Field.value c.args.rest.now in
     let left : Terms = c.args.rest.now.left in
     let next : Terms = c.subtract_within.new.rest.left in
-    let old : Parts = c.args.parts.now.items in
-    let new : Parts = c.record_within.new.parts.items in
+    let old : Parts = c.args.parts.now in
+    let new : Parts = c.record_within.new.parts in
     let same : SamePolynomial p next (difference p left (term_product k step.monomial (get_or gs step.line []))) =
     subst (λ ts. SamePolynomial p next (difference p left (term_product k step.monomial ts))) (sym is) (c.in_ok-subtract_within.ensures.subtracted c.if-not-branch.false) in
     subst (λ ts. Continues p cmp gs (front ++ left) old c.args.meter.now (ts ++ next) new c.take.new.self) (sym c.subtract_within.ensures.front)
     (cancelled_continues p g.met.F.Field.prime cmp g.met.O.MonoOrder.laws gs step.line k step.monomial front left next c.args.rest.now.most c.requires.split c.requires.step c.degree-degree.ensures.monomial (g.met.F.Field.below step.coefficient)
     (subst AreTerms (sym is) (AreTerms-ordered p cmp 1024 line c.len-length.ensures.ordered)) same old new c.args.meter.now c.take.new.self c.requires.reduced
-    c.in_ok-record_within.ensures.recorded c.in_ok-record_within.ensures.polynomials c.in_ok-take.ensures.taken)
+    c.in_ok-record_within.ensures.recorded c.in_ok-record_within.ensures.lines c.in_ok-take.ensures.taken)

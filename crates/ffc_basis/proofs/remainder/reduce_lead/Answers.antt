@@ -20,7 +20,7 @@ returns-in_default-clause-continues g c =
     let front : Terms = front_of g.F.Field.value c.args.rest.now in
     let left : Terms = c.args.rest.now.left in
     let new : Terms = c.lead.new.self in
-    let items : Parts = c.args.parts.now.items in
+    let items : Parts = c.args.parts.now in
     continues_same p cmp (polys_of c.args.lines.now) (front ++ left) (front ++ new) items items c.args.meter.now c.args.meter.now
     (λ n. sym (whole_same p g.met.F.Field.prime cmp g.met.O.MonoOrder.laws front left new c.lead.ensures.same n)) refl refl
 
@@ -51,7 +51,7 @@ returns-in-None-clause-continues g c =
     let front : Terms = front_of g.F.Field.value c.args.rest.now in
     let left : Terms = c.args.rest.now.left in
     let new : Terms = c.lead.new.self in
-    let items : Parts = c.args.parts.now.items in
+    let items : Parts = c.args.parts.now in
     continues_same p cmp (polys_of c.args.lines.now) (front ++ left) (whole_of g.F.Field.value c.finish.new.rest) items items c.args.meter.now c.args.meter.now
     (λ n. sym (c.in_ok-finish-in-None.ensures.same n ∙ whole_same p g.met.F.Field.prime cmp g.met.O.MonoOrder.laws front left new c.lead.ensures.same n)) refl refl
 
@@ -87,9 +87,9 @@ returns-clause-continues g c =
     let front : Terms = front_of g.F.Field.value c.args.rest.now in
     let left : Terms = c.args.rest.now.left in
     let new : Terms = c.lead.new.self in
-    let items : Parts = c.args.parts.now.items in
+    let items : Parts = c.args.parts.now in
     let same = continues_same p cmp gs (front ++ left) (front ++ new) items items c.args.meter.now c.args.meter.now
     (λ n. sym (whole_same p g.met.F.Field.prime cmp g.met.O.MonoOrder.laws front left new c.lead.ensures.same n)) refl refl in
     on_ok c.cancel_lead.result
-    (λ go. continues_both p cmp gs (front ++ left) (front ++ new) (whole_of g.F.Field.value c.cancel_lead.new.rest) items items c.cancel_lead.new.parts.items c.args.meter.now c.args.meter.now c.cancel_lead.new.meter same go)
+    (λ go. continues_both p cmp gs (front ++ left) (front ++ new) (whole_of g.F.Field.value c.cancel_lead.new.rest) items items c.cancel_lead.new.parts c.args.meter.now c.args.meter.now c.cancel_lead.new.meter same go)
     c.cancel_lead.ensures.continues

@@ -25,7 +25,7 @@ pub returns-in_err-reduce_lead-clause-bound : goal.returns-in_err-reduce_lead-cl
 returns-in_err-reduce_lead-clause-bound g c =
     let value = g.F.Field.value in
     always_on_err c.from_residual.result
-    (stays_bounded g.F.Field.ORDER g.O.MonoOrder.cmp (polys_of c.args.lines.now) (whole_of value c.args.rest.now) (whole_of value c.loop.rest) c.args.parts.now.items c.loop.parts.items c.args.meter.now c.loop.meter c.reduce_lead.new.meter
+    (stays_bounded g.F.Field.ORDER g.O.MonoOrder.cmp (polys_of c.args.lines.now) (whole_of value c.args.rest.now) (whole_of value c.loop.rest) c.args.parts.now c.loop.parts c.args.meter.now c.loop.meter c.reduce_lead.new.meter
     c.loop.invariant.continues c.loop.invariant.takes c.in_err-reduce_lead.ensures.unpaid)
 
 pub returns-then-not-branch-clause-continues : goal.returns-then-not-branch-clause-continues

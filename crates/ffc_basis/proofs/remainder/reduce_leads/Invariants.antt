@@ -8,6 +8,6 @@ abbrev pub invariant-loop : goal.invariant-loop
 invariant-loop g l = record {
   split : IsSplit g.F.Field.ORDER g.O.MonoOrder.cmp (front_of g.F.Field.value l.rest) l.rest.left l.rest.most;
   reduced : IsReduced g.F.Field.ORDER g.O.MonoOrder.cmp (polys_of l.lines) (front_of g.F.Field.value l.rest);
-  continues : Continues g.F.Field.ORDER g.O.MonoOrder.cmp (polys_of l.lines) (whole_of g.F.Field.value l.fn.rest) l.fn.parts.items l.fn.meter (whole_of g.F.Field.value l.rest) l.parts.items l.meter;
+  continues : Continues g.F.Field.ORDER g.O.MonoOrder.cmp (polys_of l.lines) (whole_of g.F.Field.value l.fn.rest) l.fn.parts l.fn.meter (whole_of g.F.Field.value l.rest) l.parts l.meter;
   takes : TakesReductions l.fn.meter l.meter;
 }

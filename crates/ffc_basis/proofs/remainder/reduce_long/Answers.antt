@@ -12,7 +12,7 @@ returns-in_err-rest-clause-bound g c =
     let p = g.F.Field.ORDER in
     let cmp = g.O.MonoOrder.cmp in
     let poly : Terms = c.args.poly.now in
-    let items : Parts = c.args.parts.now.items in
+    let items : Parts = c.args.parts.now in
     let s = c.args.meter.now in
     always_on_err c.from_residual.result (stays_bounded p cmp (polys_of c.args.lines.now) poly poly items items s s s (λ q old h. h) (takes_nothing s) refl)
 
@@ -26,7 +26,7 @@ returns-in_err-reduce_leads-clause-bound g c =
     let cmp = g.O.MonoOrder.cmp in
     let gs = polys_of c.args.lines.now in
     let poly : Terms = c.args.poly.now in
-    let items : Parts = c.args.parts.now.items in
+    let items : Parts = c.args.parts.now in
     let s = c.args.meter.now in
     always_on_err c.from_residual-in_err-reduce_leads.result
     (λ q old takes h. c.in_err-reduce_leads.ensures.bound q old takes
@@ -38,11 +38,11 @@ returns-in_err-reduced-clause-bound g c =
     let cmp = g.O.MonoOrder.cmp in
     let gs = polys_of c.args.lines.now in
     let poly : Terms = c.args.poly.now in
-    let items : Parts = c.args.parts.now.items in
+    let items : Parts = c.args.parts.now in
     let s = c.args.meter.now in
     let t = c.reduce_leads.new.meter in
     always_on_err c.from_residual-in_err-reduced.result
-    (stays_bounded p cmp gs poly (whole_of g.F.Field.value c.reduce_leads.new.rest) items c.reduce_leads.new.parts.items s t t
+    (stays_bounded p cmp gs poly (whole_of g.F.Field.value c.reduce_leads.new.rest) items c.reduce_leads.new.parts s t t
     (λ q old h. c.in_ok-reduce_leads.ensures.continues q old
     (continues_same p cmp gs poly (whole_of g.F.Field.value c.in_ok-rest.rest) items items s s (λ m. sym (c.in_ok-rest.ensures.same m)) refl refl q old h))
     c.reduce_leads.ensures.takes refl)
@@ -53,8 +53,8 @@ returns-clause-continues g c =
     let cmp = g.O.MonoOrder.cmp in
     let gs = polys_of c.args.lines.now in
     let poly : Terms = c.args.poly.now in
-    let items : Parts = c.args.parts.now.items in
-    let more : Parts = c.reduce_leads.new.parts.items in
+    let items : Parts = c.args.parts.now in
+    let more : Parts = c.reduce_leads.new.parts in
     let s = c.args.meter.now in
     let t = c.reduce_leads.new.meter in λ q old h.
     continues_same p cmp gs (whole_of g.F.Field.value c.reduce_leads.new.rest) c.in_ok-reduced.reduced.0 more more t t (λ m. sym (c.in_ok-reduced.ensures.same m)) refl refl q old

@@ -1,15 +1,8 @@
-use Rattle.std.proofs.Common.{[], ◌∷◌, ◌++◌, sym, subst}
-use Rattle.ffc_basis.specs.Reduction.{IsRecorded}
+use Rattle.std.proofs.Common.{OnOk, subst}
 use Rattle.ffc_basis.specs.Lines.{Parts}
-use Rattle.ffc_basis.proofs.PartLemmas.{recorded_push}
+use Rattle.ffc_basis.specs.Reduction.{IsRecorded}
 use Rattle.ffc_basis.proofs.spoly.record_anyway.Goals as goal
 
-pub returns-in-Ok-append : goal.returns-in-Ok-append
-returns-in-Ok-append g c =
-    let p = g.F.Field.ORDER in
-    let items : Parts = c.args.parts.now.items in
-    let step = c.args.step.now in
-    let k = g.F.Field.value step.coefficient in
-    subst (λ (ts : Parts). IsRecorded p items ts step.line k step.monomial) (sym c.in-Ok-append.ensures.appended)
-    (subst (λ (ts : Parts). IsRecorded p items (ts ++ (step.line, c.in_ok-single-in-Err.single) ∷ []) step.line k step.monomial) (sym c.in-Err.ensures.unchanged)
-    (recorded_push p step.line k step.monomial c.in_ok-single-in-Err.single items c.in_ok-single-in-Err.ensures))
+pub returns-in_ok-past_limit-in-Err : goal.returns-in_ok-past_limit-in-Err
+returns-in_ok-past_limit-in-Err g c =
+    subst (λ (ts : Parts). OnOk c.append.result (IsRecorded g.F.Field.ORDER ts c.append.new.self c.args.line (g.F.Field.value c.args.c) c.args.m.now)) c.in-Err.ensures.unchanged c.append.ensures.recorded

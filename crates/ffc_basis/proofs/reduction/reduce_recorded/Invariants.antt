@@ -1,14 +1,14 @@
 use Rattle.std.proofs.Common.{◌+◌, ◌-◌, ◌*◌}
 use Rattle.ffc_base.specs.Metering.{total}
 use Rattle.ffc_basis.specs.Lines.{polys_of}
-use Rattle.ffc_basis.specs.Reduction.{IsReduction, AreIrreducible}
+use Rattle.ffc_basis.specs.Reduction.{AreIrreducible}
 use Rattle.ffc_basis.specs.Units.{TakesReductions}
-use Rattle.ffc_basis.specs.Remainders.{IsCounted}
-use Rattle.ffc_basis.proofs.reduction.reduce_by.Given as goal
+use Rattle.ffc_basis.specs.Remainders.{IsRecordedReduction, IsCounted}
+use Rattle.ffc_basis.proofs.reduction.reduce_recorded.Given as goal
 
 abbrev pub invariant-loop-place : goal.invariant-loop-place
 invariant-loop-place g l = record {
-  reduction : IsReduction g.F.Field.ORDER g.O.MonoOrder.cmp (polys_of l.lines) l.poly l.rest l.parts.items;
+  reduction : IsRecordedReduction g.F.Field.ORDER g.O.MonoOrder.cmp (polys_of l.lines) l.poly l.rest l.parts;
   irreducible : AreIrreducible g.F.Field.ORDER g.O.MonoOrder.cmp (polys_of l.lines) l.rest l.place;
   takes : TakesReductions l.fn.meter l.meter;
   counted : IsCounted g.F.Field.ORDER g.O.MonoOrder.cmp (polys_of l.lines) l.poly l.rest l.fn.meter l.meter;
