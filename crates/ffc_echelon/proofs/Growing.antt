@@ -1,18 +1,20 @@
 -- An echelon form of some inputs with one input more.
-use Rattle.std.proofs.Common.{◌≡◌, ℕ, ◌+◌, ◌*◌, ◌%◌, ◌<◌, ◌≤◌, List, [], ◌∷◌, ◌++◌, All, Option, Some, None, get_or, length, map, take, set, replicate, inl, inr, refl, sym, ap, ◌∙◌, subst, arith}
+use Rattle.std.proofs.Common.{◌≡◌, ℕ, ◌+◌, ◌*◌, ◌%◌, ◌<◌, ◌≤◌, List, [], ◌∷◌, ◌++◌, All, Option, Some, None, get_or, length, map, take, set, replicate, inl, inr, refl, sym, ap, ◌∙◌, subst, arith, mod-eq_of_lt}
 use Rattle.std.specs.Prelude.{slice_get}
 use Rattle.std.proofs.lemmas.Bool.{cases_eq}
 use Rattle.std.proofs.lemmas.List.{length_push, length-set, length-replicate, take_all}
-use Rattle.std.proofs.lemmas.List.Elements.{All-nil, All-head, All-tail, All-push, All-pop, All-more}
+use Rattle.std.proofs.lemmas.List.Elements.{All-nil, All-cons, All-head, All-tail, All-push, All-pop, All-more}
 use Rattle.std.proofs.lemmas.Option.{slice_get_within, same_Some, get_or_from_slice_get}
 use Rattle.std.proofs.Math.Nat.{zero-mod}
+use Rattle.std.proofs.lemmas.Nat.{mul-mod_second}
 use Rattle.ffc_field.specs.Modular.{add_mod, mul_mod, IsPrime}
 use Rattle.ffc_field.proofs.ModularLaws.{mul_mod-comm, mul_mod-zero}
 use Rattle.ffc_echelon.specs.Vectors.{Coordinates, AreCoordinates, coordinate, IsBelow, dot}
-use Rattle.ffc_echelon.specs.Forms.{Kept, Multiplier, LeadsBelow, IsRestOf, IsKeptOf, IsFormOf, IsReduced, coordinates_of, leading_column, multiple_in}
+use Rattle.ffc_echelon.specs.Forms.{Kept, Multiplier, LeadsBelow, IsRestOf, IsKeptOf, IsFormOf, IsReduced, IsSpanned, coordinates_of, leading_column, multiple_in}
 use Rattle.ffc_echelon.specs.Progress.{scaled, IsRowOf, AreLeads, IsFormOfFirst}
 use Rattle.ffc_echelon.proofs.CoordinateLemmas.{coordinate-here, coordinate-scaled, coordinates-scaled, below-scaled, products_nonzero}
 use Rattle.ffc_echelon.proofs.Combining.{row_below, coordinates_of-at, held}
+use Rattle.ffc_echelon.proofs.Congruences.{sum_alike, scale_alike}
 use Rattle.ffc_echelon.proofs.Dots.{in_point, product_below, product_below-zero, multiples_zero, input_zero, rest_zero}
 use Rattle.ffc_echelon.proofs.Places.{slice_get-push_old, slice_get-push_new, cases_push, slice_get-set_same, slice_get-set_other, slice_get-replicate}
 
@@ -33,6 +35,7 @@ form_of_none p n inputs = record {
   };
   short = omega arith;
   made = λ j r at. cc;
+  spans = All-nil (IsSpanned p []);
   zeros = λ point rows. All-nil (λ v. dot p point v ≡ 0);
 }
 
@@ -43,6 +46,12 @@ zeros_more p count inputs vector point at before here =
     All-more (λ v. dot p point v ≡ 0) inputs count vector (slice_get_within inputs count vector at) before
     (subst (λ v. dot p point v ≡ 0) (sym (get_or_from_slice_get inputs count vector vector at)) here)
 
+-- one more input is spanned
+spans_more : (p count : ℕ) (inputs : List Coordinates) (kept : List Kept) (vector : Coordinates) → slice_get inputs count ≡ Some vector → All (IsSpanned p kept) (take count inputs) → IsSpanned p kept vector → All (IsSpanned p kept) (take (count + 1) inputs)
+spans_more p count inputs kept vector at before here =
+    All-more (IsSpanned p kept) inputs count vector (slice_get_within inputs count vector at) before
+    (subst (IsSpanned p kept) (sym (get_or_from_slice_get inputs count vector vector at)) here)
+
 pub form_keeps : (p n : ℕ) (inputs : List Coordinates) (count : ℕ) (kept : List Kept) (leads : List (Option ℕ)) (vector rest : Coordinates) (ms : List Multiplier) → slice_get inputs count ≡ Some vector → AreCoordinates p vector → IsBelow (n + 1) vector → IsRestOf p kept vector rest ms → rest ≡ [] → IsFormOfFirst p n inputs count kept leads → IsFormOfFirst p n inputs (count + 1) kept leads
 form_keeps p n inputs count kept leads vector rest ms at valid below sum none form = record {
   valid = form.valid;
@@ -50,6 +59,7 @@ form_keeps p n inputs count kept leads vector rest ms at valid below sum none fo
   table = form.table;
   short = omega (arith, form.short);
   made = form.made;
+  spans = spans_more p count inputs kept vector at form.spans (ms, subst (λ v. IsRestOf p kept vector v ms) none sum);
   zeros = λ point rows.
       zeros_more p count inputs vector point at (form.zeros point rows)
       (input_zero p (n + 1) point kept ms vector rest valid below sum.sum
@@ -75,6 +85,35 @@ rest_more p kept r vector rest ms sum = record {
   there = λ i d within. let before = sum.there i d within in omega (arith, before, length_push kept r);
   sum = λ k. ap (λ m. add_mod p (coordinate rest k) m) (multiple_in-more kept r ms k sum.there) ∙ sum.sum k;
 }
+
+-- what rows span they span with a row more
+spanned_more : (p : ℕ) (kept : List Kept) (r : Kept) (v : Coordinates) → IsSpanned p kept v → IsSpanned p (kept ++ r ∷ []) v
+spanned_more p kept r v is = (is.0, rest_more p kept r v [] is.0 is.1)
+
+-- a multiple of a row by the inverse of its scale is the rest that it was made of
+rest_again : (p lead scale rest row : ℕ) → 1 < p → mul_mod p lead scale ≡ 1 → row ≡ mul_mod p scale rest → (lead * row) % p ≡ rest % p
+rest_again p lead scale rest row two one scaled =
+    ap (λ x. (lead * x) % p) scaled
+    ∙ mul-mod_second lead (scale * rest) p
+    ∙ ap (λ x. x % p) (let e : lead * (scale * rest) ≡ lead * scale * rest = omega arith in e)
+    ∙ scale_alike p (lead * scale) 1 rest (one ∙ sym (mod-eq_of_lt two))
+    ∙ ap (λ x. x % p) (let e : 1 * rest ≡ rest = omega arith in e)
+
+-- an input is spanned by the row that is made of it and the rows that were subtracted from it
+spanned_by_row : (p lead : ℕ) (kept : List Kept) (r : Kept) (vector rest : Coordinates) (ms : List Multiplier) → 1 < p → mul_mod p lead r.scale ≡ 1 → ((k : ℕ) → coordinate r.coordinates k ≡ mul_mod p r.scale (coordinate rest k)) → IsRestOf p kept vector rest ms → IsSpanned p (kept ++ r ∷ []) vector
+spanned_by_row p lead kept r vector rest ms two one scaled sum = (
+  (length kept, lead) ∷ ms,
+  record {
+    there = All-cons (λ m. m.0 < length (kept ++ r ∷ [])) (length kept, lead) ms (omega (arith, length_push kept r)) (rest_more p kept r vector rest ms sum).there;
+    sum = λ k.
+        let more = multiple_in (kept ++ r ∷ []) ms k in
+        let new = coordinate (coordinates_of (kept ++ r ∷ []) (length kept)) k in
+        let is : new ≡ coordinate r.coordinates k = ap (λ v. coordinate v k) (coordinates_of-at (kept ++ r ∷ []) (length kept) r (slice_get-push_new kept r)) in
+        ap (λ x. x % p) (let e : 0 + (lead * new + more) ≡ lead * new + more = omega arith in e)
+        ∙ sum_alike p (lead * new) (coordinate rest k) more more (rest_again p lead r.scale (coordinate rest k) new two one (is ∙ scaled k)) refl
+        ∙ (rest_more p kept r vector rest ms sum).sum k;
+  },
+)
 
 kept_more : (p : ℕ) (inputs : List Coordinates) (kept : List Kept) (r q : Kept) (j : ℕ) → IsKeptOf p inputs kept j q → IsKeptOf p inputs (kept ++ r ∷ []) j q
 kept_more p inputs kept r q j made = record {
@@ -175,6 +214,9 @@ form_grows p n inputs count kept leads vector rest ms lead c r prime at valid be
           scaled = times;
         }))
       ];
+      spans = spans_more p count inputs (kept ++ r ∷ []) vector at
+          (λ k d inside. spanned_more p kept r (get_or (take count inputs) k d) (form.spans k d inside))
+          (spanned_by_row p lead kept r vector rest ms two row.inverse times sum);
       zeros = λ point rows.
           let parts = All-pop (λ r. dot p point r.coordinates ≡ 0) (kept ++ r ∷ []) kept (Some r) refl rows in
           zeros_more p count inputs vector point at (form.zeros point parts.0)
@@ -185,11 +227,15 @@ form_grows p n inputs count kept leads vector rest ms lead c r prime at valid be
 
 -- ---- with all inputs
 
-pub form_of_all : (p n count : ℕ) (inputs : List Coordinates) (kept : List Kept) (leads : List (Option ℕ)) → length inputs ≤ count → IsFormOfFirst p n inputs count kept leads → IsFormOf p n inputs (record { unknowns = n; inputs = length inputs; kept = kept })
-form_of_all p n count inputs kept leads all form = record {
+pub form_of_all : (p n count : ℕ) (inputs : List Coordinates) (kept : List Kept) (leads : List (Option ℕ)) → length inputs ≤ count → count ≤ length inputs → IsFormOfFirst p n inputs count kept leads → IsFormOf p n inputs (record { unknowns = n; inputs = length inputs; kept = kept })
+form_of_all p n count inputs kept leads all small form = record {
   unknowns = refl;
   inputs_are = refl;
+  few = omega (arith, form.short, small);
+  valid = form.valid;
+  leading = form.leading;
   kept = form.made;
+  spans = subst (All (IsSpanned p kept)) (take_all count inputs all) form.spans;
   zeros = λ point rows. subst (All (λ v. dot p point v ≡ 0)) (take_all count inputs all) (form.zeros point rows);
 }
 

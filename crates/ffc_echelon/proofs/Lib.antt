@@ -11,4 +11,5 @@ pub mod Dots
 pub mod Growing
 pub mod Places
 pub mod Reducing
+pub mod Spanning
 pub mod UnitLemmas

@@ -1,8 +1,8 @@
 -- Echelon forms (Gaussian elimination; Knuth, "The Art of Computer Programming", volume 2, section 4.6.2). A row is a vector whose
 -- last column is the constant of an affine form; the columns before it are those of its unknowns.
-use Rattle.std.specs.Prelude.{◌≡◌, ◌≢◌, ℕ, ◌+◌, ◌*◌, ◌%◌, ◌<◌, List, [], ◌∷◌, ◌++◌, All, length, slice_get, Option, Some, None}
+use Rattle.std.specs.Prelude.{◌≡◌, ◌≢◌, ℕ, ◌+◌, ◌*◌, ◌%◌, ◌<◌, ◌≤◌, List, [], ◌∷◌, ◌++◌, All, length, slice_get, Option, Some, None}
 use Rattle.ffc_field.specs.Modular.{add_mod, mul_mod}
-use Rattle.ffc_echelon.specs.Vectors.{Coordinates, coordinate, IsBelow, dot, sum_in}
+use Rattle.ffc_echelon.specs.Vectors.{AreCoordinates, Coordinates, coordinate, IsBelow, dot, sum_in}
 
 -- so many times the kept row of this number
 abbrev pub Multiplier : Type 0
@@ -35,6 +35,10 @@ pub record IsRestOf (p : ℕ) (kept : List Kept) (vector rest : Coordinates) (mu
   pub there : All (λ m. m.0 < length kept) multipliers
   pub sum : (k : ℕ) → add_mod p (coordinate rest k) (multiple_in kept multipliers k) ≡ coordinate vector k % p
 
+-- a sum of multiples of kept rows
+abbrev pub IsSpanned : ℕ → List Kept → Coordinates → Type 0
+IsSpanned p kept v = (multipliers : List Multiplier) × IsRestOf p kept v [] multipliers
+
 -- a row that leads by 1 in the column of an unknown
 abbrev pub LeadsBelow : ℕ → Coordinates → Type 0
 LeadsBelow n [] = ⊥
@@ -44,6 +48,10 @@ LeadsBelow n (e ∷ v) = (e.0 < n) × (e.1 ≡ 1)
 abbrev pub leading_column : Coordinates → Option ℕ
 leading_column [] = None
 leading_column (e ∷ v) = Some e.0
+
+-- one of the kept rows has its first coordinate in the column
+abbrev pub LeadsIn : List Kept → ℕ → Type 0
+LeadsIn kept c = (j : ℕ) × (r : Kept) × (slice_get kept j ≡ Some r) × (leading_column r.coordinates ≡ Some c)
 
 -- kept rows lead by 1 in different columns of unknowns
 pub record AreLeading (n : ℕ) (kept : List Kept) : Type 0 where
@@ -65,11 +73,15 @@ abbrev pub KeepsZeros : ℕ → List Coordinates → List Kept → Type 0
 KeepsZeros p inputs kept =
     (point : List ℕ) → All (λ r. dot p point r.coordinates ≡ 0) kept → All (λ v. dot p point v ≡ 0) inputs
 
--- an echelon form of these inputs
+-- an echelon form of these inputs: its rows are sums of multiples of the inputs, and the inputs are sums of multiples of its rows
 pub record IsFormOf (p n : ℕ) (inputs : List Coordinates) (form : Form) : Type 0 where
   pub unknowns : form.unknowns ≡ n
   pub inputs_are : form.inputs ≡ length inputs
+  pub few : length form.kept ≤ length inputs
+  pub valid : All (λ r. AreCoordinates p r.coordinates) form.kept
+  pub leading : AreLeading n form.kept
   pub kept : (j : ℕ) (r : Kept) → slice_get form.kept j ≡ Some r → IsKeptOf p inputs form.kept j r
+  pub spans : All (IsSpanned p form.kept) inputs
   pub zeros : KeepsZeros p inputs form.kept
 
 -- coefficients with which the inputs sum to a constant other than 0

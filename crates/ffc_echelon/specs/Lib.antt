@@ -1,5 +1,6 @@
 pub mod Vectors
 pub mod Forms
+pub mod Laws
 pub mod Units
 pub mod Outcomes
 pub mod Placing

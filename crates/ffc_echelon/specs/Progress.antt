@@ -2,7 +2,7 @@
 use Rattle.std.specs.Prelude.{◌≡◌, ℕ, ◌*◌, ◌%◌, ◌<◌, ◌≤◌, List, All, length, map, take, slice_get, Option, Some}
 use Rattle.ffc_field.specs.Modular.{mul_mod}
 use Rattle.ffc_echelon.specs.Vectors.{Coordinates, AreCoordinates, coordinate, sum_in}
-use Rattle.ffc_echelon.specs.Forms.{Kept, Multiplier, AreLeading, IsKeptOf, KeepsZeros, leading_column, multiple_in}
+use Rattle.ffc_echelon.specs.Forms.{Kept, Multiplier, AreLeading, IsKeptOf, IsSpanned, KeepsZeros, leading_column, multiple_in}
 
 -- a vector times a scale
 abbrev pub scaled : ℕ → ℕ → Coordinates → Coordinates
@@ -33,6 +33,7 @@ pub record IsFormOfFirst (p n : ℕ) (inputs : List Coordinates) (count : ℕ) (
   pub table : AreLeads n kept leads
   pub short : length kept ≤ count
   pub made : AreKeptOf p inputs kept
+  pub spans : All (IsSpanned p kept) (take count inputs)
   pub zeros : KeepsZeros p (take count inputs) kept
 
 -- coefficients with which the inputs sum to so many times multiples of kept rows

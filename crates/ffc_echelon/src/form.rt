@@ -1,9 +1,9 @@
 //! Echelon forms.
-ghost use Rattle.std.specs.Prelude.{◌≡◌, ◌+◌, IfOk, map};
+ghost use Rattle.std.specs.Prelude.{◌≡◌, ◌+◌, ◌↔◌, IfOk, IsTrue, map};
 ghost use Rattle.ffc_base.specs.declared.meter.Unit.TheVariants as unit;
 ghost use Rattle.ffc_base.specs.declared.stop.Stop.TheVariants as stops;
 ghost use Rattle.ffc_echelon.specs.Vectors.{IsBelow};
-ghost use Rattle.ffc_echelon.specs.Forms.{IsReduced, IsRestOf};
+ghost use Rattle.ffc_echelon.specs.Forms.{IsReduced, IsRestOf, LeadsIn};
 ghost use Rattle.ffc_echelon.specs.Units.{TakesAtMost};
 
 use crate::reduction::reduce_by;
@@ -83,5 +83,14 @@ impl<F: Field> Echelon<F> {
             vector,
             meter,
         )
+    }
+    /// Whether a row leads in the column. It takes no unit.
+    pub fn leads_in(&self, column: u32) -> bool
+        ensures { IsTrue result ↔ LeadsIn self.now.kept column }
+    {
+        match self.leads.get(column as usize) {
+            Some(lead) => lead.is_some(),
+            None => false,
+        }
     }
 }

@@ -1,6 +1,6 @@
 //! Systems of affine forms over a field: an echelon form with a record of how each row was made (`eliminate`), what is left of
-//! a further form (`Echelon::reduce`) and of which inputs it is a combination (`Echelon::combination`), and a common zero at which
-//! other forms are not zero (`Echelon::solution`).
+//! a further form (`Echelon::reduce`) and of which inputs it is a combination (`Echelon::combination`), in which columns rows lead
+//! (`Echelon::leads_in`), and a common zero at which other forms are not zero (`Echelon::solution`).
 #![tactic(auto)]
 
 mod buffer;
@@ -8,6 +8,7 @@ mod combination;
 mod elimination;
 mod form;
 mod grouping;
+pub mod laws;
 mod placing;
 mod reduction;
 mod solution;

@@ -53,4 +53,4 @@ loop-number-preserved g c =
 
 pub returns-clause-found : goal.returns-clause-found
 returns-clause-found g c =
-    form_of_all g.F.Field.ORDER c.args.unknowns c.loop-number.number c.args.inputs.now c.loop-number.rows.items c.loop-number.leads.items c.loop-number-test.false c.loop-number.invariant.form
+    form_of_all g.F.Field.ORDER c.args.unknowns c.loop-number.number c.args.inputs.now c.loop-number.rows.items c.loop-number.leads.items c.loop-number-test.false (omega (arith, c.loop-number.auto.number-end)) c.loop-number.invariant.form
