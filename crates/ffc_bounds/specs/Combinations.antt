@@ -1,4 +1,4 @@
--- Which checks a combination of what propagation forces refutes, up to a degree (Hilbert's Nullstellensatz by linear algebra:
+-- Which checks a combination of what propagation forces refutes or solves, up to a degree (Hilbert's Nullstellensatz by linear algebra:
 -- Macaulay 1902; Lazard 1983), and within how many units.
 --
 -- The generators are the lines of a lemma whose literals are false: the difference of the sides of each equality that is forced,
@@ -6,12 +6,12 @@
 use Rattle.std.specs.Prelude.{◌≡◌, ℕ, ◌+◌, ◌-◌, ◌*◌, ◌<◌, ◌≤◌, ◌&&◌, ◌↔◌, Bool, true, false, nat_le, if◌then◌else◌, List, [], ◌∷◌, ◌++◌, length, map, filter, sum_by, slice_index_or, All, Contains}
 use Rattle.std.specs.List.{range_with_len}
 use Rattle.std.specs.List.Sorted.{IsStrictlyIncreasing}
-use Rattle.ffc_bounds.specs.Conjunctions.{has_one_order, field_order}
+use Rattle.ffc_bounds.specs.Conjunctions.{field_constants, field_order, has_no_ite, has_one_order, is_conjunction}
 use Rattle.ffc_bounds.specs.Forced.{IsForced}
 use Rattle.ffc_bounds.specs.Monomials.{monomials, columns}
 use Rattle.ffc_clause.specs.Clauses.{Literal, plus, minus}
 use Rattle.ffc_refutation.specs.Combinations.{Summand, sum_of}
-use Rattle.ffc_ring.specs.Polynomial.{SamePolynomial}
+use Rattle.ffc_ring.specs.Polynomial.{Terms, SamePolynomial, difference}
 use Rattle.ffc_rules.specs.Causes.{passes_degree, passes_length}
 use Rattle.ffc_rules.specs.Cones.{cone, atoms}
 use Rattle.ffc_rules.specs.Entries.{NodeCheck, limits}
@@ -19,7 +19,7 @@ use Rattle.ffc_term.specs.declared.node.Node.{Node}
 use Rattle.ffc_term.specs.Measuring.{degree_at}
 use Rattle.ffc_term.specs.Nodes.{node_at}
 use Rattle.ffc_trees.specs.FirstLines.{first_lines}
-use Rattle.ffc_trees.specs.NodePolynomials.{is_variable, constant}
+use Rattle.ffc_trees.specs.NodePolynomials.{is_variable, constant, variable}
 
 -- the equalities among the check's nodes that are forced, and those whose negations are, in increasing order
 pub record AreForcedEqualities (c : NodeCheck) (equal unequal : List ℕ) : Type 0 where
@@ -77,18 +77,14 @@ pub record IsMultiple (p d : ℕ) (xs degrees : List ℕ) (s : Summand) : Type 0
   pub residue : s.1.0 < p
   pub monomial : Contains (monomials (d - slice_index_or degrees s.0 0) xs) s.1.1
 
--- Some sum of such multiples is 1, for generators of a degree of at most 1024 in a matrix that is not larger than 4096, and the
--- budget has the units of all degrees up to that one, and one for each node. The field nodes have one order, there is a variable,
--- and no equality passes a limit.
-pub record IsRefutedByCombination (budget : ℕ) (c : NodeCheck) : Type 0 where
+-- A choice of generators at a degree of at most 1024 that a budget reaches: none of them has a higher degree, the matrix is not larger
+-- than 4096, and the budget has the units of all degrees up to that one, and one for each node. The field nodes have one order, there
+-- is a variable, and no equality passes a limit.
+pub record IsReached (budget : ℕ) (c : NodeCheck) (equal unequal : List ℕ) (all : Bool) (degree : ℕ) : Type 0 where
   pub one_field : has_one_order c.nodes c.in_force ≡ true
   pub low : passes_degree limits c ≡ false
   pub short : passes_length limits c ≡ false
-  pub equal : List ℕ
-  pub unequal : List ℕ
   pub forced : AreForcedEqualities c equal unequal
-  pub all : Bool
-  pub degree : ℕ
   pub least : 2 ≤ degree
   pub most : degree ≤ 1024
   pub generators_low : All (λ e. e ≤ degree) (degrees_of c.nodes equal (chosen all unequal))
@@ -97,6 +93,41 @@ pub record IsRefutedByCombination (budget : ℕ) (c : NodeCheck) : Type 0 where
   pub few_columns : columns degree (variables_of c equal (chosen all unequal)) ≤ 4096
   pub few_rows : row_count degree (variables_of c equal (chosen all unequal)) (degrees_of c.nodes equal (chosen all unequal)) ≤ 4096
   pub enough : length (cone c.nodes c.in_force) + combination_units (degree - 1) c equal unequal ≤ budget
+
+-- the lines of a choice of generators
+abbrev pub chosen_lines : NodeCheck → List ℕ → List ℕ → Bool → List Terms
+chosen_lines c equal unequal all = first_lines c.nodes (field_order c.nodes c.in_force) (literals_of equal (chosen all unequal))
+
+-- multiples of the generators of a choice up to a degree
+abbrev pub AreMultiples : NodeCheck → List ℕ → List ℕ → Bool → ℕ → List Summand → Type 0
+AreMultiples c equal unequal all degree summands = All (IsMultiple (field_order c.nodes c.in_force) degree (variables_of c equal (chosen all unequal)) (degrees_of c.nodes equal (chosen all unequal))) summands
+
+-- some sum of such multiples is 1
+pub record IsRefutedByCombination (budget : ℕ) (c : NodeCheck) : Type 0 where
+  pub equal : List ℕ
+  pub unequal : List ℕ
+  pub all : Bool
+  pub degree : ℕ
+  pub reached : IsReached budget c equal unequal all degree
   pub summands : List Summand
-  pub each : All (IsMultiple (field_order c.nodes c.in_force) degree (variables_of c equal (chosen all unequal)) (degrees_of c.nodes equal (chosen all unequal))) summands
-  pub sum : SamePolynomial (field_order c.nodes c.in_force) (sum_of (first_lines c.nodes (field_order c.nodes c.in_force) (literals_of equal (chosen all unequal))) summands) (constant 1)
+  pub each : AreMultiples c equal unequal all degree summands
+  pub sum : SamePolynomial (field_order c.nodes c.in_force) (sum_of (chosen_lines c equal unequal all) summands) (constant 1)
+
+-- some sum of such multiples is a constant of the check less a residue
+pub record DeterminesConstant (c : NodeCheck) (equal unequal : List ℕ) (all : Bool) (degree x : ℕ) : Type 0 where
+  pub value : ℕ
+  pub residue : value < field_order c.nodes c.in_force
+  pub summands : List Summand
+  pub each : AreMultiples c equal unequal all degree summands
+  pub sum : SamePolynomial (field_order c.nodes c.in_force) (sum_of (chosen_lines c equal unequal all) summands) (difference (field_order c.nodes c.in_force) (variable x) (constant value))
+
+-- Of a conjunction of equations and disequations without `ite`, such sums determine each constant.
+pub record IsSolvedByCombination (budget : ℕ) (c : NodeCheck) : Type 0 where
+  pub conjunction : is_conjunction c.nodes c.in_force ≡ true
+  pub no_ite : has_no_ite c.nodes c.in_force ≡ true
+  pub equal : List ℕ
+  pub unequal : List ℕ
+  pub all : Bool
+  pub degree : ℕ
+  pub reached : IsReached budget c equal unequal all degree
+  pub each : All (DeterminesConstant c equal unequal all degree) (field_constants c.nodes c.in_force)

@@ -1,28 +1,37 @@
 -- One choice of generators at one degree.
-use Rattle.std.proofs.Common.{inl, inr, ◌≡◌, ◌⊎◌, ℕ, zero, suc, ◌+◌, ◌-◌, ◌*◌, ◌%◌, ◌<◌, ◌≤◌, ◌&&◌, nat_le, true, false, cond, if◌then◌else◌, List, [], ◌∷◌, length, get_or, All, Contains, Option, Some, None, refl, sym, ap, ap₂, ◌∙◌, subst, arith}
+use Rattle.std.proofs.Common.{inl, inr, ◌≡◌, ◌⊎◌, ℕ, zero, suc, ◌+◌, ◌-◌, ◌*◌, ◌%◌, ◌<◌, ◌≤◌, ◌&&◌, nat_le, nat_lt, Bool, true, false, cond, if◌then◌else◌, List, [], ◌∷◌, length, get_or, take, All, Contains, Option, Some, None, Result, Ok, Err, refl, sym, ap, ap₂, ◌∙◌, subst, arith}
 use Rattle.std.specs.List.{AllZip}
 use Rattle.std.specs.List.Sorted.{IsStrictlyIncreasing}
-use Rattle.std.specs.Option.{IfNone, IsSome}
+use Rattle.std.specs.Option.{IfNone, IfSome, IsSome}
+use Rattle.std.specs.Result.{IfOk}
 use Rattle.std.proofs.Math.Nat.{mul-le-mul_left, mod-eq_of_lt, zero-mod}
-use Rattle.std.proofs.lemmas.Bool.{le-leb, cases_eq, false≢true}
+use Rattle.std.proofs.lemmas.Bool.{le-leb, le-ltb, lt-ltb, cases_lt, cases_eq, false≢true}
 use Rattle.std.proofs.lemmas.List.Elements.{All-head, All-tail, All-weaker, All-get_or, All-from_recursion, recursion_from_All}
 use Rattle.std.proofs.lemmas.List.Sums.{sum_by-cons}
-use Rattle.ffc_base.specs.Metering.{Spending, Takes, total}
+use Rattle.ffc_base.specs.declared.stop.Stop.{Stop}
+use Rattle.ffc_base.specs.declared.stop.Stop.TheVariants as stops
+use Rattle.ffc_base.specs.Metering.{Spending, total}
 use Rattle.ffc_bounds.specs.Combinations.{IsMultiple, row_count, degree_units}
 use Rattle.ffc_bounds.specs.Monomials.{monomials, columns, rows}
-use Rattle.ffc_macaulay.specs.Identities.{AreGenerators, AreLinesOf, HasNoIdentity, IsMultiple as IsMacaulayMultiple}
+use Rattle.ffc_macaulay.specs.Identities.{AreGenerators, AreLinesOf, HasNoIdentity}
 use Rattle.ffc_macaulay.proofs.CountLemmas.{few_generators}
 use Rattle.ffc_macaulay.proofs.LineLemmas.{line_among}
 use Rattle.ffc_macaulay.proofs.MemberLemmas.{up_to_at, are_all}
+use Rattle.ffc_macaulay.specs.declared.solving.Solution.{Solution}
+use Rattle.ffc_macaulay.specs.declared.solving.Solution.TheVariants as found
+use Rattle.ffc_macaulay.specs.Solutions.{Determines, IsSolvedBy}
+use Rattle.ffc_macaulay.specs.Units.{TakesWithin}
 use Rattle.ffc_refutation.specs.Combinations.{Summand, sum_of}
-use Rattle.ffc_ring.specs.Polynomial.{Terms, SamePolynomial, coefficient}
+use Rattle.ffc_ring.specs.Monomial.{Monomial}
+use Rattle.ffc_ring.specs.Polynomial.{Terms, SamePolynomial, coefficient, difference, written}
+use Rattle.ffc_ring.proofs.PolynomialLemmas.{written-at}
 use Rattle.ffc_term.specs.declared.node.Node.{Node}
 use Rattle.ffc_trees.specs.FirstLines.{first_lines}
-use Rattle.ffc_trees.specs.NodePolynomials.{constant}
+use Rattle.ffc_trees.specs.NodePolynomials.{constant, variable}
 use Rattle.ffc_trees.specs.Normal.{IsNormal}
 use Rattle.ffc_combination.specs.declared.choices.Choice.{Choice}
-use Rattle.ffc_combination.specs.Attempts.{Defers, HasSize, HasNoSize, IsSized, IsExcluded, TakesAtMost}
-use Rattle.ffc_combination.specs.Choices.{IsChoice}
+use Rattle.ffc_combination.specs.Attempts.{Defers, HasNoSolution, HasNoSum, HasSize, HasNoSize, IsLookedFor, IsSized, IsExcluded, IsUndetermined, LeavesOne, LooksWithin}
+use Rattle.ffc_combination.specs.Choices.{IsChoice, constants_at}
 use Rattle.ffc_combination.specs.Generators.{IsGenerator, AreGeneratorsOf}
 use Rattle.ffc_combination.proofs.LineLemmas.{length-lines, line_at_place, line_normal}
 use Rattle.ffc_combination.proofs.WithinLemmas.{line_few}
@@ -76,29 +85,59 @@ sized d m n units x s is =
 pub some_row : (d : ℕ) (xs degrees : List ℕ) (m n : ℕ) → HasSize d xs degrees m n → 0 < n
 some_row d xs degrees m n s = omega (arith, s.some, few_generators d xs degrees, s.rows_is)
 
--- what the elimination takes is within the units
-pub paid : (m n : ℕ) → 0 < n → n * m + m ≤ 2 * n * m
-paid m n some =
-    let more : m * 1 ≤ m * n = mul-le-mul_left m (let one : 1 ≤ n = omega arith in one) in
-    let turned : n * m ≡ m * n = omega arith in
-    let twice : 2 * n * m ≡ n * m + n * m = omega arith in
-    omega (arith, more, turned, twice)
+-- what is taken without the column of 1 leaves a unit
+one_left : (m n : ℕ) → 0 < n → 0 < m → 2 * n * (m - 1) < 2 * n * m
+one_left zero n some column = absurd (omega arith)
+one_left (suc k) n some column =
+    let same : suc k - 1 ≡ k = omega arith in
+    let all : 2 * n * suc k ≡ 2 * n * k + 2 * n = omega arith in
+    omega (arith, ap (λ i. 2 * n * i) same, all, some)
 
--- what the elimination takes, and that it is not spent
-steps_are : (d : ℕ) (xs degrees vs es : List ℕ) (m n : ℕ) → HasSize d xs degrees m n → vs ≡ xs → es ≡ degrees → rows d vs es * columns d vs + columns d vs ≡ n * m + m
-steps_are d xs degrees vs es m n s one two = ap₂ (λ a b. a * b + b) (ap₂ (rows d) one two ∙ sym s.rows_is) (ap (columns d) one ∙ sym s.columns_is)
+-- there is a column
+pub some_column : (d : ℕ) (xs : List ℕ) → IsStrictlyIncreasing xs → 0 < columns d xs
+some_column d xs rises =
+    let has : Contains (monomials d xs) [] = are_all d xs rises [] (record { monomial = tt; variables = λ x some. absurd (some refl); low = omega arith }) in
+    let below = has.1 in omega (arith, below)
 
-pub identity_takes : (d : ℕ) (xs degrees vs es : List ℕ) (m n : ℕ) (old new : Spending) → HasSize d xs degrees m n → vs ≡ xs → es ≡ degrees → Takes old new → total new ≤ total old + (rows d vs es * columns d vs + columns d vs)
-    → TakesAtMost (degree_units d xs degrees) old new
-identity_takes d xs degrees vs es m n old new s one two takes within = record {
-  takes = takes;
-  within = omega (arith, within, steps_are d xs degrees vs es m n s one two, paid m n (some_row d xs degrees m n s), units_are d xs degrees m n s);
-}
+-- what is taken where the constants are solved for
+pub looks_for_solution : (d : ℕ) (x : Choice) (vs es : List ℕ) (old new : Spending) (r : Result Solution Stop) → vs ≡ x.variables.items → es ≡ x.degrees.items → IsStrictlyIncreasing x.variables.items → 0 < rows d x.variables.items x.degrees.items
+    → TakesWithin (2 * rows d vs es * (columns d vs - 1)) stops.Spent r old new → LooksWithin (2 * rows d x.variables.items x.degrees.items * columns d x.variables.items) r old new
+looks_for_solution d x vs es old new r one two rises some t =
+    let m = columns d x.variables.items in
+    let n = rows d x.variables.items x.degrees.items in
+    let same : 2 * rows d vs es * (columns d vs - 1) ≡ 2 * n * (m - 1) = ap₂ (λ a b. 2 * a * (b - 1)) (ap₂ (rows d) one two) (ap (columns d) one) in
+    let left : 2 * n * (m - 1) < 2 * n * m = one_left m n some (some_column d x.variables.items rises) in
+    let less : total new < total old + 2 * n * m = (let w = t.within in omega (arith, w, same, left)) in
+    record {
+      units = record { takes = t.takes; within = omega (arith, less); spent_only = λ spent. let s = t.spent_only spent in omega (arith, s, same, left) };
+      trial = leaves_one (2 * n * m) old new less r;
+    }
+  where
+    leaves_one : (bound : ℕ) (a b : Spending) → total b < total a + bound → (q : Result Solution Stop) → IfOk q (LeavesOne bound a b)
+    leaves_one bound a b less (Ok (found.Identity summands)) = tt
+    leaves_one bound a b less (Ok (found.Values vs)) = less
+    leaves_one bound a b less (Ok found.Neither) = tt
+    leaves_one bound a b less (Err e) = tt
 
-pub never_spent : (d : ℕ) (xs degrees vs es : List ℕ) (m n left taken budget : ℕ) → HasSize d xs degrees m n → vs ≡ xs → es ≡ degrees → 2 * n * m ≤ left → left + taken ≡ budget
-    → budget < taken + (rows d vs es * columns d vs + columns d vs) → ⊥
-never_spent d xs degrees vs es m n left taken budget s one two enough all spent =
-    omega (arith, enough, all, spent, steps_are d xs degrees vs es m n s one two, paid m n (some_row d xs degrees m n s))
+-- the constants that are solved for at a degree are those of the choice
+pub some_at : (d : ℕ) (x : Choice) (P : ℕ → Type 0) → IfSome x.constants P → IfSome (constants_at d x) P
+some_at d x P h = by_case (nat_lt d x.lowest)
+  where
+    by_case : (b : Bool) → IfSome (cond b None x.constants) P
+    by_case true = tt
+    by_case false = h
+
+-- the constants to be solved for are some of the variables
+pub within_variables : (o : Option ℕ) (n : ℕ) → IfSome o (λ count. (0 < count) × (count ≤ n)) → IfSome o (λ count. count ≤ n)
+within_variables None n h = tt
+within_variables (Some count) n h = h.1
+
+-- the units of a degree
+pub bound_is : (d : ℕ) (xs degrees : List ℕ) (m n : ℕ) → HasSize d xs degrees m n → 2 * rows d xs degrees * columns d xs ≡ degree_units d xs degrees
+bound_is d xs degrees m n s = ap₂ (λ a b. 2 * a * b) (sym s.rows_is) (sym s.columns_is) ∙ sym (units_are d xs degrees m n s)
+
+pub some_rows : (d : ℕ) (xs degrees : List ℕ) (m n : ℕ) → HasSize d xs degrees m n → 0 < rows d xs degrees
+some_rows d xs degrees m n s = omega (arith, some_row d xs degrees m n s, s.rows_is)
 
 -- ---- generators
 
@@ -160,16 +199,26 @@ module _ (p : ℕ) (positive : 0 < p) (nodes : List Node) (x : Choice) (choice :
       normal = λ i inside. normal_at i (omega (arith, inside, long));
     }
 
-  -- no identity, no sum
-  pub no_sum : (d : ℕ) → HasNoIdentity p d x.variables.items x.degrees.items (first_lines nodes p x.literals.items) → IsExcluded p nodes d x
-  no_sum d none low few_columns few_rows summands each sum =
-      none summands
-      (All-weaker (IsMultiple p d x.variables.items x.degrees.items) (IsMacaulayMultiple p d x.variables.items x.degrees.items) (λ s is. record { there = is.there; residue = is.residue; monomial = is.monomial }) summands each)
-      sum
+  -- what is looked for is not there
+  pub neither : (d : ℕ) → HasNoIdentity p d x.variables.items x.degrees.items (first_lines nodes p x.literals.items)
+      → IsUndetermined p d x.variables.items x.degrees.items (first_lines nodes p x.literals.items) (constants_at d x) → IsExcluded p nodes d x
+  neither d none undetermined = (λ low few_columns few_rows. none, unsolved (constants_at d x) undetermined)
+    where
+      unsolved : (o : Option ℕ) → IsUndetermined p d x.variables.items x.degrees.items (first_lines nodes p x.literals.items) o → HasNoSolution p d x.variables.items x.degrees.items (first_lines nodes p x.literals.items) o
+      unsolved None h = tt
+      unsolved (Some count) h = λ low few_columns few_rows. h
 
   one_is_something : (ls : List Terms) (summands : List Summand) → 2 ≤ p → summands ≡ [] → SamePolynomial p (sum_of ls summands) (constant 1) → ⊥
   one_is_something ls summands least none sum =
       let same : 0 % p ≡ (1 + 0) % p = ap (λ ss. coefficient p (sum_of ls ss) []) (sym none) ∙ sum [] in
+      let one : (1 + 0) % p ≡ 1 = mod-eq_of_lt (let less : 1 + 0 < p = omega (arith, least) in less) in
+      omega (arith, same, one, zero-mod p)
+
+  variable_is_something : (ls : List Terms) (summands : List Summand) (y v : ℕ) → 2 ≤ p → summands ≡ [] → SamePolynomial p (sum_of ls summands) (difference p (variable y) (constant v)) → ⊥
+  variable_is_something ls summands y v least none sum =
+      let m : Monomial = (y, 1) ∷ [] in
+      let all : written (difference p (variable y) (constant v)) m ≡ 1 + 0 = written-at m (1, m) (((p - 1) * v, []) ∷ []) refl in
+      let same : 0 % p ≡ (1 + 0) % p = ap (λ ss. coefficient p (sum_of ls ss) m) (sym none) ∙ sum m ∙ ap (λ n. n % p) all in
       let one : (1 + 0) % p ≡ 1 = mod-eq_of_lt (let less : 1 + 0 < p = omega (arith, least) in less) in
       omega (arith, same, one, zero-mod p)
 
@@ -178,12 +227,32 @@ module _ (p : ℕ) (positive : 0 < p) (nodes : List Node) (x : Choice) (choice :
   no_multiples d (s ∷ summands) none each = absurd (omega (arith, none, (All-head (IsMultiple p d x.variables.items x.degrees.items) s summands each).there))
 
   -- no size, no sum
-  pub unsized : (d : ℕ) → 2 ≤ p → HasNoSize d x.variables.items x.degrees.items → IsExcluded p nodes d x
-  unsized d least none low few_columns few_rows summands each sum =
+  no_sum_unsized : (d : ℕ) → 2 ≤ p → HasNoSize d x.variables.items x.degrees.items → HasNoSum p d x.variables.items x.degrees.items (first_lines nodes p x.literals.items)
+  no_sum_unsized d least none low few_columns few_rows summands each sum =
       elim (cases_eq (length x.degrees.items) 0) as (λ _. ⊥) [
         | inl empty ↦ one_is_something (first_lines nodes p x.literals.items) summands least (no_multiples d summands empty each) sum
         | inr some ↦ none (above_zero (length x.degrees.items) some) low few_columns few_rows
       ]
+
+  first_taken : (count : ℕ) (xs : List ℕ) → 0 < count → count ≤ length xs → 0 < length (take count xs)
+  first_taken zero xs some within = absurd (omega arith)
+  first_taken (suc n) [] some within = absurd (omega arith)
+  first_taken (suc n) (y ∷ xs) some within = omega arith
+
+  no_solution_unsized : (d : ℕ) → 2 ≤ p → HasNoSize d x.variables.items x.degrees.items → (o : Option ℕ) → IfSome o (λ count. (0 < count) × (count ≤ length x.variables.items))
+      → HasNoSolution p d x.variables.items x.degrees.items (first_lines nodes p x.literals.items) o
+  no_solution_unsized d least none None h = tt
+  no_solution_unsized d least none (Some count) h = λ low few_columns few_rows each.
+      elim (cases_eq (length x.degrees.items) 0) as (λ _. ⊥) [
+        | inl empty ↦
+            (let y = get_or (take count x.variables.items) 0 0 in
+            let first : Determines p d x.variables.items x.degrees.items (first_lines nodes p x.literals.items) y = each 0 0 (first_taken count x.variables.items h.0 h.1) in
+            variable_is_something (first_lines nodes p x.literals.items) first.summands y first.value least (no_multiples d first.summands empty first.each) first.sum)
+        | inr some ↦ none (above_zero (length x.degrees.items) some) low few_columns few_rows
+      ]
+
+  pub unsized : (d : ℕ) → 2 ≤ p → HasNoSize d x.variables.items x.degrees.items → IsExcluded p nodes d x
+  unsized d least none = (no_sum_unsized d least none, no_solution_unsized d least none (constants_at d x) (some_at d x (λ count. (0 < count) × (count ≤ length x.variables.items)) choice.constants))
 
 -- a multiple is one of the next degree, too
 next_multiple : (p d : ℕ) (xs degrees : List ℕ) → IsStrictlyIncreasing xs → (s : Summand) → IsMultiple p d xs degrees s → IsMultiple p (d + 1) xs degrees s
@@ -196,11 +265,38 @@ next_multiple p d xs degrees rises s is =
       monomial = are_all (d + 1 - e) xs rises s.1.1 (record { monomial = up.monomial; variables = up.variables; low = omega (arith, up.low) });
     }
 
+next_multiples : (p d : ℕ) (xs degrees : List ℕ) → IsStrictlyIncreasing xs → (summands : List Summand) → All (IsMultiple p d xs degrees) summands → All (IsMultiple p (d + 1) xs degrees) summands
+next_multiples p d xs degrees rises summands each = All-weaker (IsMultiple p d xs degrees) (IsMultiple p (d + 1) xs degrees) (next_multiple p d xs degrees rises) summands each
+
 -- so a degree is excluded where the next one is
+solution_before : (p d units : ℕ) (x : Choice) (lines : List Terms) → IsStrictlyIncreasing x.variables.items → IsSized (d + 1) x units → (o : Option ℕ) → HasNoSolution p (d + 1) x.variables.items x.degrees.items lines o
+    → HasNoSolution p d x.variables.items x.degrees.items lines o
+solution_before p d units x lines rises s None none = tt
+solution_before p d units x lines rises s (Some count) none = λ low few_columns few_rows each.
+    none s.low s.few_columns s.few_rows
+    (All-weaker (Determines p d x.variables.items x.degrees.items lines) (Determines p (d + 1) x.variables.items x.degrees.items lines)
+    (λ y is. record { value = is.value; residue = is.residue; summands = is.summands; each = next_multiples p d x.variables.items x.degrees.items rises is.summands is.each; sum = is.sum })
+    (take count x.variables.items) each)
+
+-- the same at the degrees where constants are solved for
+solution_at_before : (p d units : ℕ) (x : Choice) (lines : List Terms) → IsStrictlyIncreasing x.variables.items → IsSized (d + 1) x units → HasNoSolution p (d + 1) x.variables.items x.degrees.items lines (constants_at (d + 1) x)
+    → HasNoSolution p d x.variables.items x.degrees.items lines (constants_at d x)
+solution_at_before p d units x lines rises s next =
+    elim (cases_lt d x.lowest) as (λ _. HasNoSolution p d x.variables.items x.degrees.items lines (constants_at d x)) [
+      | inl below ↦
+          subst (HasNoSolution p d x.variables.items x.degrees.items lines) (sym (ap (λ b. cond b None x.constants) (lt-ltb d x.lowest below))) tt
+      | inr above ↦
+          (let here : constants_at d x ≡ x.constants = ap (λ b. cond b None x.constants) (le-ltb d x.lowest above) in
+          let there : constants_at (d + 1) x ≡ x.constants = ap (λ b. cond b None x.constants) (le-ltb (d + 1) x.lowest (omega (arith, above))) in
+          subst (HasNoSolution p d x.variables.items x.degrees.items lines) (sym here)
+          (solution_before p d units x lines rises s x.constants (subst (HasNoSolution p (d + 1) x.variables.items x.degrees.items lines) there next)))
+    ]
+
 sized_before : (p d units : ℕ) (nodes : List Node) (x : Choice) → IsChoice p nodes x → IsSized (d + 1) x units → IsExcluded p nodes (d + 1) x → IsExcluded p nodes d x
-sized_before p d units nodes x choice s none low few_columns few_rows summands each sum =
-    none s.low s.few_columns s.few_rows summands
-    (All-weaker (IsMultiple p d x.variables.items x.degrees.items) (IsMultiple p (d + 1) x.variables.items x.degrees.items) (next_multiple p d x.variables.items x.degrees.items choice.rises) summands each) sum
+sized_before p d units nodes x choice s none = (
+  λ low few_columns few_rows summands each sum. none.0 s.low s.few_columns s.few_rows summands (next_multiples p d x.variables.items x.degrees.items choice.rises summands each) sum,
+  solution_at_before p d units x (first_lines nodes p x.literals.items) choice.rises s none.1,
+)
 
 pub excluded_before : (p d units : ℕ) (nodes : List Node) (x : Choice) → 2 ≤ p → IsChoice p nodes x → Defers d x units → IsExcluded p nodes (d + 1) x → IsExcluded p nodes d x
 excluded_before p d units nodes x least choice s next = by_how s.how
@@ -208,3 +304,22 @@ excluded_before p d units nodes x least choice s next = by_how s.how
     by_how : IsSized (d + 1) x units ⊎ HasNoSize d x.variables.items x.degrees.items → IsExcluded p nodes d x
     by_how (inl is) = sized_before p d units nodes x choice is next
     by_how (inr none) = unsized p (omega (arith, least)) nodes x choice d least none
+
+-- ---- what is found
+
+-- what is found where the constants are solved for is what is looked for
+solution_is : (p d : ℕ) (x : Choice) (lines : List Terms) (count : ℕ) → constants_at d x ≡ Some count → (s : Solution) → IsSolvedBy p d x.variables.items x.degrees.items lines count s → IsLookedFor p d x lines s
+solution_is p d x lines count some (found.Identity summands) is = is
+solution_is p d x lines count some (found.Values values) is = record { count = count; constants = some; each = is }
+solution_is p d x lines count some found.Neither is = (is.0, subst (IsUndetermined p d x.variables.items x.degrees.items lines) (sym some) is.1)
+
+pub solution_found : (p d : ℕ) (x : Choice) (lines : List Terms) (count : ℕ) → constants_at d x ≡ Some count → (vs es : List ℕ) → vs ≡ x.variables.items → es ≡ x.degrees.items → (s : Solution) → IsSolvedBy p d vs es lines count s → IsLookedFor p d x lines s
+solution_found p d x lines count some vs es one two s is =
+    solution_is p d x lines count some s (subst (λ (us : List ℕ). IsSolvedBy p d us x.degrees.items lines count s) one (subst (λ (us : List ℕ). IsSolvedBy p d vs us lines count s) two is))
+
+-- where there is nothing to solve for, nothing is left open
+pub none_found : (p d : ℕ) (x : Choice) (lines : List Terms) → constants_at d x ≡ None → (vs es : List ℕ) → vs ≡ x.variables.items → es ≡ x.degrees.items → HasNoIdentity p d vs es lines → IsLookedFor p d x lines found.Neither
+none_found p d x lines none vs es one two is = (
+  subst (λ (us : List ℕ). HasNoIdentity p d us x.degrees.items lines) one (subst (λ (us : List ℕ). HasNoIdentity p d vs us lines) two is),
+  subst (IsUndetermined p d x.variables.items x.degrees.items lines) (sym none) tt,
+)

@@ -1,7 +1,8 @@
 -- The choice of some equalities and disequations that are forced.
-use Rattle.std.proofs.Common.{inl, inr, ◌≡◌, ℕ, zero, suc, ◌+◌, ◌-◌, ◌<◌, ◌≤◌, true, false, cond, List, [], ◌∷◌, ◌++◌, length, map, filter, get_or, reverse, ◌||◌, None, Some, All, Contains, refl, sym, ap, ap₂, ◌∙◌, subst, arith, length-append}
+use Rattle.std.proofs.Common.{inl, inr, ◌≡◌, ℕ, zero, suc, ◌+◌, ◌-◌, ◌<◌, ◌≤◌, Bool, true, false, cond, List, [], ◌∷◌, ◌++◌, length, map, filter, get_or, reverse, ◌||◌, None, Some, Option, All, Contains, refl, sym, ap, ap₂, ◌∙◌, subst, arith, length-append}
 use Rattle.std.specs.List.{AllByRecursion, range_with_len}
 use Rattle.std.specs.List.Sorted.{IsStrictlyIncreasing}
+use Rattle.std.specs.Option.{IfSome}
 use Rattle.std.proofs.lemmas.Bool.{cases_lt, le-ltb}
 use Rattle.std.proofs.lemmas.List.{length-map, get_or_append_left, get_or-append_right}
 use Rattle.std.proofs.lemmas.List.Elements.{All-from_recursion, All-append, All-map, All-weaker, recursion_from_All, Contains-get_or, Contains-append_left, Contains-append_right}
@@ -27,9 +28,10 @@ use Rattle.ffc_trees.specs.FirstLines.{first_line, first_lines_from, first_lines
 use Rattle.ffc_trees.specs.NodePolynomials.{IsVariableAt}
 use Rattle.ffc_trials.specs.Stops.{IsWithinLimits}
 use Rattle.ffc_combination.specs.declared.choices.Choice.{Choice}
-use Rattle.ffc_combination.specs.Choices.{HasParts, IsChoice}
+use Rattle.ffc_combination.specs.Choices.{HasParts, IsChoice, IsGreatestDegree, constants_if}
+use Rattle.ffc_combination.specs.Flat.{is_flat}
 use Rattle.ffc_combination.specs.Forced.{is_forced_equality, IsUsable, IsLow}
-use Rattle.ffc_combination.specs.Search.{IsDenied, IsDeniedChoice, IsChoiceOf, AreChoicesOf}
+use Rattle.ffc_combination.specs.Search.{IsDenied, IsDeniedChoice, IsChoiceOf, IsInField, AreChoicesOf}
 use Rattle.ffc_combination.proofs.WithinLemmas.{equation_listed, disequation_listed}
 use Rattle.ffc_combination.proofs.ForcedLemmas.{atom_usable, order_known, variable_listed, variables_rise, variables_inside, forced_are, forced_among, cone_inside}
 
@@ -39,7 +41,7 @@ all_each : (P : ℕ → Type 0) (xs : List ℕ) → ((x : ℕ) → Contains xs x
 all_each P xs f k d below = f (get_or xs k d) (Contains-get_or xs k d below)
 
 -- what holds of each literal
-literals_each : (P : Literal → Type 0) (equal unequal : List ℕ) → All (λ id. P (minus id)) equal → All (λ id. P (plus id)) unequal → All P (literals_of equal unequal)
+pub literals_each : (P : Literal → Type 0) (equal unequal : List ℕ) → All (λ id. P (minus id)) equal → All (λ id. P (plus id)) unequal → All P (literals_of equal unequal)
 literals_each P equal unequal one two = All-append P (map minus equal) (map plus unequal) (All-map P minus equal one) (All-map P plus unequal two)
 
 -- an increasing list, and the numbers from one past it on
@@ -156,8 +158,12 @@ module _ (c : NodeCheck) (valid : IsValid c) (p : ℕ) (positive : 0 < p) (field
       (all_each (IsUsable p c.nodes) equal (λ id has. atom_usable c valid p field limit id (equal_atoms id has)))
       (all_each (IsUsable p c.nodes) unequal (λ id has. atom_usable c valid p field limit id (unequal_atoms id has)))
 
-  pub is_choice : (x : Choice) → HasParts c.nodes (node_variables c.nodes c.in_force) equal unequal x → IsChoice p c.nodes x
-  is_choice x parts = record {
+  constants_within : (flat : Bool) (own others : List ℕ) → 0 < length own → IfSome (constants_if flat own) (λ count. (0 < count) × (count ≤ length (own ++ others)))
+  constants_within true own others some = (some, omega (arith, length-append own others))
+  constants_within false own others some = tt
+
+  pub is_choice : (flat : Bool) (lowest : ℕ) (x : Choice) → 0 < length (node_variables c.nodes c.in_force) → HasParts c.nodes (node_variables c.nodes c.in_force) equal unequal flat lowest x → IsChoice p c.nodes x
+  is_choice flat lowest x some parts = record {
     table = valid.table;
     usable = subst (All (λ (l : Literal). IsUsable p c.nodes l.1)) (sym parts.literals) all_usable;
     rises = subst IsStrictlyIncreasing (sym parts.variables) all_rise;
@@ -169,6 +175,9 @@ module _ (c : NodeCheck) (valid : IsValid c) (p : ℕ) (positive : 0 < p) (field
         (listed_at p c.nodes xs (length c.nodes) (literals_of equal unequal) (degrees_of c.nodes equal unequal) i all_listed inside))));
     bound = parts.bound;
     least = parts.least;
+    constants = subst (λ (o : Option ℕ). IfSome o (λ count. (0 < count) × (count ≤ length x.variables.items))) (sym parts.constants)
+        (subst (λ (vs : List ℕ). IfSome (constants_if flat (node_variables c.nodes c.in_force)) (λ count. (0 < count) × (count ≤ length vs))) (sym parts.variables)
+        (constants_within flat (node_variables c.nodes c.in_force) (range_with_len (length c.nodes + length equal) (length unequal)) some));
   }
 
   -- ---- the lemma
@@ -196,8 +205,13 @@ module _ (c : NodeCheck) (valid : IsValid c) (p : ℕ) (positive : 0 < p) (field
       })
 
 -- the parts of a choice of the check
-choice_of : (c : NodeCheck) (equal unequal : List ℕ) (x : Choice) → HasParts c.nodes (node_variables c.nodes c.in_force) equal unequal x → IsChoiceOf c equal unequal x
-choice_of c equal unequal x parts = record { literals = parts.literals; variables = parts.variables; degrees = parts.degrees }
+choice_of : (c : NodeCheck) (equal unequal : List ℕ) (flat : Bool) (lowest : ℕ) (x : Choice) → flat ≡ is_flat c → HasParts c.nodes (node_variables c.nodes c.in_force) equal unequal flat lowest x → IsChoiceOf c equal unequal x
+choice_of c equal unequal flat lowest x is parts = record {
+  literals = parts.literals;
+  variables = parts.variables;
+  degrees = parts.degrees;
+  constants = parts.constants ∙ ap (λ b. constants_if b (node_variables c.nodes c.in_force)) is;
+}
 
 -- a check has no more nodes than its table
 cone_short : (nodes : List Node) (ids : List ℕ) → length (cone nodes ids) ≤ length nodes
@@ -243,34 +257,48 @@ module _ (c : NodeCheck) (valid : IsValid c) (p : ℕ) (positive : 0 < p) (field
         most,
       )
 
-  module _ (some : 0 < length (node_variables c.nodes c.in_force)) where
-    denied_choice : (other : List ℕ) → ((id : ℕ) → Contains other id → Contains (atoms c.nodes c.in_force) id × IsForced c (minus id)) → (x : Choice) → HasParts c.nodes (node_variables c.nodes c.in_force) equal other x → IsDeniedChoice c p reasons x
+  module _ (some : 0 < length (node_variables c.nodes c.in_force)) (flat : Bool) (flat_is : flat ≡ is_flat c) (lowest : ℕ) (lowest_is : IsGreatestDegree c.nodes unequal lowest) where
+    denied_choice : (other : List ℕ) → ((id : ℕ) → Contains other id → Contains (atoms c.nodes c.in_force) id × IsForced c (minus id)) → (x : Choice) → HasParts c.nodes (node_variables c.nodes c.in_force) equal other flat lowest x → IsDeniedChoice c p reasons x
     denied_choice other are x parts = record {
-      choice = is_choice c valid p positive field limit equal other (λ id has. ((forced.equal_are id).0 has).0) (λ id has. (are id has).0) x parts;
+      choice = is_choice c valid p positive field limit equal other (λ id has. ((forced.equal_are id).0 has).0) (λ id has. (are id has).0) flat lowest x some parts;
       denied = is_denied c valid p positive field limit equal other (λ id has. ((forced.equal_are id).0 has).0) (λ id has. (are id has).0) literals reasons all some
           (λ id has. ((forced.equal_are id).0 has).1) (λ id has. (are id has).1) x.literals.items parts.literals;
     }
 
-    first_denied : (x : Choice) → HasParts c.nodes (node_variables c.nodes c.in_force) equal [] x → IsDeniedChoice c p reasons x
+    in_field : IsInField c p
+    in_field = record { valid = valid; field = field; limit = limit; some = some }
+
+    has_lowest : (n : ℕ) → n ≡ lowest → IsGreatestDegree c.nodes unequal n
+    has_lowest n is = subst (IsGreatestDegree c.nodes unequal) (sym is) lowest_is
+
+    first_denied : (x : Choice) → HasParts c.nodes (node_variables c.nodes c.in_force) equal [] flat lowest x → IsDeniedChoice c p reasons x
     first_denied x parts = denied_choice [] (λ id has. absurd (nothing_in id has)) x parts
 
-    pub only_equations : (x : Choice) → HasParts c.nodes (node_variables c.nodes c.in_force) equal [] x → unequal ≡ [] → AreChoicesOf c p reasons (record { equations = x; all = None })
+    pub only_equations : (x : Choice) → HasParts c.nodes (node_variables c.nodes c.in_force) equal [] flat lowest x → unequal ≡ [] → AreChoicesOf c p reasons (record { equations = x; all = None })
     only_equations x parts none = record {
+      check = in_field;
       equal = equal;
       unequal = unequal;
       forced = forced;
-      first = choice_of c equal [] x parts;
+      first = choice_of c equal [] flat lowest x flat_is parts;
       second = none;
-      denied = record { equations = first_denied x parts; all = tt };
+      first_denied = first_denied x parts;
+      second_denied = tt;
+      first_lowest = has_lowest x.lowest parts.lowest;
+      second_lowest = tt;
     }
 
-    pub both_choices : (x y : Choice) → HasParts c.nodes (node_variables c.nodes c.in_force) equal [] x → HasParts c.nodes (node_variables c.nodes c.in_force) equal unequal y → 0 < length unequal
+    pub both_choices : (x y : Choice) → HasParts c.nodes (node_variables c.nodes c.in_force) equal [] flat lowest x → HasParts c.nodes (node_variables c.nodes c.in_force) equal unequal flat lowest y → 0 < length unequal
         → AreChoicesOf c p reasons (record { equations = x; all = Some y })
     both_choices x y parts more there = record {
+      check = in_field;
       equal = equal;
       unequal = unequal;
       forced = forced;
-      first = choice_of c equal [] x parts;
-      second = (there, choice_of c equal unequal y more);
-      denied = record { equations = first_denied x parts; all = denied_choice unequal (λ id has. (forced.unequal_are id).0 has) y more };
+      first = choice_of c equal [] flat lowest x flat_is parts;
+      second = (there, choice_of c equal unequal flat lowest y flat_is more);
+      first_denied = first_denied x parts;
+      second_denied = denied_choice unequal (λ id has. (forced.unequal_are id).0 has) y more;
+      first_lowest = has_lowest x.lowest parts.lowest;
+      second_lowest = has_lowest y.lowest more.lowest;
     }

@@ -31,7 +31,7 @@ use Rattle.ffc_term.proofs.TableLemmas.{sort_at-is, sort_at-take}
 use Rattle.ffc_term.proofs.ValueLemmas.{IsOrder-positive, IsOrder-from_IsFieldAt}
 use Rattle.ffc_term.proofs.WalkLemmas.{child_below, IsNodeOf-within}
 use Rattle.ffc_term.specs.Checks.{IsNodeOf}
-use Rattle.ffc_term.specs.Checks.IsNodeOf.{child}
+use Rattle.ffc_term.specs.Checks.IsNodeOf.{child, listed}
 use Rattle.ffc_term.specs.declared.node.Node.{Node}
 use Rattle.ffc_term.specs.declared.node.Node.TheVariants.{True, FieldConst, IteField, Eq}
 use Rattle.ffc_term.specs.declared.node.Sort.TheVariants as sort
@@ -83,7 +83,7 @@ record HasSide (ns : List Node) (ids : List ℕ) (id : ℕ) : Type 0 where
   side : Contains (field_nodes ns ids) one
 
 module _ (c : NodeCheck) (valid : IsValid c) where
-  abbrev IsInCone : ℕ → Type 0
+  abbrev pub IsInCone : ℕ → Type 0
   IsInCone id = Contains (cone c.nodes c.in_force) id
 
   in_cone_of : (id : ℕ) → IsInCone id → IsNodeOf c.nodes c.in_force id
@@ -92,13 +92,16 @@ module _ (c : NodeCheck) (valid : IsValid c) where
   pub cone_inside : (id : ℕ) → IsInCone id → id < length c.nodes
   cone_inside id has = IsNodeOf-within c.nodes c.in_force id valid.table (within c valid) (in_cone_of id has)
 
-  node_in_cone : (id : ℕ) → IsInCone id → IsNodeAt c.nodes id (node_at c.nodes id)
+  pub node_in_cone : (id : ℕ) → IsInCone id → IsNodeAt c.nodes id (node_at c.nodes id)
   node_in_cone id has = slice_get-get_or c.nodes id True (cone_inside id has)
 
-  child_in_cone : (id d : ℕ) (n : Node) → IsInCone id → IsNodeAt c.nodes id n → Contains (children n) d → IsInCone d
+  pub child_in_cone : (id d : ℕ) (n : Node) → IsInCone id → IsNodeAt c.nodes id n → Contains (children n) d → IsInCone d
   child_in_cone id d n has at of = ((cone_nodes c.nodes c.in_force valid.table (within c valid)).each d).1 (child n (in_cone_of id has) at of)
 
-  field_listed : (id q : ℕ) → IsInCone id → IsFieldAt c.nodes q id → Contains (field_nodes c.nodes c.in_force) id
+  pub active_in_cone : (id : ℕ) → Contains c.in_force id → IsInCone id
+  active_in_cone id has = ((cone_nodes c.nodes c.in_force valid.table (within c valid)).each id).1 (listed has)
+
+  pub field_listed : (id q : ℕ) → IsInCone id → IsFieldAt c.nodes q id → Contains (field_nodes c.nodes c.in_force) id
   field_listed id q has is =
       let some : 0 < q = IsOrder-positive q (IsOrder-from_IsFieldAt c.nodes id q valid.table.well_formed is) in
       Contains-filter (λ x. nat_lt 0 (order_at c.nodes x)) (cone c.nodes c.in_force) id has (ap (λ s. nat_lt 0 (order_of_sort s)) is.1 ∙ lt-ltb 0 q some)

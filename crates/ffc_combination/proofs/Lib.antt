@@ -1,9 +1,17 @@
 pub mod RangeLemmas
+pub mod CountLemmas
 pub mod SideLemmas
 pub mod LineLemmas
 pub mod WithinLemmas
 pub mod ForcedLemmas
+pub mod AssertedLemmas
+pub mod TruthLemmas
+pub mod ValueLemmas
+pub mod ModelLemmas
 pub mod ChoiceLemmas
+pub mod DenialLemmas
+pub mod SolutionLemmas
+pub mod MissedLemmas
 pub mod AttemptLemmas
 pub mod SearchLemmas
 pub mod RecordLemmas

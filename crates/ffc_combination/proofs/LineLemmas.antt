@@ -55,7 +55,7 @@ line_at_place p nodes w (l ∷ ls) zero d inside = ap (λ k. first_line p nodes 
 line_at_place p nodes w (l ∷ ls) (suc i) d inside =
     line_at_place p nodes (suc w) ls i d (omega arith) ∙ ap (λ k. first_line p nodes k (get_or ls i d)) (let e : suc w + i ≡ w + suc i = omega arith in e)
 
-lines-push : (p : ℕ) (nodes : List Node) (w : ℕ) (ls : List Literal) (l : Literal) → first_lines_from p nodes w (ls ++ l ∷ []) ≡ first_lines_from p nodes w ls ++ first_line p nodes (w + length ls) l ∷ []
+pub lines-push : (p : ℕ) (nodes : List Node) (w : ℕ) (ls : List Literal) (l : Literal) → first_lines_from p nodes w (ls ++ l ∷ []) ≡ first_lines_from p nodes w ls ++ first_line p nodes (w + length ls) l ∷ []
 lines-push p nodes w [] l = ap (λ k. first_line p nodes k l ∷ []) (let e : w ≡ w + 0 = omega arith in e)
 lines-push p nodes w (k ∷ ls) l =
     ap (λ ts. first_line p nodes w k ∷ ts)

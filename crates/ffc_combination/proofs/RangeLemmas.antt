@@ -1,6 +1,7 @@
 -- Sums over ranges of numbers.
-use Rattle.std.proofs.Common.{◌≡◌, ℕ, zero, suc, ◌+◌, ◌-◌, ◌≤◌, List, [], ◌∷◌, ◌++◌, sum_by, refl, sym, ap, ◌∙◌, subst, arith}
+use Rattle.std.proofs.Common.{◌≡◌, ℕ, zero, suc, ◌+◌, ◌-◌, ◌<◌, ◌≤◌, List, [], ◌∷◌, ◌++◌, length, take, get_or, All, sum_by, refl, sym, ap, ◌∙◌, subst, arith}
 use Rattle.std.specs.List.{range_with_len}
+use Rattle.std.proofs.lemmas.List.Elements.{All-more, All-weaker}
 use Rattle.std.proofs.lemmas.List.Sums.{sum_by_push, sum_by-cons}
 
 pub range_more : (a n : ℕ) → range_with_len a (suc n) ≡ range_with_len a n ++ (a + n) ∷ []
@@ -27,3 +28,8 @@ sum_of_sums f g (k ∷ ks) = omega (arith, sum_by-cons (λ j. f j + g j) k ks, s
 pub sum_alike : (f g : ℕ → ℕ) (ks : List ℕ) → ((k : ℕ) → f k ≡ g k) → sum_by f ks ≡ sum_by g ks
 sum_alike f g [] same = refl
 sum_alike f g (k ∷ ks) same = omega (arith, sum_by-cons f k ks, sum_by-cons g k ks, sum_alike f g ks same, same k)
+
+-- one more number that is not above a bound
+pub bound_more : (f : ℕ → ℕ) (xs : List ℕ) (i old new : ℕ) → i < length xs → All (λ n. f n ≤ old) (take i xs) → old ≤ new → f (get_or xs i 0) ≤ new → All (λ n. f n ≤ new) (take (i + 1) xs)
+bound_more f xs i old new inside each more here =
+    All-more (λ n. f n ≤ new) xs i 0 inside (All-weaker (λ n. f n ≤ old) (λ n. f n ≤ new) (λ n low. omega (arith, low, more)) (take i xs) each) here

@@ -51,7 +51,7 @@ variables_in P xs f (q ∷ m) has x some = elim (cases_eq x q.0) as (λ _. IsAmo
 only_one : (c x : ℕ) → Contains (c ∷ []) x → c ≡ x
 only_one c x has = elim (contains_cases c [] x has) as (λ _. c ≡ x) [ inl here ↦ here | inr later ↦ absurd (contains_none x later) ]
 
-nodes_of_child : (ns : List Node) (id c x : ℕ) (n : Node) → IsNodeAt ns id n → Contains (children n) c → IsNodeOf ns (c ∷ []) x → IsNodeOf ns (id ∷ []) x
+pub nodes_of_child : (ns : List Node) (id c x : ℕ) (n : Node) → IsNodeAt ns id n → Contains (children n) c → IsNodeOf ns (c ∷ []) x → IsNodeOf ns (id ∷ []) x
 nodes_of_child ns id c x n at has (listed is) = subst (IsNodeOf ns (id ∷ [])) (only_one c x is) (child n (listed (0, omega arith, refl)) at has)
 nodes_of_child ns id c x n at has (child m of there is) = child m (nodes_of_child ns id c _ n at has of) there is
 nodes_of_child ns id c x n at has (first d a b of there e) = first d a b (nodes_of_child ns id c _ n at has of) there e
@@ -59,7 +59,7 @@ nodes_of_child ns id c x n at has (second d a b of there e) = second d a b (node
 
 -- ---- monomials
 
-abbrev Listed : ℕ → List ℕ → Terms → Type 0
+abbrev pub Listed : ℕ → List ℕ → Terms → Type 0
 Listed d xs ts = AllByRecursion (λ t. Contains (monomials d xs) t.1) ts
 
 terms_listed : (P : ℕ → Type 0) (d : ℕ) (xs : List ℕ) → IsStrictlyIncreasing xs → ((x : ℕ) → P x → Contains xs x) → (ts : Terms)
@@ -107,7 +107,7 @@ module _ (p : ℕ) (nodes : List Node) (table : IsTable nodes) (xs : List ℕ) (
       (poly_at nodes c) (poly_at-variables nodes p c table field)
       (low_more (degree_at nodes c) (degree_at nodes id) (poly_at nodes c) low (within_degree (degree_at nodes c) (poly_at nodes c) (poly_at-bounded nodes p c table field).0))
 
-  difference_listed : Listed (degree_at nodes id) xs (difference_of p nodes (node_at nodes id))
+  pub difference_listed : Listed (degree_at nodes id) xs (difference_of p nodes (node_at nodes id))
   difference_listed =
       let h = has_sides p nodes id table is in
       subst (Listed (degree_at nodes id) xs) (sym (difference_is p nodes id h.left h.right table h.at h.sides))

@@ -2,7 +2,7 @@
 ghost use Rattle.std.specs.Prelude.{◌≡◌, ℕ, ◌+◌, ◌<◌, ◌≤◌, ◌^◌, ◌++◌, length, map, All, IfOk, OnOk};
 ghost use Rattle.std.specs.List.{range_with_len};
 ghost use Rattle.ffc_bounds.specs.Combinations.{literals_of, degrees_of};
-ghost use Rattle.ffc_combination.specs.Choices.{HasParts};
+ghost use Rattle.ffc_combination.specs.Choices.{HasParts, IsGreatestDegree, constants_at, constants_if};
 ghost use Rattle.ffc_combination.specs.Forced.{IsLow};
 ghost use Rattle.ffc_term.specs.Measuring.{degree_at};
 
@@ -19,6 +19,10 @@ pub(crate) struct Choice {
     pub(crate) variables: Vec<u32>,
     /// The greatest of the degrees, and 0 where there is none.
     pub(crate) greatest: u32,
+    /// How many of the variables, from the first on, are constants to be solved for, where the check is flat.
+    pub(crate) constants: Option<usize>,
+    /// The lowest degree at which they are: the greatest one of a disequation, and 0 where there is none.
+    pub(crate) lowest: u32,
 }
 
 /// Appends the literals of these nodes with one truth value.
@@ -114,23 +118,49 @@ fn greatest(numbers: &[u32]) -> u32
     greatest
 }
 
+/// The greatest degree of these nodes, and 0 where there is none.
+pub(crate) fn greatest_degree(table: &NodeTable, ids: &[NodeId]) -> u32
+    requires { All (IsLow table.now) ids.now }
+    ensures { IsGreatestDegree table.now ids.now result }
+{
+    let mut greatest = 0;
+    for id in ids {
+        let degree = table.degree(*id) as u32;
+        if degree > greatest {
+            greatest = degree;
+        }
+    }
+    greatest
+}
+
+/// How many constants there are to be solved for in a check with these variables, where it is flat.
+fn constants_if(flat: bool, variables: &[u32]) -> Option<usize>
+    ensures { result ≡ constants_if flat variables.now }
+{
+    if flat { Some(variables.len()) } else { None }
+}
+
 impl Choice {
-    /// The choice of these equalities that are forced, and of these whose negations are.
+    /// The choice of these equalities that are forced, and of these whose negations are. In a flat check the variables are the
+    /// constants.
     pub(crate) fn of(
         alloc: Global,
         table: &NodeTable,
         variables: &[u32],
+        flat: bool,
+        lowest: u32,
         equal: &[NodeId],
         unequal: &[NodeId],
     ) -> Result<Choice, AllocError>
         requires equal { All (IsLow table.now) equal.now }
         requires unequal { All (IsLow table.now) unequal.now }
         requires few { length equal.now + length unequal.now ≤ 2097152 }
-        ensures { IfOk result (HasParts table.now variables.now equal.now unequal.now) }
+        ensures { IfOk result (HasParts table.now variables.now equal.now unequal.now flat lowest) }
     {
         let literals = literals_of(alloc, equal, unequal)?;
         let degrees = degrees_of(alloc, table, equal, unequal)?;
         let first = table.len() + equal.len() as u32;
+        let constants = constants_if(flat, variables);
         let variables = with_range(alloc, variables, first, unequal.len() as u32)?;
         let greatest = greatest(degrees.as_slice());
         Ok(Choice {
@@ -138,6 +168,19 @@ impl Choice {
             degrees,
             variables,
             greatest,
+            constants,
+            lowest,
         })
+    }
+
+    /// How many constants are to be solved for at a degree.
+    pub(crate) fn constants_at(&self, degree: u32) -> Option<usize>
+        ensures { result ≡ constants_at degree self.now }
+    {
+        if degree < self.lowest {
+            None
+        } else {
+            self.constants
+        }
     }
 }

@@ -70,7 +70,7 @@ fn minus<F: Field>(left: &Generator<F>, right: &Generator<F>) -> Result<Generato
 }
 
 /// One side of an equality minus the other. Polynomials of nodes that were made before are not made again.
-fn difference_of<F: Field>(
+pub(crate) fn difference_of<F: Field>(
     polynomials: &mut Polynomials<'_, F, GradedReverseLex>,
     table: &NodeTable,
     id: NodeId,

@@ -1,13 +1,21 @@
-//! The equalities that are forced, and those whose negations are.
-ghost use Rattle.std.specs.Prelude.{◌≡◌, ℕ, ◌<◌, false, length, filter, slice_index_or, All, IfOk};
+//! The equalities that are forced, those whose negations are, the variables, and whether a check is flat.
+ghost use Rattle.std.specs.Prelude.{◌≡◌, ℕ, ◌<◌, true, false, if◌then◌else◌, length, filter, slice_index_or, All, IfOk};
+ghost use Rattle.std.specs.List.{list_all};
+ghost use Rattle.ffc_bounds.specs.Conjunctions.{is_field_ite};
+ghost use Rattle.ffc_check.specs.Judged.{judged_check};
 ghost use Rattle.ffc_clause.specs.Clauses.{is_among};
+ghost use Rattle.ffc_combination.specs.Flat.{is_flat};
 ghost use Rattle.ffc_combination.specs.Forced.{is_forced_equality};
 ghost use Rattle.ffc_rules.specs.Cones.{is_equality};
+ghost use Rattle.ffc_rules.specs.Laws.{IsValid};
 ghost use Rattle.ffc_term.specs.Nodes.{node_at};
 ghost use Rattle.ffc_trees.specs.NodePolynomials.{is_variable};
+ghost use Rattle.ffc_trials.specs.Parts.{IsConeOf};
 
 use ffc_cert::Literal;
-use ffc_term::{Node, NodeId, NodeTable};
+use ffc_conjunction::Conjunction;
+use ffc_term::{Check, Node, NodeId, NodeTable};
+use ffc_trials::Cone;
 use std::alloc::{AllocError, Global};
 
 /// For each node below a number whether its literal with this truth value is among some.
@@ -79,4 +87,37 @@ pub(crate) fn variables_among(
         }
     }
     Ok(found)
+}
+
+fn is_field_ite(node: &Node) -> bool
+    ensures { result ≡ is_field_ite node.now }
+{
+    matches!(node, Node::IteField(..))
+}
+
+/// Whether no node among these is an `ite` of field sort.
+fn have_no_ite(table: &NodeTable, nodes: &[NodeId]) -> bool
+    requires { All (λ id. id < length table.now) nodes.now }
+    ensures { result ≡ list_all (λ id. if is_field_ite (node_at table.now id) then false else true) nodes.now }
+{
+    for id in nodes {
+        if is_field_ite(table.node(*id)) {
+            return false;
+        }
+    }
+    true
+}
+
+/// Whether a check is a conjunction of equations and disequations without `ite` of field sort.
+pub(crate) fn is_flat(alloc: Global, check: &Check, cone: &Cone) -> Result<bool, AllocError>
+    requires valid { IsValid (judged_check check.now) }
+    requires cone { IsConeOf (judged_check check.now) cone.now }
+    ensures { IfOk result (λ flat. flat ≡ is_flat (judged_check check.now)) }
+{
+    let nodes = cone.nodes.as_slice();
+    if !have_no_ite(check.table, nodes) {
+        return Ok(false);
+    }
+    let found = Conjunction::of(alloc, check, nodes)?;
+    Ok(found.is_some())
 }

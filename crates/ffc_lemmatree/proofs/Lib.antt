@@ -7,6 +7,7 @@ pub mod Lines
 pub mod OneVariable
 pub mod Polynomials
 pub mod Readable
+pub mod Schemes
 pub mod Refuting
 pub mod Steps
 pub mod Texts

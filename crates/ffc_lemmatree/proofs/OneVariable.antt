@@ -238,7 +238,7 @@ module _ {F : Type 0} (c : NodeCheck) (p : ℕ) (reasons : List Reason) (nodes x
         let all = size in
         roots_lines_bounded p x wide (omega arith) first (omega arith) is.others numbers refl above (omega arith) (omega arith) positive unequal g last next_number roots cases.items low narrow (omega arith) ends normal
 
-    bounded : AreBounded 18000000 (single_tree p x nodes (length equations) (length disequations) start steps end)
+    bounded : AreBounded 31000000 (single_tree p x nodes (length equations) (length disequations) start steps end)
     bounded =
         let count : ℕ = length equations + length disequations in
         let last : ℕ = last_divisor start count (length steps) in
@@ -248,7 +248,7 @@ module _ {F : Type 0} (c : NodeCheck) (p : ℕ) (reasons : List Reason) (nodes x
         let all = size in
         let start_there : start < length first = (equal start is.first is.first_at).there in
         let low : length is.divisor ≤ 256 = last_is_low p is.polynomials is.euclid (equal start is.first is.first_at).low in
-        more_bounded (38969 * length steps + 6500000) 18000000 (single_tree p x nodes (length equations) (length disequations) start steps end) (omega arith)
+        more_bounded (38969 * length steps + 6500000) 31000000 (single_tree p x nodes (length equations) (length disequations) start steps end) (omega arith)
         (both_bounded (38969 * length steps) 6500000 (euclid_lines x start count steps) (ending_lines p last next_number numbers end)
         (euclid_bounded p x wide (omega arith) first (omega arith) is.polynomials equal start count is.euclid (recursion_from_All (IsNormalStep p) steps normal_steps) (omega arith) (omega arith))
         (ending_bounded end is.divisor last is.end_is normal_end low (last_low start count (length steps) (omega arith) (omega arith))))

@@ -18,8 +18,9 @@ use Rattle.ffc_refutation.specs.declared.reason.Reason.TheVariants as reason
 use Rattle.ffc_refutation.specs.Forcing.{line_of}
 use Rattle.ffc_refutation.specs.Given.{AreReadable}
 use Rattle.ffc_refutation.specs.Written.{empty_by}
-use Rattle.ffc_refutation.proofs.Texts.{number_short, reasons_short, empty_short, lemma_short}
+use Rattle.ffc_refutation.proofs.Texts.{number_short, lemma_short}
 use Rattle.ffc_lemmatree.specs.Written.{refutation_lines}
+use Rattle.ffc_lemmatree.proofs.Schemes.{HasLowScheme, reasons_short, empty_short}
 
 pub all_append : {A : Type 0} (P : A → Type 0) (xs ys : List A) → AllByRecursion P xs → AllByRecursion P ys → AllByRecursion P (xs ++ ys)
 all_append P [] ys all rest = rest
@@ -77,10 +78,10 @@ readable_by lines few order ranges fits text =
     record { well_formed = record { few = omega arith; order = order; ranges = ranges; fits = fits }; short = omega arith }
 
 pub tree_readable : (rs : List Reason) (p : ℕ) (lits : List Literal) (tree : List CertLine) → length rs ≤ 1048577 → length lits ≤ 8192 → IsWide p
-    → AllByRecursion (λ r. IsLine (line_of r)) rs → AllByRecursion (λ l. IsNarrow l.1) lits
-    → ((rest : List CertLine) → IsTree (tree ++ rest) rest) → AllByRecursion IsLine tree → AllByRecursion (LineFitsVersion 2) tree → length (flat_map line_text tree) ≤ 18000000
+    → AllByRecursion (λ r. IsLine (line_of r)) rs → AllByRecursion HasLowScheme rs → AllByRecursion (λ l. IsNarrow l.1) lits
+    → ((rest : List CertLine) → IsTree (tree ++ rest) rest) → AllByRecursion IsLine tree → AllByRecursion (LineFitsVersion 2) tree → length (flat_map line_text tree) ≤ 31000000
     → AreReadable (refutation_lines rs p lits tree)
-tree_readable rs p lits tree few few_lits wide all numbered is ranges fits short =
+tree_readable rs p lits tree few few_lits wide all low numbered is ranges fits short =
     let n : ℕ = length rs + 1 in
     let last : List CertLine = empty_by n ∷ [] in
     let rest : List CertLine = Lemma (Some p) lits ∷ (tree ++ last) in
@@ -92,7 +93,7 @@ tree_readable rs p lits tree few few_lits wide all numbered is ranges fits short
     ap length (flat_map-append line_text (map line_of rs) rest) ∙ length-append (flat_map line_text (map line_of rs)) (flat_map line_text rest)
     ∙ ap (λ k. length (flat_map line_text (map line_of rs)) + k) (length-append (line_text (Lemma (Some p) lits)) (flat_map line_text (tree ++ last))
     ∙ ap (λ k. length (line_text (Lemma (Some p) lits)) + k) (ap length (flat_map-append line_text tree last) ∙ length-append (flat_map line_text tree) (line_text (empty_by n) ++ []) ∙ ap (λ xs. length (flat_map line_text tree) + length xs) (append-nil (line_text (empty_by n))))) in
-    let front = reasons_short rs all in
+    let front = reasons_short rs all low in
     let clause_text = lemma_short p lits wide (omega arith) numbered in
     let empty = empty_short n (omega arith) in
     readable_by (refutation_lines rs p lits tree) (omega arith)

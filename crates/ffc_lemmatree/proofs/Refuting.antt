@@ -31,6 +31,7 @@ use Rattle.ffc_lemmatree.specs.Trees.{IsRefutedByTree}
 use Rattle.ffc_lemmatree.specs.Written.{refutation_lines}
 use Rattle.ffc_lemmatree.proofs.Grammar.{tree_by_closing, no_clause, no_clause_fits}
 use Rattle.ffc_lemmatree.proofs.Readable.{tree_readable}
+use Rattle.ffc_lemmatree.proofs.Schemes.{forcing_is_low}
 
 refutes_right : (c : NodeCheck) (lines : List CertLine) → Refutes limits c lines → AreRight c lines
 refutes_right c lines r line = (refutations_kept limits c lines line).1 r
@@ -71,7 +72,7 @@ module _ (c : NodeCheck) (reasons : List Reason) (p : ℕ) (lits : List Literal)
 
   pub refuted_readable : length reasons ≤ 1048577 → length lits ≤ 8192 → AllByRecursion (λ r. IsLine (line_of r)) reasons → AllByRecursion (λ l. IsNarrow l.1) lits → AreReadable (refutation_lines reasons p lits tree)
   refuted_readable few few_lits lines literals =
-      tree_readable reasons p lits tree few few_lits (order_below p (order_good p is.lemma.order)) lines literals
+      tree_readable reasons p lits tree few few_lits (order_below p (order_good p is.lemma.order)) lines (forcing_is_low c is.forces) literals
       (λ rest. tree_by_closing tree_limits p (first_lines c.nodes p lits) (tree ++ rest) rest (is.closes rest))
       (recursion_from_All IsLine tree is.ranges)
       (no_clause_fits tree (no_clause tree_limits p (first_lines c.nodes p lits) tree (is.closes [])))

@@ -20,7 +20,7 @@ use Rattle.ffc_lemmatree.proofs.Chains.{normal_below}
 
 -- ---- lists that are written after their count
 
-each_short : {A : Type 0} (f : A → List ℕ) (bound : ℕ) (xs : List A) → AllByRecursion (λ x. length (f x) ≤ bound) xs → length (flat_map f xs) ≤ bound * length xs
+pub each_short : {A : Type 0} (f : A → List ℕ) (bound : ℕ) (xs : List A) → AllByRecursion (λ x. length (f x) ≤ bound) xs → length (flat_map f xs) ≤ bound * length xs
 each_short f bound [] all = omega arith
 each_short f bound (x ∷ xs) all =
     let rest : length (flat_map f xs) ≤ bound * length xs = each_short f bound xs all.1 in
@@ -28,7 +28,7 @@ each_short f bound (x ∷ xs) all =
     let times : bound * suc (length xs) ≡ bound * length xs + bound = mul-suc bound (length xs) in
     omega (arith, all.0)
 
-length-counted : {A : Type 0} (f : A → List ℕ) (xs : List A) → length (counted f xs) ≡ length (number (length xs)) + length (flat_map f xs)
+pub length-counted : {A : Type 0} (f : A → List ℕ) (xs : List A) → length (counted f xs) ≡ length (number (length xs)) + length (flat_map f xs)
 unfolding counted
 length-counted f xs = length-append (number (length xs)) (flat_map f xs)
 

@@ -21,4 +21,4 @@ pub record IsRefutedByTree (c : NodeCheck) (reasons : List Reason) (p : ℕ) (li
   pub lemma : IsFalseLemma c p forced lits
   pub closes : (rest : List CertLine) → Closes limits p (first_lines c.nodes p lits) (tree ++ rest) rest
   pub ranges : All IsLine tree
-  pub short : length (flat_map line_text tree) ≤ 18000000
+  pub short : length (flat_map line_text tree) ≤ 31000000

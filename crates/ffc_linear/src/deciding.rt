@@ -29,10 +29,11 @@ use ffc_term::{Check, NodeId};
 use ffc_trials::{Cone, field_order};
 use std::alloc::{AllocError, Global};
 
-/// What is found of a check by linear algebra.
+/// What an attempt with a bound finds of a check. `linear` leaves just the checks undecided that are not linear within the units
+/// that are left, and then takes none; of the others a clause says which checks they do not leave undecided.
 #[derive(Drop)]
 pub enum LinearAnswer {
-    /// The check is not linear within the units that are left. None was taken.
+    /// The check is left undecided.
     Undecided,
     /// Values of its field constants, in increasing order of their nodes, with which all assertions are true.
     Values(Vec<(NodeId, u64)>),

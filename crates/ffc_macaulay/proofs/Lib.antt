@@ -5,3 +5,7 @@ pub mod WeightLemmas
 pub mod LineLemmas
 pub mod MatrixLemmas
 pub mod RefutingLemmas
+pub mod SpanLemmas
+pub mod SolvingLemmas
+pub mod ZipLemmas
+pub mod ConstantLemmas

@@ -167,7 +167,7 @@ product_listed d a b (x ∷ xs) m n low left right =
 -- ---- each such monomial is there
 
 -- the variables increase from a number on
-abbrev Ascends : ℕ → List ℕ → Type 0
+abbrev pub Ascends : ℕ → List ℕ → Type 0
 Ascends low [] = Unit {0}
 Ascends low (x ∷ xs) = (low ≤ x) × Ascends (suc x) xs
 
@@ -179,11 +179,11 @@ ascends_after x (y ∷ ys) h =
     subst (λ i. slice_index (y ∷ ys) k < slice_index (x ∷ y ∷ ys) i) (let e : suc k + 1 ≡ suc (k + 1) = omega arith in e) (h (suc k) (omega arith)) in
     (omega arith, ascends_after y ys later)
 
-ascends : (xs : List ℕ) → IsStrictlyIncreasing xs → Ascends 0 xs
+pub ascends : (xs : List ℕ) → IsStrictlyIncreasing xs → Ascends 0 xs
 ascends [] h = tt
 ascends (x ∷ xs) h = (omega arith, ascends_after x xs h)
 
-among_above : (low : ℕ) (xs : List ℕ) (y : ℕ) → Ascends low xs → IsAmong xs y → low ≤ y
+pub among_above : (low : ℕ) (xs : List ℕ) (y : ℕ) → Ascends low xs → IsAmong xs y → low ≤ y
 among_above low [] y h among = absurd among
 among_above low (x ∷ xs) y h among = elim among [
   | inl same ↦ omega (arith, same, h.0)

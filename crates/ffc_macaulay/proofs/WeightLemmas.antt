@@ -20,7 +20,7 @@ one_past g place c (suc n) past =
     let none : coordinate ((place, c) ∷ []) n * g n ≡ 0 = ap (λ x. x * g n) (coordinate-there (place, c) [] n (λ same. omega arith)) ∙ omega arith in
     omega (arith, before, none)
 
-one_inside : (g : ℕ → ℕ) (place c n : ℕ) → place < n → product_below g (λ k. coordinate ((place, c) ∷ []) k) n ≡ c * g place
+pub one_inside : (g : ℕ → ℕ) (place c n : ℕ) → place < n → product_below g (λ k. coordinate ((place, c) ∷ []) k) n ≡ c * g place
 one_inside g place c zero within = absurd (omega arith)
 one_inside g place c (suc n) within = elim (cases_eq place n) [
   | inl same ↦

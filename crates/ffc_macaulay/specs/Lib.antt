@@ -4,3 +4,6 @@ pub mod Identities
 pub mod Refuting
 pub mod Units
 pub mod Rows
+pub mod Finding
+pub mod Solutions
+pub mod Solving

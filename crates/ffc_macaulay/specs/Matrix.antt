@@ -53,10 +53,8 @@ abbrev pub AreRows : ℕ → List Monomial → List Terms → List (ℕ × Monom
 AreRows p columns generators multiples rows =
     AllZip (λ m v. IsRow p columns (slice_index_or generators m.0 []) m.1 v) multiples rows
 
--- the matrix; its last column is that of 1
-pub record IsMatrix (p d : ℕ) (xs degrees : List ℕ) (generators : List Terms) (count : ℕ) (multiples : List (ℕ × Monomial)) (rows : List Coordinates) : Type 0 where
-  pub unknowns : List Monomial
-  pub count_is : count ≡ length unknowns
+-- the matrix; its columns are those of the unknowns and, last, that of 1
+pub record IsMatrix (p d : ℕ) (xs degrees : List ℕ) (generators : List Terms) (unknowns : List Monomial) (multiples : List (ℕ × Monomial)) (rows : List Coordinates) : Type 0 where
   pub unknowns_are : AreUnknowns 0 (monomials d xs) unknowns
   pub multiples_are : multiples ≡ multiples_from d xs 0 degrees
   pub rows_are : AreRows p (unknowns ++ [] ∷ []) generators multiples rows

@@ -2,7 +2,9 @@
 ghost use Rattle.std.specs.Prelude.{◌≡◌, ◌+◌, ◌≤◌, ◌<◌, [], ◌∷◌, ◌++◌, All, Contains, length, slice_index_or, IfOk, OnOk};
 ghost use Rattle.ffc_ring.specs.Monomial.{degree};
 ghost use Rattle.ffc_macaulay.specs.Matrix.{AddsOfDegree, AreUnknowns};
+ghost use Rattle.ffc_macaulay.specs.Solving.{IsColumnOf};
 
+use crate::monomials::power;
 use ffc_mono::Mono;
 use indexmap::IndexSet;
 use std::alloc::{AllocError, Global};
@@ -59,4 +61,18 @@ pub(crate) fn place_of(unknowns: &IndexSet<Mono>, m: &Mono) -> usize
         Some(place) => place,
         None => unknowns.len(),
     }
+}
+
+/// The column of a variable.
+pub(crate) fn column_of(
+    alloc: Global,
+    unknowns: &IndexSet<Mono>,
+    variable: u32,
+) -> Result<u32, AllocError>
+    requires few { length unknowns.now.keys ≤ 4096 }
+    requires listed { Contains (unknowns.now.keys ++ [] ∷ []) ((variable, 1) ∷ []) }
+    ensures { IfOk result (IsColumnOf unknowns.now.keys variable) }
+{
+    let m = power(alloc, variable, 1)?;
+    Ok(place_of(unknowns, &m) as u32)
 }

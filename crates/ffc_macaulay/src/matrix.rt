@@ -16,10 +16,10 @@ use ffc_poly::Poly;
 use indexmap::IndexSet;
 use std::alloc::{AllocError, Global};
 
-/// The matrix of a degree: how many unknowns there are, and for each row which multiple it is.
+/// The matrix of a degree: the monomials of its columns but the last, and for each row which multiple it is.
 #[derive(Drop)]
 pub(crate) struct Matrix<F: Field> {
-    pub(crate) unknowns: u32,
+    pub(crate) unknowns: IndexSet<Mono>,
     pub(crate) multiples: Vec<Multiple>,
     pub(crate) rows: Vec<Vector<F>>,
 }
@@ -109,14 +109,14 @@ pub(crate) fn matrix_of<F: Field>(
     requires columns { columns degree variables.now ≤ 4096 }
     requires rows { rows degree variables.now degrees.now ≤ 4096 }
     ensures { IfOk result (λ matrix. IsMatrix F.ORDER degree variables.now degrees.now generators.now
-        matrix.unknowns matrix.multiples.items matrix.rows.items) }
+        matrix.unknowns.keys matrix.multiples.items matrix.rows.items) }
 {
     let listed = monomials(alloc, variables, degree)?;
     let unknowns = unknowns(alloc, listed.as_slice(), degree)?;
     let multiples = multiples(alloc, variables, degrees, degree)?;
     let rows = rows(alloc, &unknowns, multiples.as_slice(), generators)?;
     Ok(Matrix {
-        unknowns: unknowns.len() as u32,
+        unknowns,
         multiples,
         rows,
     })

@@ -32,7 +32,7 @@ fn with_pairs(alloc: Global, pairs: &[(u32, u32)]) -> Result<Mono, AllocError>
 }
 
 /// A power of a variable.
-fn power(alloc: Global, variable: u32, exponent: u32) -> Result<Mono, AllocError>
+pub(crate) fn power(alloc: Global, variable: u32, exponent: u32) -> Result<Mono, AllocError>
     requires { exponent ≤ 1024 }
     ensures { IfOk result (λ m. m ≡ power variable exponent) }
 {

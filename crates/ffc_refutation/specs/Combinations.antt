@@ -2,11 +2,11 @@
 -- a constant other than 0.
 use Rattle.std.specs.Prelude.{◌≡◌, ℕ, ◌<◌, ◌≤◌, true, List, [], ◌∷◌, ◌++◌, All, Contains, length}
 use Rattle.ffc_ring.specs.Monomial.{Monomial, IsMonomial, degree, mono_mul}
-use Rattle.ffc_ring.specs.Polynomial.{Terms, SamePolynomial, term_product}
+use Rattle.ffc_ring.specs.Polynomial.{Terms, SamePolynomial, difference, term_product}
 use Rattle.ffc_smt.specs.Numbers.{is_order}
 use Rattle.ffc_clause.specs.Clauses.{Literal, negated, is_among}
 use Rattle.ffc_trees.specs.TreeLines.{line_at}
-use Rattle.ffc_trees.specs.NodePolynomials.{constant}
+use Rattle.ffc_trees.specs.NodePolynomials.{constant, variable}
 use Rattle.ffc_trees.specs.FirstLines.{first_lines}
 use Rattle.ffc_rules.specs.Entries.{NodeCheck, limits, is_equality_at, is_within}
 use Rattle.ffc_refutation.specs.declared.reason.Reason.{Reason}
@@ -45,6 +45,15 @@ pub record IsNonzeroConstant (p : ℕ) (lines : List Terms) (summands : List Sum
   pub nonzero : 0 < value
   pub residue : value < p
   pub sum : SamePolynomial p (sum_of lines summands) (constant value)
+
+-- multiples of lines, within the limits of sums, that sum to a variable less a residue
+pub record IsDetermined (p : ℕ) (lines : List Terms) (x value : ℕ) (summands : List Summand) : Type 0 where
+  pub monomials : List Monomial
+  pub few : length monomials ≤ 65536
+  pub low : All (λ m. degree m ≤ 1024) monomials
+  pub each : All (IsSummand p lines monomials) summands
+  pub residue : value < p
+  pub sum : SamePolynomial p (sum_of lines summands) (difference p (variable x) (constant value))
 
 -- equalities of one order within the limits, and literals on them that are false where others are forced
 pub record IsFalseLemma (c : NodeCheck) (p : ℕ) (forced lits : List Literal) : Type 0 where

@@ -13,6 +13,13 @@ use std::mem;
 /// The number of a lemma's first line, and the term that it is multiplied by.
 pub type Summand = (u32, Term);
 
+/// The value of a variable, and the multiples of a lemma's first lines that sum to the variable less it.
+#[derive(Drop)]
+pub struct Determined {
+    pub value: u64,
+    pub summands: Vec<Summand>,
+}
+
 /// How many multiples a sum has at most: few enough for the checker's limit on products, also where the first one is the whole of
 /// the sum before.
 const MOST_MULTIPLES: usize = 448;

@@ -8,6 +8,6 @@ mod narrow;
 mod reason;
 mod refutation;
 
-pub use combination::Summand;
+pub use combination::{Determined, Summand};
 pub use reason::Reason;
 pub use refutation::{by_combination, by_conflict};

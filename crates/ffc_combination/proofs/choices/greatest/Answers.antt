@@ -1,12 +1,9 @@
-use Rattle.std.proofs.Common.{ℕ, ◌+◌, ◌<◌, ◌≤◌, List, length, take, get_or, All, subst, arith}
+use Rattle.std.proofs.Common.{ℕ, ◌≤◌, get_or, All, subst, arith}
 use Rattle.std.proofs.lemmas.List.{take_all}
-use Rattle.std.proofs.lemmas.List.Elements.{All-more, All-weaker, All-get_or}
+use Rattle.std.proofs.lemmas.List.Elements.{All-get_or}
+use Rattle.ffc_combination.proofs.RangeLemmas.{bound_more}
 use Rattle.ffc_combination.proofs.choices.greatest.Goals as goal
 use Rattle.ffc_combination.proofs.choices.greatest.Goals.{then-number-greatest, else-number-greatest}
-
-bound_more : (xs : List ℕ) (i old new : ℕ) → i < length xs → All (λ n. n ≤ old) (take i xs) → old ≤ new → get_or xs i 0 ≤ new → All (λ n. n ≤ new) (take (i + 1) xs)
-bound_more xs i old new inside each more here =
-    All-more (λ n. n ≤ new) xs i 0 inside (All-weaker (λ n. n ≤ old) (λ n. n ≤ new) (λ n low. omega (arith, low, more)) (take i xs) each) here
 
 pub loop-number-preserved : goal.loop-number-preserved
 loop-number-preserved c =
@@ -16,8 +13,8 @@ loop-number-preserved c =
     let new = c.if-number-greatest.greatest in
     record {
       bound = elim c.if-number-greatest.branch [
-        | then-number-greatest w ↦ bound_more xs i old new c.loop-number-test.true c.loop-number.invariant.bound (omega (arith, w.greatest-is, w.if-number-greatest.true)) (omega (arith, w.greatest-is))
-        | else-number-greatest w ↦ bound_more xs i old new c.loop-number-test.true c.loop-number.invariant.bound (omega (arith, w.greatest-is)) (omega (arith, w.greatest-is, w.if-number-greatest.false))
+        | then-number-greatest w ↦ bound_more (λ n. n) xs i old new c.loop-number-test.true c.loop-number.invariant.bound (omega (arith, w.greatest-is, w.if-number-greatest.true)) (omega (arith, w.greatest-is))
+        | else-number-greatest w ↦ bound_more (λ n. n) xs i old new c.loop-number-test.true c.loop-number.invariant.bound (omega (arith, w.greatest-is)) (omega (arith, w.greatest-is, w.if-number-greatest.false))
       ];
       least = λ m all. elim c.if-number-greatest.branch [
         | then-number-greatest w ↦ let here : get_or xs i 0 ≤ m = All-get_or (λ n. n ≤ m) xs i 0 c.loop-number-test.true all in omega (arith, w.greatest-is, here)

@@ -8,5 +8,5 @@ abbrev pub invariant-loop-degree : goal.invariant-loop-degree
 invariant-loop-degree g l = record {
   equations : AreKnown g.F.Field.ORDER (first_lines l.check.table.now g.F.Field.ORDER l.choices.equations.literals.items) l.known.equations.items;
   all : AreKnownIfSome g.F.Field.ORDER l.check.table.now l.choices.all l.known.all.items;
-  searched : IsSearched g.F.Field.ORDER l.check.table.now l.choices l.degree l.fn.meter l.meter;
+  searched : IsSearched g.F.Field.ORDER l.check.table.now l.choices 2 l.degree l.fn.meter l.meter;
 }

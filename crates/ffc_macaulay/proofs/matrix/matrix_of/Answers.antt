@@ -35,12 +35,3 @@ rows-requires-clause-fits g c =
     let are : AreUnknowns 0 (monomials d xs) keys = subst (λ ms. AreUnknowns 0 ms keys) (c.as_slice.ensures.value ∙ c.in_ok-listed.ensures) c.in_ok-unknowns.ensures in
     subst (All (IsUsable (keys ++ [] ∷ []) c.args.generators.now)) (sym (c.as_slice-2.ensures.value ∙ c.in_ok-multiples.ensures))
     (all_usable d xs c.args.degrees.now c.args.generators.now c.requires.generators keys c.requires.limit are.above)
-
-pub overflow_cast-result : goal.overflow_cast-result
-overflow_cast-result g c =
-    let d = c.args.degree in
-    let xs = c.args.variables.now in
-    let keys = c.in_ok-unknowns.unknowns.keys in
-    let are : AreUnknowns 0 (monomials d xs) keys = subst (λ ms. AreUnknowns 0 ms keys) (c.as_slice.ensures.value ∙ c.in_ok-listed.ensures) c.in_ok-unknowns.ensures in
-    let few = few_unknowns d xs keys are in
-    omega (arith, few, c.requires.columns, c.len.ensures.len)

@@ -1,0 +1,9 @@
+pub mod Division
+pub mod Steps
+pub mod Adding
+pub mod Within
+pub mod Last
+pub mod Knowns
+pub mod Texts
+pub mod Counts
+pub mod Refutation
