@@ -1,5 +1,7 @@
--- What is answered to a check that may be flat.
-use Rattle.std.specs.Prelude.{◌≡◌, ℕ}
+-- What is answered to a check by what its clauses force.
+use Rattle.std.specs.Prelude.{◌≡◌, ℕ, map}
+use Rattle.ffc_bounds.specs.Combinations.{IsRefutedByCombination, IsSolvedByCombination}
+use Rattle.ffc_bounds.specs.Conjunctions.{field_constants}
 use Rattle.ffc_bounds.specs.Forced.{IsRefutedByForcing}
 use Rattle.ffc_linear.specs.declared.deciding.LinearAnswer.{LinearAnswer}
 use Rattle.ffc_linear.specs.declared.deciding.LinearAnswer.TheVariants.{Undecided, Values, Refuted}
@@ -7,12 +9,18 @@ use Rattle.ffc_refutation.specs.Given.{AreReadable, AreRight}
 use Rattle.ffc_rules.specs.Entries.{NodeCheck}
 use Rattle.ffc_trials.specs.Known.{AreModelValuesOf}
 
--- the values make all assertions true, or the refutation may be given
+-- the values are those of just the field constants and make all assertions true, or the refutation may be given
 abbrev pub IsRightAnswer : NodeCheck → LinearAnswer → Type 0
 IsRightAnswer c Undecided = Unit {0}
-IsRightAnswer c (Values pairs) = AreModelValuesOf c pairs.items
+IsRightAnswer c (Values pairs) = (map (λ p. p.0) pairs.items ≡ field_constants c.nodes c.in_force) × AreModelValuesOf c pairs.items
 IsRightAnswer c (Refuted lines) = AreReadable lines × AreRight c lines
 
--- A check is left undecided only where propagation does not refute it within these units.
+-- within so many units neither propagation nor a combination decides the check
+pub record IsBeyondFlat (units : ℕ) (c : NodeCheck) : Type 0 where
+  pub not_forced : IsRefutedByForcing units c → ⊥
+  pub not_refuted : IsRefutedByCombination units c → ⊥
+  pub not_solved : IsSolvedByCombination units c → ⊥
+
+-- an answer is right, and leaves only such checks undecided
 abbrev pub IsFlatAnswer : NodeCheck → ℕ → LinearAnswer → Type 0
-IsFlatAnswer c units answer = IsRightAnswer c answer × (answer ≡ Undecided → IsRefutedByForcing units c → ⊥)
+IsFlatAnswer c units answer = IsRightAnswer c answer × (answer ≡ Undecided → IsBeyondFlat units c)

@@ -4,7 +4,7 @@ use Rattle.std.specs.List.{list_all, list_any}
 use Rattle.std.proofs.lemmas.Bool.{false≢true, cases_Bool}
 use Rattle.std.proofs.lemmas.Bool.Decides.{nat_tests}
 use Rattle.ffc_field.specs.declared.id.FieldId.{FieldId}
-use Rattle.ffc_theory.specs.Bounds.{IsBeyondBounds, IsBoundedAnswer, IsCauseBeyond}
+use Rattle.ffc_theory.specs.Bounds.{IsBeyondBounds, IsBeyondEarly, IsBeyondLate, IsAnswerBeyond, IsCauseBeyond}
 use Rattle.ffc_bounds.specs.Conjunctions.{is_conjunction, has_no_ite, has_one_order}
 use Rattle.ffc_bounds.specs.Linear.{is_affine, is_linear, is_linear_within}
 use Rattle.ffc_bounds.specs.Forced.{IsRefutedByForcing}
@@ -12,6 +12,7 @@ use Rattle.ffc_flat.specs.Answering.{IsRightAnswer}
 use Rattle.ffc_linear.specs.declared.deciding.LinearAnswer.{LinearAnswer}
 use Rattle.ffc_linear.specs.declared.deciding.LinearAnswer.TheVariants.{Undecided}
 use Rattle.ffc_single.specs.Bounds.{IsDecidedSingle}
+use Rattle.ffc_rules.specs.Causes.{passes_degree, passes_length}
 use Rattle.ffc_rules.specs.Cones.{atoms}
 use Rattle.ffc_rules.specs.Entries.{NodeCheck, limits}
 use Rattle.ffc_term.specs.Measuring.{degree_at, length_at}
@@ -29,18 +30,29 @@ two_fields_not_linear : (budget : ℕ) (c : NodeCheck) → has_one_order c.nodes
 unfolding is_linear is_linear_within
 two_fields_not_linear budget c two = third_fails (is_conjunction c.nodes c.in_force) (has_no_ite c.nodes c.in_force) (has_one_order c.nodes c.in_force) (is_affine limits c) _ two
 
-two_fields_beyond : (budget : ℕ) (c : NodeCheck) → has_one_order c.nodes c.in_force ≡ false → IsBeyondBounds budget c
-two_fields_beyond budget c two = record {
+two_fields_beyond_early : (budget : ℕ) (c : NodeCheck) → has_one_order c.nodes c.in_force ≡ false → IsBeyondEarly budget c
+two_fields_beyond_early budget c two = record {
   not_linear = two_fields_not_linear budget c two;
   not_forced = λ f. false≢true (sym two ∙ f.one_field);
   not_single = λ f. false≢true (sym two ∙ f.one_field);
 }
 
+two_fields_beyond_late : (budget : ℕ) (c : NodeCheck) → has_one_order c.nodes c.in_force ≡ false → IsBeyondLate budget c
+two_fields_beyond_late budget c two = record {
+  not_refuted = λ f. false≢true (sym two ∙ f.reached.one_field);
+  not_solved = λ f. false≢true (sym two ∙ f.reached.one_field);
+}
+
 -- no bound speaks of a check that is not over one field
-pub no_field_beyond : (budget : ℕ) (c : NodeCheck) (found : Option FieldId) → ((id : FieldId) → found ≡ Some id → ⊥)
-    → IfNone found (has_one_order c.nodes c.in_force ≡ false) → IsBeyondBounds budget c
-no_field_beyond budget c None none two = two_fields_beyond budget c two
-no_field_beyond budget c (Some id) none two = absurd (none id refl)
+pub no_field_beyond_early : (budget : ℕ) (c : NodeCheck) (found : Option FieldId) → ((id : FieldId) → found ≡ Some id → ⊥)
+    → IfNone found (has_one_order c.nodes c.in_force ≡ false) → IsBeyondEarly budget c
+no_field_beyond_early budget c None none two = two_fields_beyond_early budget c two
+no_field_beyond_early budget c (Some id) none two = absurd (none id refl)
+
+pub no_field_beyond_late : (budget : ℕ) (c : NodeCheck) (found : Option FieldId) → ((id : FieldId) → found ≡ Some id → ⊥)
+    → IfNone found (has_one_order c.nodes c.in_force ≡ false) → IsBeyondLate budget c
+no_field_beyond_late budget c None none two = two_fields_beyond_late budget c two
+no_field_beyond_late budget c (Some id) none two = absurd (none id refl)
 
 fourth_fails : (a b c d e : Bool) → d ≡ false → ((a && (b && (c && d))) && e) ≡ false
 fourth_fails a b c true e is = absurd (false≢true (sym is))
@@ -76,24 +88,49 @@ too_long n b long = both_fail b (nat_le n 65536) (grind (arith, nat_tests, long)
     both_fail true b is = is
     both_fail false b is = refl
 
+high_beyond : (budget : ℕ) (c : NodeCheck) → passes_degree limits c ≡ true → IsBeyondBounds budget c
+high_beyond budget c passed = record {
+  early = record {
+    not_linear = not_affine_not_linear budget c (one_fails (λ id. nat_lt 255 (degree_at c.nodes id)) _ (λ id high. too_high (degree_at c.nodes id) (nat_le (length_at c.nodes id) 65536) high) (atoms c.nodes c.in_force) passed);
+    not_forced = λ f. false≢true (sym f.low ∙ passed);
+    not_single = λ f. false≢true (sym f.low ∙ passed);
+  };
+  late = record {
+    not_refuted = λ f. false≢true (sym f.reached.low ∙ passed);
+    not_solved = λ f. false≢true (sym f.reached.low ∙ passed);
+  };
+}
+
+long_beyond : (budget : ℕ) (c : NodeCheck) → passes_length limits c ≡ true → IsBeyondBounds budget c
+long_beyond budget c passed = record {
+  early = record {
+    not_linear = not_affine_not_linear budget c (one_fails (λ id. nat_lt 65536 (length_at c.nodes id)) _ (λ id long. too_long (length_at c.nodes id) (nat_le (degree_at c.nodes id) 1) long) (atoms c.nodes c.in_force) passed);
+    not_forced = λ f. false≢true (sym f.short ∙ passed);
+    not_single = λ f. false≢true (sym f.short ∙ passed);
+  };
+  late = record {
+    not_refuted = λ f. false≢true (sym f.reached.short ∙ passed);
+    not_solved = λ f. false≢true (sym f.reached.short ∙ passed);
+  };
+}
+
 -- no bound speaks of a check with an equality that passes a limit
 pub limit_beyond : (budget : ℕ) (c : NodeCheck) (stop : DecideStop) → IsPassed c stop → IsCauseBeyond budget c (cause_of stop)
 limit_beyond budget c (stops.Spent t r a k) passed = absurd passed
-limit_beyond budget c stops.TooHigh passed = record {
-  not_linear = not_affine_not_linear budget c (one_fails (λ id. nat_lt 255 (degree_at c.nodes id)) _ (λ id high. too_high (degree_at c.nodes id) (nat_le (length_at c.nodes id) 65536) high) (atoms c.nodes c.in_force) passed);
-  not_forced = λ f. false≢true (sym f.low ∙ passed);
-  not_single = λ f. false≢true (sym f.low ∙ passed);
-}
-limit_beyond budget c stops.TooLong passed = record {
-  not_linear = not_affine_not_linear budget c (one_fails (λ id. nat_lt 65536 (length_at c.nodes id)) _ (λ id long. too_long (length_at c.nodes id) (nat_le (degree_at c.nodes id) 1) long) (atoms c.nodes c.in_force) passed.1);
-  not_forced = λ f. false≢true (sym f.short ∙ passed.1);
-  not_single = λ f. false≢true (sym f.short ∙ passed.1);
-}
+limit_beyond budget c stops.TooHigh passed = high_beyond budget c passed
+limit_beyond budget c stops.TooLong passed = long_beyond budget c passed.1
 limit_beyond budget c stops.Memory passed = tt
 
--- where the earlier attempts leave a check, the answer of the last one is bounded
-pub last_is_bounded : {E : Type 0} (budget : ℕ) (c : NodeCheck) (result : Result LinearAnswer E) → is_linear_within limits c budget ≡ false → (IsRefutedByForcing budget c → ⊥)
-    → IfOk result (IsRightAnswer c) → (result ≡ Ok Undecided → IsDecidedSingle budget c → ⊥) → IfOk result (IsBoundedAnswer c budget)
-last_is_bounded budget c (Ok answer) not_linear not_forced right undecided =
+-- a check that no bound speaks of may be left undecided for any cause
+pub beyond_for_any_cause : (budget : ℕ) (c : NodeCheck) (stop : DecideStop) → IsBeyondEarly budget c → IsBeyondLate budget c → IsCauseBeyond budget c (cause_of stop)
+beyond_for_any_cause budget c (stops.Spent t r a k) early late = record { early = early; late = late }
+beyond_for_any_cause budget c stops.TooHigh early late = record { early = early; late = late }
+beyond_for_any_cause budget c stops.TooLong early late = record { early = early; late = late }
+beyond_for_any_cause budget c stops.Memory early late = tt
+
+-- where the earlier attempts leave a check, the answer of the last one is right, or no bound of them speaks of the check
+pub last_is_beyond : {E : Type 0} (budget : ℕ) (c : NodeCheck) (result : Result LinearAnswer E) → is_linear_within limits c budget ≡ false → (IsRefutedByForcing budget c → ⊥)
+    → IfOk result (IsRightAnswer c) → (result ≡ Ok Undecided → IsDecidedSingle budget c → ⊥) → IfOk result (IsAnswerBeyond (IsBeyondEarly budget) c)
+last_is_beyond budget c (Ok answer) not_linear not_forced right undecided =
     (right, λ is. record { not_linear = not_linear; not_forced = not_forced; not_single = undecided (ap Ok is) })
-last_is_bounded budget c (Err e) not_linear not_forced right undecided = tt
+last_is_beyond budget c (Err e) not_linear not_forced right undecided = tt

@@ -1,7 +1,7 @@
 //! Deciding a check.
 ghost use Rattle.std.specs.Prelude.{◌≡◌, ◌+◌, ◌≤◌, true, false, OnOk, IfOk, IfErr, IfSome, IfNone};
 ghost use Rattle.ffc_base.specs.Metering.{total};
-ghost use Rattle.ffc_theory.specs.Bounds.{IsCauseBeyond};
+ghost use Rattle.ffc_theory.specs.Bounds.{IsBeyondEarly, IsCauseBeyond};
 ghost use Rattle.ffc_cert.specs.WellFormed.{IsReadable};
 ghost use Rattle.ffc_rules.specs.Causes.{is_small};
 ghost use Rattle.ffc_rules.specs.Entries.{limits, EntryOk};
@@ -11,7 +11,7 @@ ghost use Rattle.ffc_trials.specs.Parts.{IsConeOf};
 ghost use Rattle.ffc_trials.specs.Stops.{IsCaused, IsGiven, IsWithinLimits, IsVerdict, MayBeDecided};
 ghost use Rattle.ffc_trials.specs.Stops.{SpendsAll, cause_of};
 
-use crate::attempts::decided_within;
+use crate::attempts::{decided_early, decided_late};
 use crate::proposing::proposed;
 use ffc_base::{Meter, Unit};
 use ffc_cert::Entry;
@@ -115,8 +115,31 @@ pub fn decide(alloc: Global, check: &Check, steps: u64) -> Result<Entry, DecideS
     decide_large(alloc, check, &cone, steps)
 }
 
-/// Decides a check as `decide` does, after the attempts with a bound. Each has a meter of its own with `steps` units, so the
-/// units that an undecided check states are those of the assignments and the engine.
+/// Decides another check, and where that spends its budget by combinations of what the check's clauses force, with a budget of their
+/// own: they go through matrices of up to their whole budget, where the engine often decides with little.
+fn decide_beyond(alloc: Global, check: &Check, cone: &Cone, steps: u64) -> Result<Entry, DecideStop>
+    requires valid { IsValid (judged_check check.now) }
+    requires cone { IsConeOf (judged_check check.now) cone.now }
+    requires large { is_small limits (judged_check check.now) steps ≡ false }
+    requires within { IsWithinLimits (judged_check check.now) }
+    requires early { IsBeyondEarly steps (judged_check check.now) }
+    ensures given { IfOk result (IsGiven (judged_check check.now)) }
+    ensures caused { IfErr result (IsCaused steps (judged_check check.now)) }
+    ensures beyond { IfErr result (λ stop. IsCauseBeyond steps (judged_check check.now) (cause_of stop)) }
+{
+    match decide_large(alloc, check, cone, steps) {
+        Ok(entry) => Ok(entry),
+        Err(DecideStop::Memory) => Err(DecideStop::Memory),
+        Err(stop) => match decided_late(alloc, check, cone, steps)? {
+            Some(entry) => Ok(entry),
+            None => Err(stop),
+        },
+    }
+}
+
+/// Decides a check as `decide` does, with the attempts with a bound: linear algebra, propagation and roots before, combinations
+/// after. Each has a meter of its own with `steps` units, so the units that an undecided check states are those of the assignments
+/// and the engine.
 ///
 /// # Errors
 ///
@@ -134,8 +157,8 @@ pub fn decide_in_order(alloc: Global, check: &Check, steps: u64) -> Result<Entry
     if let Some(entry) = settled(alloc, check, &cone, steps)? {
         return Ok(entry);
     }
-    if let Some(entry) = decided_within(alloc, check, &cone, steps)? {
+    if let Some(entry) = decided_early(alloc, check, &cone, steps)? {
         return Ok(entry);
     }
-    decide_large(alloc, check, &cone, steps)
+    decide_beyond(alloc, check, &cone, steps)
 }

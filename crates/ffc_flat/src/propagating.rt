@@ -1,34 +1,37 @@
 //! Refuting checks by what their clauses force.
-ghost use Rattle.std.specs.Prelude.{◌-◌, IfOk};
+ghost use Rattle.std.specs.Prelude.{◌-◌, IfOk, IfNone, IfSome};
 ghost use Rattle.ffc_base.specs.Metering.{Takes, total};
+ghost use Rattle.ffc_bounds.specs.Forced.{IsRefutedByForcing};
 ghost use Rattle.ffc_check.specs.Judged.{judged_check};
-ghost use Rattle.ffc_flat.specs.Answering.{IsFlatAnswer};
+ghost use Rattle.ffc_refutation.specs.Given.{AreReadable, AreRight};
 ghost use Rattle.ffc_rules.specs.Laws.{IsValid};
 ghost use Rattle.ffc_trials.specs.Parts.{IsConeOf};
 
 use ffc_base::{Meter, Stop};
-use ffc_linear::LinearAnswer;
+use ffc_cert::{CertLine, Sequence};
 use ffc_propagation::{Propagated, propagate};
 use ffc_refutation::by_conflict;
 use ffc_term::Check;
 use ffc_trials::Cone;
 use std::alloc::{AllocError, Global};
 
-/// Refutes a check, flat or not, of which unit propagation over the clauses of its nodes makes some clause false. Each literal that
-/// is forced is an Assignment; there is at most one for each node.
+/// Refutes a check of which unit propagation over the clauses of its nodes makes some clause false. Each literal that is forced is
+/// an Assignment; there is at most one for each node.
 ///
 /// # Errors
 ///
 /// Out of memory.
-pub fn flat(
+pub fn conflict(
     alloc: Global,
     check: &Check,
     cone: &Cone,
     meter: &mut Meter,
-) -> Result<LinearAnswer, AllocError>
+) -> Result<Option<Sequence<CertLine>>, AllocError>
     requires valid { IsValid (judged_check check.now) }
     requires cone { IsConeOf (judged_check check.now) cone.now }
-    ensures answer { IfOk result (IsFlatAnswer (judged_check check.now) (meter.old.budget - total meter.old)) }
+    ensures found { IfOk result (λ o. IfSome o (λ lines. AreReadable lines × AreRight (judged_check check.now) lines)) }
+    ensures none { IfOk result (λ o. IfNone o
+        (IsRefutedByForcing (meter.old.budget - total meter.old) (judged_check check.now) → ⊥)) }
     ensures units { Takes meter.old meter.new }
 {
     // What is left is what is compared with the bound.
@@ -36,10 +39,10 @@ pub fn flat(
     match propagate(alloc, check, cone.nodes.as_slice(), meter) {
         Ok(Propagated::Refuted(reasons)) => {
             let lines = by_conflict(alloc, reasons.as_slice())?;
-            Ok(LinearAnswer::Refuted(lines))
+            Ok(Some(lines))
         }
-        Ok(Propagated::Forced { .. }) => Ok(LinearAnswer::Undecided),
-        Err(Stop::Spent) => Ok(LinearAnswer::Undecided),
+        Ok(Propagated::Forced { .. }) => Ok(None),
+        Err(Stop::Spent) => Ok(None),
         Err(Stop::Memory) => Err(AllocError),
     }
 }

@@ -1,0 +1,9 @@
+use Rattle.std.proofs.lemmas.Result.{err_from_is_err_and}
+use Rattle.ffc_check.specs.Judged.{judged_check}
+use Rattle.ffc_trials.proofs.LimitLemmas.{memory_caused}
+use Rattle.ffc_theory.proofs.deciding.decide_beyond.Goals as goal
+
+pub returns-in_err-entry-in-Err : goal.returns-in_err-entry-in-Err
+returns-in_err-entry-in-Err c =
+    let p = err_from_is_err_and c.from_residual.result c.from_residual.ensures.1 in
+    rw (p.1, p.2) (record { given = tt; caused = memory_caused (judged_check c.args.check.now) c.args.steps; beyond = tt })
