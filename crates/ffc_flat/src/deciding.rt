@@ -19,8 +19,8 @@ use ffc_trials::Cone;
 use std::alloc::{AllocError, Global};
 
 /// Decides a check of which unit propagation makes some clause false, or of which some combination of what is forced, of a bounded
-/// degree, is 1, or, where it is a conjunction of equations and disequations, determines each constant. F is the field of each field
-/// node of the check.
+/// degree, is 1, or, where it is a conjunction of equations and disequations without `ite`, determines each constant. F is the field
+/// of each field node of the check.
 ///
 /// # Errors
 ///
