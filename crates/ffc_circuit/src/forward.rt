@@ -257,8 +257,18 @@ pub enum Inputs {
     Last,
 }
 
-/// Values at which each of `equal` is 0 and none of `unequal` is, if they follow from guessed inputs. It is tried only where the
-/// equalities that these come from, so many, are fewer than variables and bits. Each guess of all inputs is one Trial.
+/// Which inputs are guessed, where the polynomials that are to be 0 come from so many equalities. With at least as many of these as
+/// variables and bits the inputs may be fixed: then one guess shows it, and only with the equalities as they are written.
+fn guesses(inputs: Inputs, unknowns: usize, equalities: usize) -> &'static [Guess] {
+    match inputs {
+        _ if unknowns > equalities => &GUESSES,
+        Inputs::First => &GUESSES[..1],
+        Inputs::Last => &[],
+    }
+}
+
+/// Values at which each of `equal` is 0 and none of `unequal` is, if they follow from guessed inputs, where these come from so many
+/// equalities. Each guess of all inputs is one Trial.
 pub fn values_forward<F: Field>(
     alloc: Global,
     equal: &[&Generator<F>],
@@ -273,19 +283,17 @@ pub fn values_forward<F: Field>(
     }
     let bits = bits_of(alloc, equal)?;
     let mut variables = occurrences.all(alloc)?;
-    if variables.len().saturating_add(bits.len()) <= equalities {
-        return Ok(None);
-    }
+    let unknowns = variables.len().saturating_add(bits.len());
     if let Inputs::Last = inputs {
         variables.as_mut_slice().reverse();
     }
     for x in variables_of(alloc, unequal)? {
         variables.push(x)?;
     }
-    for guess in GUESSES {
+    for guess in guesses(inputs, unknowns, equalities) {
         meter.take(Unit::Trial)?;
         let mut evaluation = Evaluation::begin(alloc, equal, &occurrences, &bits)?;
-        if evaluation.run(alloc, variables.as_slice(), guess)? && evaluation.are_nonzero(unequal) {
+        if evaluation.run(alloc, variables.as_slice(), *guess)? && evaluation.are_nonzero(unequal) {
             return Ok(Some(evaluation.pairs(alloc)?));
         }
     }
