@@ -1,6 +1,6 @@
 -- The text of entries is read back.
-use Rattle.std.proofs.Common.{◌≡◌, ℕ, ◌+◌, ◌-◌, ◌<◌, ◌≤◌, ◌==◌, true, false, List, [], ◌∷◌, ◌++◌, length, take, Result, Ok, inl, inr, refl, sym, ap, ◌∙◌, subst, arith, append_assoc, length-append}
-use Rattle.std.specs.Prelude.{codes, nat_lt}
+use Rattle.std.proofs.Common.{◌≡◌, ℕ, ◌+◌, ◌-◌, ◌<◌, ◌≤◌, ◌==◌, Bool, true, false, List, [], ◌∷◌, ◌++◌, length, take, Result, Ok, inl, inr, refl, sym, ap, ◌∙◌, subst, arith, append_assoc, length-append}
+use Rattle.std.specs.Prelude.{codes, decimal, nat_lt}
 use Rattle.std.specs.List.{AllByRecursion, flat_map, slice_split, onto_first}
 use Rattle.std.proofs.lemmas.List.{append-nil, take_all}
 use Rattle.std.proofs.lemmas.List.Splits.{slice_split-cons_yes, slice_split-cons_no}
@@ -13,7 +13,7 @@ use Rattle.ffc_cert.specs.declared.entries.Entry.{Entry}
 use Rattle.ffc_cert.specs.declared.entries.Entry.TheVariants.{Sat, UnsatCases, UnsatSteps, Unknown}
 use Rattle.ffc_cert.specs.declared.entries.Numbered.{Numbered}
 use Rattle.ffc_cert.specs.declared.forms.Awaited.{Awaited}
-use Rattle.ffc_cert.specs.declared.progress.Place.TheVariants.{Between, Assignment, Refutation}
+use Rattle.ffc_cert.specs.declared.progress.Place.TheVariants.{Header, Between, Assignment, Refutation}
 use Rattle.ffc_cert.specs.declared.progress.Progress.{Progress}
 use Rattle.ffc_cert.specs.Lines.{line_at, value_at, opening_at}
 use Rattle.ffc_cert.specs.Reading.{Reading, Complete, with_entry, Next, Move, Give, awaited_after, is_whole, given, begun, with_value, with_line, limited, after, named, header_line, opening_line, assignment_line, refutation_line, next_in, next_at, read, read_parts, read_text, reading_of, origin, is_line_end, end_at, is_complete, end_after}
@@ -47,8 +47,8 @@ judged : {A : Type 0} (line : List ℕ) (p : Progress) (r : Result A Flaw) (x : 
 unfolding limited
 judged line p r x next h fits = let short : nat_lt MAX_BYTES (p.bytes + (length line + 1)) ≡ false = grind (arith, nat_tests, fits) in rw (h, short) refl
 
-abbrev pub between : ℕ → ℕ → ℕ → Progress
-between version complete line = record { version = version; place = Between; complete = complete; line = line; first_line = line; bytes = 0; values = []; lines = [] }
+abbrev pub between : Bool → ℕ → ℕ → ℕ → Progress
+between bits version complete line = record { bits = bits; version = version; place = Between; complete = complete; line = line; first_line = line; bytes = 0; values = []; lines = [] }
 
 some_test : (n m : ℕ) → (n ≡ m → ⊥) → (n == m) ≡ false
 some_test n m h = grind (arith, nat_tests, h)
@@ -57,12 +57,12 @@ some_test n m h = grind (arith, nat_tests, h)
 sizes : (line body : List ℕ) → length ((line ++ (10 ∷ [])) ++ body) ≡ (length line + 1) + length body
 sizes line body = omega (arith, length-append (line ++ (10 ∷ [])) body, length-append line (10 ∷ []))
 
-module _ (version : ℕ) (known : IsVersion version) (wanted complete first : ℕ) where
+module _ (bits : Bool) (version : ℕ) (known : IsVersion bits version) (wanted complete first : ℕ) where
   abbrev in_values : ℕ → ℕ → ℕ → List (ℕ × ℕ) → Progress
-  in_values line bytes left done = record { version = version; place = Assignment left; complete = complete; line = line; first_line = first; bytes = bytes; values = done; lines = [] }
+  in_values line bytes left done = record { bits = bits; version = version; place = Assignment left; complete = complete; line = line; first_line = first; bytes = bytes; values = done; lines = [] }
 
   abbrev in_lines : ℕ → ℕ → Awaited → List CertLine → Progress
-  in_lines line bytes a done = record { version = version; place = Refutation a; complete = complete; line = line; first_line = first; bytes = bytes; values = []; lines = done }
+  in_lines line bytes a done = record { bits = bits; version = version; place = Refutation a; complete = complete; line = line; first_line = first; bytes = bytes; values = []; lines = done }
 
   abbrev gave : Entry → Numbered
   gave e = record { number = complete + 1; first_line = first; entry = e }
@@ -74,7 +74,7 @@ module _ (version : ℕ) (known : IsVersion version) (wanted complete first : �
       judged (value_items v) (in_values line bytes left done) (value_at (value_items v)) v (with_value left (length (value_items v) + 1) (in_values line bytes left done)) (value_reads v h) fits
 
   last_value : (line bytes left : ℕ) (done : List (ℕ × ℕ)) (v : ℕ × ℕ) (size : ℕ) → left ≡ 1
-      → with_value left size (in_values line bytes left done) v ≡ Give (gave (Sat (done ++ v ∷ []))) (between version (complete + 1) (line + 1))
+      → with_value left size (in_values line bytes left done) v ≡ Give (gave (Sat (done ++ v ∷ []))) (between bits version (complete + 1) (line + 1))
   unfolding with_value
   last_value line bytes left done v size one = let test : (left == 1) ≡ true = grind (arith, nat_tests, one) in rw test refl
 
@@ -89,13 +89,13 @@ module _ (version : ℕ) (known : IsVersion version) (wanted complete first : �
   values_read : (values : List (ℕ × ℕ)) (v : ℕ × ℕ) (line bytes : ℕ) (done : List (ℕ × ℕ)) (rest : List ℕ) → AllByRecursion IsValue (v ∷ values)
       → bytes + length (flat_map value_line (v ∷ values)) ≤ MAX_BYTES
       → read_text wanted (in_values line bytes (length (v ∷ values)) done) (flat_map value_line (v ∷ values) ++ rest)
-      ≡ with_entry (gave (Sat (done ++ (v ∷ values)))) (read_text wanted (between version (complete + 1) (line + length (v ∷ values))) rest)
+      ≡ with_entry (gave (Sat (done ++ (v ∷ values)))) (read_text wanted (between bits version (complete + 1) (line + length (v ∷ values))) rest)
   values_read [] v line bytes done rest h short =
       let size = sizes (value_items v) [] in
       let p = in_values line bytes (length (v ∷ [])) done in
       let next = value_next line bytes (length (v ∷ [])) done v h.0 (omega arith) ∙ last_value line bytes (length (v ∷ [])) done v (length (value_items v) + 1) refl in
       ap (read_text wanted p) (regroup (value_items v) [] rest)
-      ∙ line_read wanted p (value_items v) rest (Give (gave (Sat (done ++ v ∷ []))) (between version (complete + 1) (line + 1))) (value_plain v h.0) (omega arith) next
+      ∙ line_read wanted p (value_items v) rest (Give (gave (Sat (done ++ v ∷ []))) (between bits version (complete + 1) (line + 1))) (value_plain v h.0) (omega arith) next
   values_read (w ∷ values) v line bytes done rest h short =
       let size = sizes (value_items v) (flat_map value_line (w ∷ values)) in
       let p = in_values line bytes (length (v ∷ w ∷ values)) done in
@@ -107,8 +107,8 @@ module _ (version : ℕ) (known : IsVersion version) (wanted complete first : �
       ap (read_text wanted p) (regroup (value_items v) (flat_map value_line (w ∷ values)) rest)
       ∙ line_read wanted p (value_items v) (flat_map value_line (w ∷ values) ++ rest) (Move q) (value_plain v h.0) (omega arith) next
       ∙ further
-      ∙ ap (λ (xs : List (ℕ × ℕ)). with_entry (gave (Sat xs)) (read_text wanted (between version (complete + 1) ((line + 1) + length (w ∷ values))) rest)) (append_assoc done (v ∷ []) (w ∷ values))
-      ∙ ap (λ (n : ℕ). with_entry (gave (Sat (done ++ (v ∷ w ∷ values)))) (read_text wanted (between version (complete + 1) n) rest)) (omega arith)
+      ∙ ap (λ (xs : List (ℕ × ℕ)). with_entry (gave (Sat xs)) (read_text wanted (between bits version (complete + 1) ((line + 1) + length (w ∷ values))) rest)) (append_assoc done (v ∷ []) (w ∷ values))
+      ∙ ap (λ (n : ℕ). with_entry (gave (Sat (done ++ (v ∷ w ∷ values)))) (read_text wanted (between bits version (complete + 1) n) rest)) (omega arith)
 
   line_next : (line bytes : ℕ) (a : Awaited) (done : List CertLine) (l : CertLine) (lines : List CertLine) → Completes a (l ∷ lines) → IsLine l → LineFitsVersion version l
       → bytes + (length (line_items l) + 1) ≤ MAX_BYTES
@@ -119,7 +119,7 @@ module _ (version : ℕ) (known : IsVersion version) (wanted complete first : �
       (line_reads version known a l h.1.0 holds fits_version) fits
 
   last_line : (line bytes : ℕ) (a : Awaited) (done : List CertLine) (l : CertLine) (size : ℕ) → is_whole (awaited_after l a) ≡ true
-      → with_line a size (in_lines line bytes a done) l ≡ Give (gave (UnsatSteps (done ++ l ∷ []))) (between version (complete + 1) (line + 1))
+      → with_line a size (in_lines line bytes a done) l ≡ Give (gave (UnsatSteps (done ++ l ∷ []))) (between bits version (complete + 1) (line + 1))
   unfolding with_line
   last_line line bytes a done l size over = rw over refl
 
@@ -131,13 +131,13 @@ module _ (version : ℕ) (known : IsVersion version) (wanted complete first : �
   lines_read : (lines : List CertLine) (l : CertLine) (a : Awaited) (line bytes : ℕ) (done : List CertLine) (rest : List ℕ) → Completes a (l ∷ lines) → AreLines version (l ∷ lines)
       → bytes + length (flat_map line_text (l ∷ lines)) ≤ MAX_BYTES
       → read_text wanted (in_lines line bytes a done) (flat_map line_text (l ∷ lines) ++ rest)
-      ≡ with_entry (gave (UnsatSteps (done ++ (l ∷ lines)))) (read_text wanted (between version (complete + 1) (line + length (l ∷ lines))) rest)
+      ≡ with_entry (gave (UnsatSteps (done ++ (l ∷ lines)))) (read_text wanted (between bits version (complete + 1) (line + length (l ∷ lines))) rest)
   lines_read [] l a line bytes done rest h are short =
       let size = sizes (line_items l) [] in
       let p = in_lines line bytes a done in
       let next = line_next line bytes a done l [] h are.ranges.0 are.fits.0 (omega arith) ∙ last_line line bytes a done l (length (line_items l) + 1) h.1.1 in
       ap (read_text wanted p) (regroup (line_items l) [] rest)
-      ∙ line_read wanted p (line_items l) rest (Give (gave (UnsatSteps (done ++ l ∷ []))) (between version (complete + 1) (line + 1))) (items_plain version known a l are.ranges.0 are.fits.0) (omega arith) next
+      ∙ line_read wanted p (line_items l) rest (Give (gave (UnsatSteps (done ++ l ∷ []))) (between bits version (complete + 1) (line + 1))) (items_plain version known a l are.ranges.0 are.fits.0) (omega arith) next
   lines_read (m ∷ lines) l a line bytes done rest h are short =
       let size = sizes (line_items l) (flat_map line_text (m ∷ lines)) in
       let p = in_lines line bytes a done in
@@ -148,60 +148,60 @@ module _ (version : ℕ) (known : IsVersion version) (wanted complete first : �
       ap (read_text wanted p) (regroup (line_items l) (flat_map line_text (m ∷ lines)) rest)
       ∙ line_read wanted p (line_items l) (flat_map line_text (m ∷ lines) ++ rest) (Move q) (items_plain version known a l are.ranges.0 are.fits.0) (omega arith) next
       ∙ further
-      ∙ ap (λ (xs : List CertLine). with_entry (gave (UnsatSteps xs)) (read_text wanted (between version (complete + 1) ((line + 1) + length (m ∷ lines))) rest)) (append_assoc done (l ∷ []) (m ∷ lines))
-      ∙ ap (λ (n : ℕ). with_entry (gave (UnsatSteps (done ++ (l ∷ m ∷ lines)))) (read_text wanted (between version (complete + 1) n) rest)) (omega arith)
+      ∙ ap (λ (xs : List CertLine). with_entry (gave (UnsatSteps xs)) (read_text wanted (between bits version (complete + 1) ((line + 1) + length (m ∷ lines))) rest)) (append_assoc done (l ∷ []) (m ∷ lines))
+      ∙ ap (λ (n : ℕ). with_entry (gave (UnsatSteps (done ++ (l ∷ m ∷ lines)))) (read_text wanted (between bits version (complete + 1) n) rest)) (omega arith)
 
 nothing_left : (n : ℕ) → n ≡ 0 → is_whole (awaiting n 0 0) ≡ false → ⊥
 unfolding is_whole
 nothing_left n none more = let clash : is_whole (awaiting 0 0 0) ≡ false = subst (λ m. is_whole (awaiting m 0 0) ≡ false) none more in absurd (let no : true ≡ false = clash in cc)
 
 -- One entry.
-module _ (version : ℕ) (known : IsVersion version) (wanted complete line : ℕ) (some : complete < wanted) where
-  opening_next : (e : Entry) → IsReadable version e → next_in Between wanted (between version complete line) (first_of e) ≡ begun (length (first_of e) + 1) (between version complete line) (opening_of e)
+module _ (bits : Bool) (version : ℕ) (known : IsVersion bits version) (wanted complete line : ℕ) (some : complete < wanted) where
+  opening_next : (e : Entry) → IsReadable version e → next_in Between wanted (between bits version complete line) (first_of e) ≡ begun (length (first_of e) + 1) (between bits version complete line) (opening_of e)
   unfolding next_in opening_line
   opening_next e h =
       let test : (complete == wanted) ≡ false = some_test complete wanted (λ same. omega arith) in
       let size = entry_length e in
-      rw test (judged (first_of e) (between version complete line) (opening_at (first_of e)) (opening_of e) (begun (length (first_of e) + 1) (between version complete line))
+      rw test (judged (first_of e) (between bits version complete line) (opening_at (first_of e)) (opening_of e) (begun (length (first_of e) + 1) (between bits version complete line))
       (first_reads version e h.well_formed) (omega (arith, size, h.short)))
 
   abbrev gives : Entry → List ℕ → Reading
-  gives e rest = with_entry (record { number = complete + 1; first_line = line; entry = e }) (read_text wanted (between version (complete + 1) (line + line_count e)) rest)
+  gives e rest = with_entry (record { number = complete + 1; first_line = line; entry = e }) (read_text wanted (between bits version (complete + 1) (line + line_count e)) rest)
 
   -- the state after the first line, and the reading of the body
-  opened : (e : Entry) (rest : List ℕ) (n : Next) → IsReadable version e → begun (length (first_of e) + 1) (between version complete line) (opening_of e) ≡ n
-      → after_next n (λ q. read_text wanted q (body_of e ++ rest)) ≡ gives e rest → read_text wanted (between version complete line) (entry_text e ++ rest) ≡ gives e rest
+  opened : (e : Entry) (rest : List ℕ) (n : Next) → IsReadable version e → begun (length (first_of e) + 1) (between bits version complete line) (opening_of e) ≡ n
+      → after_next n (λ q. read_text wanted q (body_of e ++ rest)) ≡ gives e rest → read_text wanted (between bits version complete line) (entry_text e ++ rest) ≡ gives e rest
   opened e rest n h leads k =
       let size = entry_length e in
-      ap (λ (xs : List ℕ). read_text wanted (between version complete line) (xs ++ rest)) (entry_is e)
-      ∙ ap (read_text wanted (between version complete line)) (append_assoc (first_of e) (10 ∷ body_of e) rest)
-      ∙ line_read wanted (between version complete line) (first_of e) (body_of e ++ rest) n (first_plain version e h.well_formed) (omega (arith, size, h.short)) (opening_next e h ∙ leads)
+      ap (λ (xs : List ℕ). read_text wanted (between bits version complete line) (xs ++ rest)) (entry_is e)
+      ∙ ap (read_text wanted (between bits version complete line)) (append_assoc (first_of e) (10 ∷ body_of e) rest)
+      ∙ line_read wanted (between bits version complete line) (first_of e) (body_of e ++ rest) n (first_plain version e h.well_formed) (omega (arith, size, h.short)) (opening_next e h ∙ leads)
       ∙ k
 
-  entry_read : (e : Entry) (rest : List ℕ) → IsReadable version e → read_text wanted (between version complete line) (entry_text e ++ rest) ≡ gives e rest
+  entry_read : (e : Entry) (rest : List ℕ) → IsReadable version e → read_text wanted (between bits version complete line) (entry_text e ++ rest) ≡ gives e rest
   unfolding begun
-  entry_read UnsatCases rest h = opened UnsatCases rest (given UnsatCases (between version complete line)) h refl refl
-  entry_read (Unknown cause) rest h = opened (Unknown cause) rest (given (Unknown cause) (between version complete line)) h refl refl
-  entry_read (Sat []) rest h = opened (Sat []) rest (given (Sat []) (between version complete line)) h refl refl
+  entry_read UnsatCases rest h = opened UnsatCases rest (given UnsatCases (between bits version complete line)) h refl refl
+  entry_read (Unknown cause) rest h = opened (Unknown cause) rest (given (Unknown cause) (between bits version complete line)) h refl refl
+  entry_read (Sat []) rest h = opened (Sat []) rest (given (Sat []) (between bits version complete line)) h refl refl
   entry_read (Sat (v ∷ values)) rest h =
       let e = Sat (v ∷ values) in
       let size = entry_length e in
       let test : (length (v ∷ values) == 0) ≡ false = some_test (length (v ∷ values)) 0 (λ none. omega arith) in
-      let q = in_values version known wanted complete line (line + 1) (0 + (length (first_of e) + 1)) (length (v ∷ values)) [] in
+      let q = in_values bits version known wanted complete line (line + 1) (0 + (length (first_of e) + 1)) (length (v ∷ values)) [] in
       opened e rest (Move q) h (rw test refl)
-      (values_read version known wanted complete line values v (line + 1) (0 + (length (first_of e) + 1)) [] rest h.well_formed.each (omega (arith, size, h.short))
-      ∙ ap (λ (n : ℕ). with_entry (record { number = complete + 1; first_line = line; entry = e }) (read_text wanted (between version (complete + 1) n) rest)) (omega arith))
-  entry_read (UnsatSteps []) rest h = opened (UnsatSteps []) rest (given (UnsatSteps []) (between version complete line)) h refl refl
+      (values_read bits version known wanted complete line values v (line + 1) (0 + (length (first_of e) + 1)) [] rest h.well_formed.each (omega (arith, size, h.short))
+      ∙ ap (λ (n : ℕ). with_entry (record { number = complete + 1; first_line = line; entry = e }) (read_text wanted (between bits version (complete + 1) n) rest)) (omega arith))
+  entry_read (UnsatSteps []) rest h = opened (UnsatSteps []) rest (given (UnsatSteps []) (between bits version complete line)) h refl refl
   entry_read (UnsatSteps (l ∷ lines)) rest h =
       let e = UnsatSteps (l ∷ lines) in
       let size = entry_length e in
       let whole = clauses_complete h.well_formed.order in
       let test : (clauses (l ∷ lines) == 0) ≡ false = some_test (clauses (l ∷ lines)) 0 (λ none. nothing_left (clauses (l ∷ lines)) none whole.0) in
-      let q = in_lines version known wanted complete line (line + 1) (0 + (length (first_of e) + 1)) (awaiting (clauses (l ∷ lines)) 0 0) [] in
+      let q = in_lines bits version known wanted complete line (line + 1) (0 + (length (first_of e) + 1)) (awaiting (clauses (l ∷ lines)) 0 0) [] in
       opened e rest (Move q) h (rw test refl)
-      (lines_read version known wanted complete line lines l (awaiting (clauses (l ∷ lines)) 0 0) (line + 1) (0 + (length (first_of e) + 1)) [] rest whole
+      (lines_read bits version known wanted complete line lines l (awaiting (clauses (l ∷ lines)) 0 0) (line + 1) (0 + (length (first_of e) + 1)) [] rest whole
       (record { ranges = h.well_formed.ranges; fits = h.well_formed.fits }) (omega (arith, size, h.short))
-      ∙ ap (λ (n : ℕ). with_entry (record { number = complete + 1; first_line = line; entry = e }) (read_text wanted (between version (complete + 1) n) rest)) (omega arith))
+      ∙ ap (λ (n : ℕ). with_entry (record { number = complete + 1; first_line = line; entry = e }) (read_text wanted (between bits version (complete + 1) n) rest)) (omega arith))
 
 -- All entries.
 abbrev with_entries : List Numbered → Reading → Reading
@@ -211,51 +211,60 @@ abbrev line_after : ℕ → List Entry → ℕ
 line_after line [] = line
 line_after line (e ∷ entries) = line_after (line + line_count e) entries
 
-entries_read : (version : ℕ) (known : IsVersion version) (wanted : ℕ) (entries : List Entry) (complete line : ℕ) (rest : List ℕ) → complete + length entries ≤ wanted
+entries_read : (bits : Bool) (version : ℕ) (known : IsVersion bits version) (wanted : ℕ) (entries : List Entry) (complete line : ℕ) (rest : List ℕ) → complete + length entries ≤ wanted
     → AllByRecursion (IsReadable version) entries
-    → read_text wanted (between version complete line) (flat_map entry_text entries ++ rest)
-    ≡ with_entries (numbered_from (complete + 1) line entries) (read_text wanted (between version (complete + length entries) (line_after line entries)) rest)
-entries_read version known wanted [] complete line rest few h = ap (λ (n : ℕ). read_text wanted (between version n line) rest) (omega arith)
-entries_read version known wanted (e ∷ entries) complete line rest few h =
+    → read_text wanted (between bits version complete line) (flat_map entry_text entries ++ rest)
+    ≡ with_entries (numbered_from (complete + 1) line entries) (read_text wanted (between bits version (complete + length entries) (line_after line entries)) rest)
+entries_read bits version known wanted [] complete line rest few h = ap (λ (n : ℕ). read_text wanted (between bits version n line) rest) (omega arith)
+entries_read bits version known wanted (e ∷ entries) complete line rest few h =
     let x : Numbered = record { number = complete + 1; first_line = line; entry = e } in
-    ap (read_text wanted (between version complete line)) (append_assoc (entry_text e) (flat_map entry_text entries) rest)
-    ∙ entry_read version known wanted complete line (omega arith) e (flat_map entry_text entries ++ rest) h.0
-    ∙ ap (with_entry x) (entries_read version known wanted entries (complete + 1) (line + line_count e) rest (omega arith) h.1)
-    ∙ ap (λ (n : ℕ). with_entry x (with_entries (numbered_from ((complete + 1) + 1) (line + line_count e) entries) (read_text wanted (between version n (line_after (line + line_count e) entries)) rest))) (omega arith)
+    ap (read_text wanted (between bits version complete line)) (append_assoc (entry_text e) (flat_map entry_text entries) rest)
+    ∙ entry_read bits version known wanted complete line (omega arith) e (flat_map entry_text entries ++ rest) h.0
+    ∙ ap (with_entry x) (entries_read bits version known wanted entries (complete + 1) (line + line_count e) rest (omega arith) h.1)
+    ∙ ap (λ (n : ℕ). with_entry x (with_entries (numbered_from ((complete + 1) + 1) (line + line_count e) entries) (read_text wanted (between bits version n (line_after (line + line_count e) entries)) rest))) (omega arith)
 
-pub header_read : (version : ℕ) → IsVersion version → (wanted : ℕ) (rest : List ℕ) → read_text wanted origin (header version ++ rest) ≡ read_text wanted (between version 0 2) rest
+header_line_read : (bits : Bool) (version : ℕ) (wanted : ℕ) (rest line : List ℕ) → header version ≡ line ++ (10 ∷ []) → IsPlain line → length line ≤ MAX_BYTES
+    → next_in Header wanted (origin bits) line ≡ Move (named version (origin bits)) → read_text wanted (origin bits) (header version ++ rest) ≡ read_text wanted (between bits version 0 2) rest
+header_line_read bits version wanted rest line text plain short next =
+    ap (λ (xs : List ℕ). read_text wanted (origin bits) (xs ++ rest)) text
+    ∙ ap (read_text wanted (origin bits)) (append_assoc line (10 ∷ []) rest)
+    ∙ line_read wanted (origin bits) line rest (Move (named version (origin bits))) plain short next
+
+header_is : (version : ℕ) (line : List ℕ) → codes "ffcert " ++ decimal version ≡ line → header version ≡ line ++ (10 ∷ [])
+header_is version line h = ap (λ (xs : List ℕ). xs ++ (10 ∷ [])) h
+
+pub header_read : (bits : Bool) (version : ℕ) → IsVersion bits version → (wanted : ℕ) (rest : List ℕ) → read_text wanted (origin bits) (header version ++ rest) ≡ read_text wanted (between bits version 0 2) rest
 unfolding next_in header_line
-header_read version (inl one) wanted rest =
-    let text : header version ≡ codes "ffcert 1" ++ (10 ∷ []) = ap header one ∙ ap (λ (ds : List ℕ). codes "ffcert " ++ ds ++ (10 ∷ [])) (decimal_digit 1 (omega arith)) in
-    ap (λ (xs : List ℕ). read_text wanted origin (xs ++ rest)) text
-    ∙ line_read wanted origin (codes "ffcert 1") rest (Move (named 1 origin)) (refl, (refl, (refl, (refl, (refl, (refl, (refl, (refl, tt)))))))) (omega arith) refl
-    ∙ ap (λ (v : ℕ). read_text wanted (between v 0 2) rest) (sym one)
-header_read version (inr two) wanted rest =
-    let text : header version ≡ codes "ffcert 2" ++ (10 ∷ []) = ap header two ∙ ap (λ (ds : List ℕ). codes "ffcert " ++ ds ++ (10 ∷ [])) (decimal_digit 2 (omega arith)) in
-    ap (λ (xs : List ℕ). read_text wanted origin (xs ++ rest)) text
-    ∙ line_read wanted origin (codes "ffcert 2") rest (Move (named 2 origin)) (refl, (refl, (refl, (refl, (refl, (refl, (refl, (refl, tt)))))))) (omega arith) refl
-    ∙ ap (λ (v : ℕ). read_text wanted (between v 0 2) rest) (sym two)
+header_read bits version (inl one) wanted rest =
+    header_line_read bits version wanted rest (codes "ffcert 1") (header_is version (codes "ffcert 1") (ap (λ (v : ℕ). codes "ffcert " ++ decimal v) one ∙ ap (λ (ds : List ℕ). codes "ffcert " ++ ds) (decimal_digit 1 (omega arith))))
+    (refl, (refl, (refl, (refl, (refl, (refl, (refl, (refl, tt)))))))) (omega arith) (rw one refl)
+header_read bits version (inr (inl two)) wanted rest =
+    header_line_read bits version wanted rest (codes "ffcert 2") (header_is version (codes "ffcert 2") (ap (λ (v : ℕ). codes "ffcert " ++ decimal v) two ∙ ap (λ (ds : List ℕ). codes "ffcert " ++ ds) (decimal_digit 2 (omega arith))))
+    (refl, (refl, (refl, (refl, (refl, (refl, (refl, (refl, tt)))))))) (omega arith) (rw two refl)
+header_read bits version (inr (inr three)) wanted rest =
+    header_line_read bits version wanted rest (codes "ffcert 3") (header_is version (codes "ffcert 3") (ap (λ (v : ℕ). codes "ffcert " ++ decimal v) three.0 ∙ ap (λ (ds : List ℕ). codes "ffcert " ++ ds) (decimal_digit 3 (omega arith))))
+    (refl, (refl, (refl, (refl, (refl, (refl, (refl, (refl, tt)))))))) (omega arith) (rw (three.0, three.1) refl)
 
 -- a text of entries with more after it
-text_read : (version : ℕ) (entries : List Entry) (wanted : ℕ) (more : List ℕ) → IsVersion version → AllByRecursion (IsReadable version) entries → length entries ≤ wanted
-    → reading_of wanted (text_of version entries ++ more)
-    ≡ with_entries (numbered_from 1 2 entries) (read_text wanted (between version (0 + length entries) (line_after 2 entries)) more)
+text_read : (bits : Bool) (version : ℕ) (entries : List Entry) (wanted : ℕ) (more : List ℕ) → IsVersion bits version → AllByRecursion (IsReadable version) entries → length entries ≤ wanted
+    → reading_of bits wanted (text_of version entries ++ more)
+    ≡ with_entries (numbered_from 1 2 entries) (read_text wanted (between bits version (0 + length entries) (line_after 2 entries)) more)
 unfolding text_of
-text_read version entries wanted more known h few =
-    ap (read_text wanted origin) (append_assoc (header version) (flat_map entry_text entries) more)
-    ∙ header_read version known wanted (flat_map entry_text entries ++ more)
-    ∙ entries_read version known wanted entries 0 2 more (omega arith) h
+text_read bits version entries wanted more known h few =
+    ap (read_text wanted (origin bits)) (append_assoc (header version) (flat_map entry_text entries) more)
+    ∙ header_read bits version known wanted (flat_map entry_text entries ++ more)
+    ∙ entries_read bits version known wanted entries 0 2 more (omega arith) h
 
-over : (version complete line wanted : ℕ) → complete ≡ wanted → read_text wanted (between version complete line) [] ≡ record { entries = []; end = Complete }
+over : (bits : Bool) (version complete line wanted : ℕ) → complete ≡ wanted → read_text wanted (between bits version complete line) [] ≡ record { entries = []; end = Complete }
 unfolding read end_at is_complete end_after
-over version complete line wanted same = let test : (complete == wanted) ≡ true = grind (arith, nat_tests, same) in rw test refl
+over bits version complete line wanted same = let test : (complete == wanted) ≡ true = grind (arith, nat_tests, same) in rw test refl
 
 pub reads_back : ReadsBack
-reads_back version entries known h =
-    let whole = text_read version entries (length entries) [] known h (omega arith) in
-    ap (reading_of (length entries)) (sym (append-nil (text_of version entries)))
+reads_back bits version entries known h =
+    let whole = text_read bits version entries (length entries) [] known h (omega arith) in
+    ap (reading_of bits (length entries)) (sym (append-nil (text_of version entries)))
     ∙ whole
-    ∙ ap (with_entries (numbered_from 1 2 entries)) (over version (0 + length entries) (line_after 2 entries) (length entries) (omega arith))
+    ∙ ap (with_entries (numbered_from 1 2 entries)) (over bits version (0 + length entries) (line_after 2 entries) (length entries) (omega arith))
     ∙ ap (λ (xs : List Numbered). record { entries = xs; end = Complete }) (append-nil (numbered_from 1 2 entries))
 
 listed : (entries : List Entry) (number line : ℕ) (others : List Numbered) → take (length entries) (numbered_from number line entries ++ others) ≡ numbered_from number line entries
@@ -264,6 +273,6 @@ listed (e ∷ entries) number line others =
     ap (λ (xs : List Numbered). record { number = number; first_line = line; entry = e } ∷ xs) (listed entries (number + 1) (line + line_count e) others)
 
 pub reads_back_first : ReadsBackFirst
-reads_back_first version entries wanted more known h few =
-    ap (λ (r : Reading). take (length entries) r.entries) (text_read version entries wanted more known h few)
-    ∙ listed entries 1 2 (read_text wanted (between version (0 + length entries) (line_after 2 entries)) more).entries
+reads_back_first bits version entries wanted more known h few =
+    ap (λ (r : Reading). take (length entries) r.entries) (text_read bits version entries wanted more known h few)
+    ∙ listed entries 1 2 (read_text wanted (between bits version (0 + length entries) (line_after 2 entries)) more).entries

@@ -1,5 +1,5 @@
 -- A fault is decided by the lines up to its own.
-use Rattle.std.proofs.Common.{◌≡◌, ℕ, zero, suc, ◌+◌, ◌<◌, ◌≤◌, ◌==◌, Bool, true, false, cond, List, [], ◌∷◌, ◌++◌, length, take, ltb, Result, Ok, Err, ◌⊎◌, inl, inr, refl, sym, ap, ◌∙◌, arith, append_assoc}
+use Rattle.std.proofs.Common.{◌≡◌, ℕ, zero, suc, ◌+◌, ◌<◌, ◌≤◌, ◌==◌, ◌&&◌, Bool, true, false, cond, List, [], ◌∷◌, ◌++◌, length, take, ltb, Result, Ok, Err, ◌⊎◌, inl, inr, refl, sym, ap, ◌∙◌, arith, append_assoc}
 use Rattle.std.specs.Prelude.{codes, nat_lt, if◌then◌else◌}
 use Rattle.std.specs.List.{position_or_len, before_first, after_first}
 use Rattle.std.specs.Str.{bytes_eq}
@@ -63,7 +63,7 @@ module _ (p : Progress) where
 
   place_line : (place : Place) (wanted : ℕ) (line : List ℕ) → IsAtLine p (next_in place wanted p line)
   unfolding next_in header_line opening_line assignment_line refutation_line with_value with_line
-  place_line Header wanted line = at_if (bytes_eq line (codes "ffcert 1")) _ _ refl (at_if (bytes_eq line (codes "ffcert 2")) _ _ refl refl)
+  place_line Header wanted line = at_if (bytes_eq line (codes "ffcert 1")) _ _ refl (at_if (bytes_eq line (codes "ffcert 2")) _ _ refl (at_if (p.bits && bytes_eq line (codes "ffcert 3")) _ _ refl refl))
   place_line Between wanted line = at_if (p.complete == wanted) _ _ refl (at_after (limited line p (opening_at line)) (begun (length line + 1) p) (limited_line line (opening_at line)) (begun_line (length line + 1)))
   place_line (Assignment left) wanted line = at_after (limited line p (value_at line)) (with_value left (length line + 1) p) (limited_line line (value_at line)) (λ v. at_if (left == 1) _ _ refl refl)
   place_line (Refutation a) wanted line = at_after (limited line p (line_at p.version a line)) (with_line a (length line + 1) p) (limited_line line (line_at p.version a line)) (λ l. at_if (is_whole (awaited_after l a)) _ _ refl refl)
@@ -90,8 +90,8 @@ first_is [] lt = absurd (omega arith)
 first_is (c ∷ bytes) lt = first_by (is_line_end c) c bytes refl lt (first_is bytes)
 
 -- a place in a text that is read so whatever follows
-record IsReached (wanted : ℕ) (front : List ℕ) (p : Progress) : Type 0 where
-  leads : (more : List ℕ) → (reading_of wanted (front ++ more)).end ≡ (read_text wanted p more).end
+record IsReached (bits : Bool) (wanted : ℕ) (front : List ℕ) (p : Progress) : Type 0 where
+  leads : (more : List ℕ) → (reading_of bits wanted (front ++ more)).end ≡ (read_text wanted p more).end
   line : p.line ≡ lines_of front + 1
   ends : (front ≡ []) ⊎ ((body : List ℕ) × (front ≡ ended_line body))
 
@@ -118,8 +118,8 @@ end_line wanted p rest fault h = by (nat_lt MAX_BYTES (length rest)) (is_complet
     by false true h = after_line p rest fault h
     by false false h = absurd (cc)
 
-module _ (wanted : ℕ) (front : List ℕ) (p : Progress) (bytes text : List ℕ) (fault : CertFault) (r : IsReached wanted front p) (is : text ≡ front ++ bytes) where
-  alone_decided : length bytes ≤ position_or_len is_line_end bytes → (read_text wanted p bytes).end ≡ Stopped fault → IsDecided wanted text fault
+module _ (bits : Bool) (wanted : ℕ) (front : List ℕ) (p : Progress) (bytes text : List ℕ) (fault : CertFault) (r : IsReached bits wanted front p) (is : text ≡ front ++ bytes) where
+  alone_decided : length bytes ≤ position_or_len is_line_end bytes → (read_text wanted p bytes).end ≡ Stopped fault → IsDecided bits wanted text fault
   alone_decided alone h =
       let all : first_line_of bytes ≡ bytes = take_all (position_or_len is_line_end bytes + 1) bytes (omega (arith, alone)) in
       record {
@@ -133,16 +133,16 @@ module _ (wanted : ℕ) (front : List ℕ) (p : Progress) (bytes text : List ℕ
       }
 
   reached : (q : Progress) → ((other : List ℕ) → (read_text wanted p (before_first is_line_end bytes ++ (10 ∷ other))).end ≡ (read_text wanted q other).end) → q.line ≡ p.line + 1
-      → IsReached wanted (front ++ ended_line (before_first is_line_end bytes)) q
+      → IsReached bits wanted (front ++ ended_line (before_first is_line_end bytes)) q
   reached q reads at = record {
-    leads = λ other. ap (λ (xs : List ℕ). (reading_of wanted xs).end) (spread front (before_first is_line_end bytes) other) ∙ r.leads (before_first is_line_end bytes ++ (10 ∷ other)) ∙ reads other;
+    leads = λ other. ap (λ (xs : List ℕ). (reading_of bits wanted xs).end) (spread front (before_first is_line_end bytes) other) ∙ r.leads (before_first is_line_end bytes ++ (10 ∷ other)) ∙ reads other;
     line = omega (arith, at, r.line, count_more front (before_first is_line_end bytes) (line_plain bytes));
     ends = inr (front ++ before_first is_line_end bytes, sym (append_assoc front (before_first is_line_end bytes) (10 ∷ [])));
   }
 
   line_decided : HasLine bytes → (n : Next) → next_at wanted p (before_first is_line_end bytes) ≡ n → IsAtLine p n
-      → ((q : Progress) → IsReached wanted (front ++ ended_line (before_first is_line_end bytes)) q → (read_text wanted q (after_first is_line_end bytes)).end ≡ Stopped fault → IsDecided wanted text fault)
-      → (after_next n (λ q. read_text wanted q (after_first is_line_end bytes))).end ≡ Stopped fault → IsDecided wanted text fault
+      → ((q : Progress) → IsReached bits wanted (front ++ ended_line (before_first is_line_end bytes)) q → (read_text wanted q (after_first is_line_end bytes)).end ≡ Stopped fault → IsDecided bits wanted text fault)
+      → (after_next n (λ q. read_text wanted q (after_first is_line_end bytes))).end ≡ Stopped fault → IsDecided bits wanted text fault
   line_decided lt (Halt f) e at more h =
       let line = before_first is_line_end bytes in
       record {
@@ -158,19 +158,19 @@ module _ (wanted : ℕ) (front : List ℕ) (p : Progress) (bytes text : List ℕ
   line_decided lt (Move q) e at more h = more q (reached q (λ other. ap (λ (x : Reading). x.end) (read_first wanted p (before_first is_line_end bytes) other (Move q) (line_plain bytes) e)) at) h
   line_decided lt (Give x q) e at more h = more q (reached q (λ other. ap (λ (x : Reading). x.end) (read_first wanted p (before_first is_line_end bytes) other (Give x q) (line_plain bytes) e)) at) h
 
-decide : (n : ℕ) (wanted : ℕ) (front : List ℕ) (p : Progress) (bytes text : List ℕ) (fault : CertFault) → length bytes ≤ n → IsReached wanted front p → text ≡ front ++ bytes
-    → (read_text wanted p bytes).end ≡ Stopped fault → IsDecided wanted text fault
-decide zero wanted front p bytes text fault few r is h = alone_decided wanted front p bytes text fault r is (omega arith) h
-decide (suc n) wanted front p bytes text fault few r is h = elim (either (ltb (position_or_len is_line_end bytes) (length bytes))) [
-  | inr t ↦ alone_decided wanted front p bytes text fault r is (ltb-false (position_or_len is_line_end bytes) (length bytes) t) h
+decide : (n : ℕ) (bits : Bool) (wanted : ℕ) (front : List ℕ) (p : Progress) (bytes text : List ℕ) (fault : CertFault) → length bytes ≤ n → IsReached bits wanted front p → text ≡ front ++ bytes
+    → (read_text wanted p bytes).end ≡ Stopped fault → IsDecided bits wanted text fault
+decide zero bits wanted front p bytes text fault few r is h = alone_decided bits wanted front p bytes text fault r is (omega arith) h
+decide (suc n) bits wanted front p bytes text fault few r is h = elim (either (ltb (position_or_len is_line_end bytes) (length bytes))) [
+  | inr t ↦ alone_decided bits wanted front p bytes text fault r is (ltb-false (position_or_len is_line_end bytes) (length bytes) t) h
   | inl t ↦
       let lt = ltb-true (position_or_len is_line_end bytes) (length bytes) t in
       let line = before_first is_line_end bytes in
-      line_decided wanted front p bytes text fault r is lt (next_at wanted p line) refl (next_line wanted p line)
-      (λ q k e. decide n wanted (front ++ ended_line line) q (after_first is_line_end bytes) text fault (after_shorter n bytes few lt) k
+      line_decided bits wanted front p bytes text fault r is lt (next_at wanted p line) refl (next_line wanted p line)
+      (λ q k e. decide n bits wanted (front ++ ended_line line) q (after_first is_line_end bytes) text fault (after_shorter n bytes few lt) k
       (is ∙ ap (λ (xs : List ℕ). front ++ xs) (line_split bytes lt) ∙ sym (spread front line (after_first is_line_end bytes))) e)
       (ap (λ (x : Reading). x.end) (sym (line_here wanted p bytes lt)) ∙ h)
 ]
 
 pub lines_decide : LinesDecide
-lines_decide wanted text fault h = decide (length text) wanted [] origin text text fault (omega arith) (record { leads = λ more. refl; line = refl; ends = inl refl }) refl h
+lines_decide bits wanted text fault h = decide (length text) bits wanted [] (origin bits) text text fault (omega arith) (record { leads = λ more. refl; line = refl; ends = inl refl }) refl h

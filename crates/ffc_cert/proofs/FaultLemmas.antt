@@ -176,7 +176,7 @@ entry_after version wanted part p Between h = refl
 entry_after version wanted part p (Assignment left) h = refl
 entry_after version wanted part p (Refutation a) h = refl
 
-module _ (version : ℕ) (known : IsVersion version) (wanted : ℕ) (part : List ℕ) (p : Progress) (line : List ℕ) (plain : IsPlain line) (same : p.version ≡ version) (bytes : p.bytes ≡ length part) where
+module _ {bits : Bool} (version : ℕ) (known : IsVersion bits version) (wanted : ℕ) (part : List ℕ) (p : Progress) (line : List ℕ) (plain : IsPlain line) (same : p.version ≡ version) (bytes : p.bytes ≡ length part) where
   of_judged : At version wanted p.place part p → p.complete < wanted → (fault : CertFault) → IsJudgedSo version part line p fault → IsHaltOf version wanted part line p fault
   of_judged h lt fault j = record {
     code = j.code;
@@ -245,6 +245,6 @@ module _ (version : ℕ) (known : IsVersion version) (wanted : ℕ) (part : List
   place_halts (Refutation a) e h fault k = within (of_judged (at_place (Refutation a) e h) h.0.awaited fault (line_bad a h.0 fault k))
 
 -- a reading that halts at the line that the bytes begin with
-pub line_halts : (version : ℕ) → IsVersion version → (wanted : ℕ) (part : List ℕ) (p : Progress) (bytes : List ℕ) → IsInside version wanted part p → (fault : CertFault)
+pub line_halts : {bits : Bool} (version : ℕ) → IsVersion bits version → (wanted : ℕ) (part : List ℕ) (p : Progress) (bytes : List ℕ) → IsInside version wanted part p → (fault : CertFault)
     → next_in p.place wanted p (seen_line bytes) ≡ Halt fault → IsHaltAt version wanted part (seen_line bytes) p fault
 line_halts version known wanted part p bytes h fault k = place_halts version known wanted part p (seen_line bytes) (seen_plain bytes) h.version_is h.bytes p.place refl h.at fault k

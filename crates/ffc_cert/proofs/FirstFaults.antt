@@ -1,6 +1,6 @@
 -- A text's fault is that of its first line at fault.
 use Rattle.std.proofs.Common.{◌≡◌, ℕ, zero, suc, ◌+◌, ◌<◌, ◌≤◌, ◌^◌, Bool, true, false, cond, List, [], ◌∷◌, ◌++◌, length, take, ltb, Option, Some, None, inl, inr, refl, sym, ap, ◌∙◌, subst, arith, append_assoc, append-nil, length-append}
-use Rattle.std.specs.Prelude.{codes, nat_lt, nat_eq, if◌then◌else◌}
+use Rattle.std.specs.Prelude.{codes, nat_lt, nat_eq, ◌&&◌, if◌then◌else◌}
 use Rattle.std.specs.List.{AllByRecursion, flat_map, position_or_len, before_first, after_first, starts_with}
 use Rattle.std.specs.Str.{bytes_eq}
 use Rattle.std.proofs.lemmas.Bool.{ltb-true, ltb-false}
@@ -24,7 +24,7 @@ use Rattle.ffc_cert.specs.FirstFault.{lines_of, ended_line, HasLine, seen_line, 
 use Rattle.ffc_cert.proofs.Codes.{IsPlain}
 use Rattle.ffc_cert.proofs.NumberCodes.{narrow_code}
 use Rattle.ffc_cert.proofs.ReadLemmas.{after_next}
-use Rattle.ffc_cert.proofs.RestLemmas.{long_halts}
+use Rattle.ffc_cert.proofs.RestLemmas.{long_halts, both_true}
 use Rattle.ffc_cert.proofs.GivenLemmas.{with_end, all_push, At, IsInside, IsGood, IsMoved, IsGiven, next_good}
 use Rattle.ffc_cert.proofs.BackLemmas.{header_read, between}
 use Rattle.ffc_cert.proofs.TextLemmas.{NoVersion, no_version, has_header, never_named, behind_inside}
@@ -50,8 +50,8 @@ text_more version entries e =
     ap (λ (xs : List ℕ). header version ++ xs) (flat_map-append entry_text entries (e ∷ []) ∙ ap (λ (xs : List ℕ). flat_map entry_text entries ++ xs) (append-nil (entry_text e)))
     ∙ sym (append_assoc (header version) (flat_map entry_text entries) (entry_text e))
 
-module _ (version : ℕ) (known : IsVersion version) (wanted : ℕ) where
-  right : (entries : List Entry) (part front : List ℕ) (p : Progress) → IsAhead version wanted entries part front p → AreFaultless version entries part front
+module _ (bits : Bool) (version : ℕ) (known : IsVersion bits version) (wanted : ℕ) where
+  right : (entries : List Entry) (part front : List ℕ) (p : Progress) → IsAhead version wanted entries part front p → AreFaultless bits version entries part front
   right entries part front p h =
       let b = part_begun version wanted part p p.place h.inside.at in
       record {
@@ -95,15 +95,15 @@ module _ (version : ℕ) (known : IsVersion version) (wanted : ℕ) where
   -- the end of a reading after line 1
   abbrev IsEndOf : List ℕ → End → Type 0
   IsEndOf text Complete = Unit {0}
-  IsEndOf text (Open fault) = IsFirstAfter (λ version count part rest code. IsUnended wanted count rest code) text fault
-  IsEndOf text (Stopped fault) = IsFirstAfter (IsWrong wanted) text fault
+  IsEndOf text (Open fault) = IsFirstAfter bits (λ version count part rest code. IsUnended wanted count rest code) text fault
+  IsEndOf text (Stopped fault) = IsFirstAfter bits (IsWrong wanted) text fault
 
   some_bytes : (bytes : List ℕ) → IsJudged bytes → 0 < length bytes
   some_bytes bytes (inl lt) = omega (arith, lt)
   some_bytes bytes (inr lt) = omega (arith, lt)
 
   module _ (entries : List Entry) (part front : List ℕ) (p : Progress) (bytes text : List ℕ) (h : IsAhead version wanted entries part front p) (is : text ≡ front ++ bytes) where
-    wrong_at : (code : ℕ) (fault : CertFault) → fault ≡ record { entry = p.complete + 1; line = p.line; code = code } → IsWrong wanted version (length entries) part bytes code → IsFirstAfter (IsWrong wanted) text fault
+    wrong_at : (code : ℕ) (fault : CertFault) → fault ≡ record { entry = p.complete + 1; line = p.line; code = code } → IsWrong wanted version (length entries) part bytes code → IsFirstAfter bits (IsWrong wanted) text fault
     wrong_at code fault fault_is w = record {
       version = version;
       entries = entries;
@@ -121,11 +121,11 @@ module _ (version : ℕ) (known : IsVersion version) (wanted : ℕ) where
     bad_wrong judged code lt (inl b) = form (omega (arith, lt, h.complete)) judged b
     bad_wrong judged code lt (inr b) = long (omega (arith, lt, h.complete)) judged b
 
-    halted : IsJudged bytes → (fault : CertFault) → IsHaltAt version wanted part (seen_line bytes) p fault → IsFirstAfter (IsWrong wanted) text fault
+    halted : IsJudged bytes → (fault : CertFault) → IsHaltAt version wanted part (seen_line bytes) p fault → IsFirstAfter bits (IsWrong wanted) text fault
     halted judged fault (over all none fault_is) = wrong_at 2 fault fault_is (after_last (sym h.complete ∙ all) none (some_bytes bytes judged) refl)
     halted judged fault (within b) = wrong_at b.code fault b.fault_is (bad_wrong judged b.code b.awaited b.bad)
 
-    halts_here : IsJudged bytes → (fault : CertFault) → next_in p.place wanted p (seen_line bytes) ≡ Halt fault → IsFirstAfter (IsWrong wanted) text fault
+    halts_here : IsJudged bytes → (fault : CertFault) → next_in p.place wanted p (seen_line bytes) ≡ Halt fault → IsFirstAfter bits (IsWrong wanted) text fault
     halts_here judged fault k = halted judged fault (line_halts version known wanted part p bytes h.inside fault k)
 
     all_seen : length bytes ≤ position_or_len is_line_end bytes → before_first is_line_end bytes ≡ bytes
@@ -221,11 +221,12 @@ module _ (version : ℕ) (known : IsVersion version) (wanted : ℕ) where
 narrow_tail : (version : ℕ) → version < 2 ^ 32 → IsPlain (codes "ffcert" ++ number version)
 narrow_tail version h = (refl, (refl, (refl, (refl, (refl, (refl, narrow_code.plain version h))))))
 
-header_plain : (version : ℕ) → IsVersion version → IsPlain (codes "ffcert" ++ number version)
+header_plain : {bits : Bool} (version : ℕ) → IsVersion bits version → IsPlain (codes "ffcert" ++ number version)
 header_plain version (inl one) = narrow_tail version (omega (arith, one))
-header_plain version (inr two) = narrow_tail version (omega (arith, two))
+header_plain version (inr (inl two)) = narrow_tail version (omega (arith, two))
+header_plain version (inr (inr three)) = let v = three.0 in narrow_tail version (omega (arith, v))
 
-header_count : (version : ℕ) → IsVersion version → lines_of (header version) ≡ 1
+header_count : {bits : Bool} (version : ℕ) → IsVersion bits version → lines_of (header version) ≡ 1
 header_count version known = count_more [] (codes "ffcert" ++ number version) (header_plain version known)
 
 no_entries : (version : ℕ) → text_of version [] ≡ header version
@@ -233,9 +234,9 @@ unfolding text_of
 no_entries version = append-nil (header version)
 
 -- the text goes on after line 1
-after_header : (version : ℕ) (known : IsVersion version) (wanted : ℕ) (rest text : List ℕ) → text ≡ header version ++ rest → IsEndOf version known wanted text (reading_of wanted text).end
-after_header version known wanted rest text is =
-    let start : IsAhead version wanted [] [] (header version) (between version 0 2) = record {
+after_header : (bits : Bool) (version : ℕ) (known : IsVersion bits version) (wanted : ℕ) (rest text : List ℕ) → text ≡ header version ++ rest → IsEndOf bits version known wanted text (reading_of bits wanted text).end
+after_header bits version known wanted rest text is =
+    let start : IsAhead version wanted [] [] (header version) (between bits version 0 2) = record {
       inside = record { version_is = refl; bytes = refl; at = record { text_is = refl; values = refl; lines = refl; line = refl; few = omega arith } };
       complete = refl;
       line = omega (arith, header_count version known);
@@ -245,16 +246,16 @@ after_header version known wanted rest text is =
       body = codes "ffcert" ++ number version;
       ends = refl;
     } in
-    subst (λ (r : Reading). IsEndOf version known wanted text r.end) (sym (ap (reading_of wanted) is ∙ header_read version known wanted rest))
-    (ahead_end version known wanted (length rest) [] [] (header version) (between version 0 2) rest text (omega arith) start is)
+    subst (λ (r : Reading). IsEndOf bits version known wanted text r.end) (sym (ap (reading_of bits wanted) is ∙ header_read bits version known wanted rest))
+    (ahead_end bits version known wanted (length rest) [] [] (header version) (between bits version 0 2) rest text (omega arith) start is)
 
-end_fault : (version : ℕ) (known : IsVersion version) (wanted : ℕ) (text : List ℕ) (end : End) → IsEndOf version known wanted text end → IsFaultOf wanted text end
-end_fault version known wanted text Complete h = tt
-end_fault version known wanted text (Open fault) h = inr h
-end_fault version known wanted text (Stopped fault) h = inr h
+end_fault : (bits : Bool) (version : ℕ) (known : IsVersion bits version) (wanted : ℕ) (text : List ℕ) (end : End) → IsEndOf bits version known wanted text end → IsFaultOf bits wanted text end
+end_fault bits version known wanted text Complete h = tt
+end_fault bits version known wanted text (Open fault) h = inr h
+end_fault bits version known wanted text (Stopped fault) h = inr h
 
 -- no version is named
-module _ (wanted : ℕ) (text : List ℕ) (none : NoVersion text) where
+module _ (bits : Bool) (wanted : ℕ) (text : List ℕ) (none : NoVersion bits text) where
   not_seen : (line : List ℕ) → length line ≤ MAX_BYTES → starts_with nat_eq text (ended_line line) ≡ false → HasLine text → seen_line text ≡ line → ⊥
   not_seen line few other lt same = never_named line (seen_line text) (before_first is_line_end text) (after_first is_line_end text) text (line_split text lt) refl few same other
 
@@ -271,58 +272,67 @@ module _ (wanted : ℕ) (text : List ℕ) (none : NoVersion text) where
     | inr t ↦ too_long line few (ltb-false (position_or_len is_line_end text) (length text) t) many same
   ]
 
-  header_halts : IsJudged text → (one two : Bool) → bytes_eq (seen_line text) (codes "ffcert 1") ≡ one → bytes_eq (seen_line text) (codes "ffcert 2") ≡ two → (n : Next)
-      → (if one then Move (named 1 origin) else if two then Move (named 2 origin) else Halt (fault_at 1 origin)) ≡ n → n ≡ Halt (fault_at 1 origin)
-  header_halts judged true two e f n h = absurd (never (codes "ffcert 1") (omega arith) none.0 judged ((bytes_eq-Decides (seen_line text) (codes "ffcert 1")).0 e))
-  header_halts judged false true e f n h = absurd (never (codes "ffcert 2") (omega arith) none.1 judged ((bytes_eq-Decides (seen_line text) (codes "ffcert 2")).0 f))
-  header_halts judged false false e f n h = sym h
+  -- a line that is no line 1 of a version
+  is_not : IsJudged text → (line : List ℕ) → length line ≤ MAX_BYTES → starts_with nat_eq text (ended_line line) ≡ false → bytes_eq (seen_line text) line ≡ true → ⊥
+  is_not judged line few other e = never line few other judged ((bytes_eq-Decides (seen_line text) line).0 e)
 
-  header_fault : IsJudged text → IsFaultOf wanted text (Stopped (fault_at 1 origin))
+  header_halts : IsJudged text → (one two three : Bool) → bytes_eq (seen_line text) (codes "ffcert 1") ≡ one → bytes_eq (seen_line text) (codes "ffcert 2") ≡ two
+      → (bits && bytes_eq (seen_line text) (codes "ffcert 3")) ≡ three → (n : Next)
+      → (if one then Move (named 1 (origin bits)) else if two then Move (named 2 (origin bits)) else if three then Move (named 3 (origin bits)) else Halt (fault_at 1 (origin bits))) ≡ n → n ≡ Halt (fault_at 1 (origin bits))
+  header_halts judged true two three e f g n h = absurd (is_not judged (codes "ffcert 1") (omega arith) none.one e)
+  header_halts judged false true three e f g n h = absurd (is_not judged (codes "ffcert 2") (omega arith) none.two f)
+  header_halts judged false false true e f g n h =
+      let k = both_true bits (bytes_eq (seen_line text) (codes "ffcert 3")) g in
+      absurd (is_not judged (codes "ffcert 3") (omega arith) (none.three k.0) k.1)
+  header_halts judged false false false e f g n h = sym h
+
+  header_fault : IsJudged text → IsFaultOf bits wanted text (Stopped (fault_at 1 (origin bits)))
   unfolding entry_number
   header_fault judged = inl (record {
     fault_is = refl;
     judged = judged;
-    not_one = never (codes "ffcert 1") (omega arith) none.0 judged;
-    not_two = never (codes "ffcert 2") (omega arith) none.1 judged;
+    not_one = never (codes "ffcert 1") (omega arith) none.one judged;
+    not_two = never (codes "ffcert 2") (omega arith) none.two judged;
+    not_three = λ known. never (codes "ffcert 3") (omega arith) (none.three known) judged;
   })
 
-  header_next : IsJudged text → next_in Header wanted origin (seen_line text) ≡ Halt (fault_at 1 origin)
+  header_next : IsJudged text → next_in Header wanted (origin bits) (seen_line text) ≡ Halt (fault_at 1 (origin bits))
   unfolding next_in header_line
-  header_next judged = header_halts judged (bytes_eq (seen_line text) (codes "ffcert 1")) (bytes_eq (seen_line text) (codes "ffcert 2")) refl refl (header_line origin (seen_line text)) refl
+  header_next judged = header_halts judged (bytes_eq (seen_line text) (codes "ffcert 1")) (bytes_eq (seen_line text) (codes "ffcert 2")) (bits && bytes_eq (seen_line text) (codes "ffcert 3")) refl refl refl (header_line (origin bits) (seen_line text)) refl
 
-  unnamed_line : HasLine text → IsFaultOf wanted text (reading_of wanted text).end
+  unnamed_line : HasLine text → IsFaultOf bits wanted text (reading_of bits wanted text).end
   unfolding next_at
   unnamed_line lt =
-      let next : next_at wanted origin (before_first is_line_end text) ≡ Halt (fault_at 1 origin) = header_next (inl lt) in
-      subst (λ (r : Reading). IsFaultOf wanted text r.end) (sym (line_here wanted origin text lt ∙ ap (λ (n : Next). after_next n (λ q. read_text wanted q (after_first is_line_end text))) next))
+      let next : next_at wanted (origin bits) (before_first is_line_end text) ≡ Halt (fault_at 1 (origin bits)) = header_next (inl lt) in
+      subst (λ (r : Reading). IsFaultOf bits wanted text r.end) (sym (line_here wanted (origin bits) text lt ∙ ap (λ (n : Next). after_next n (λ q. read_text wanted q (after_first is_line_end text))) next))
       (header_fault (inl lt))
 
   unnamed_end : length text ≤ position_or_len is_line_end text → (cut : Bool) → nat_lt MAX_BYTES (length text) ≡ cut
-      → IsFaultOf wanted text (cond cut (cut_end (next_at wanted origin text) origin) (cond false (end_after text origin) (Open (fault_at 4 origin))))
+      → IsFaultOf bits wanted text (cond cut (cut_end (next_at wanted (origin bits) text) (origin bits)) (cond false (end_after text (origin bits)) (Open (fault_at 4 (origin bits)))))
   unfolding cut_end next_at entry_number
   unnamed_end alone true e =
       let many = ltb-true MAX_BYTES (length text) e in
       let whole : before_first is_line_end text ≡ text = take_all (position_or_len is_line_end text) text alone in
-      let next : next_at wanted origin text ≡ Halt (fault_at 1 origin) =
-      ap (λ (xs : List ℕ). next_in Header wanted origin (take (MAX_BYTES + 1) xs)) (sym whole) ∙ header_next (inr many) in
+      let next : next_at wanted (origin bits) text ≡ Halt (fault_at 1 (origin bits)) =
+      ap (λ (xs : List ℕ). next_in Header wanted (origin bits) (take (MAX_BYTES + 1) xs)) (sym whole) ∙ header_next (inr many) in
       rw next (header_fault (inr many))
   unnamed_end alone false e = inl (record { fault_is = refl; unended = alone; short = ltb-false MAX_BYTES (length text) e })
 
-  unnamed_alone : length text ≤ position_or_len is_line_end text → IsFaultOf wanted text (reading_of wanted text).end
+  unnamed_alone : length text ≤ position_or_len is_line_end text → IsFaultOf bits wanted text (reading_of bits wanted text).end
   unfolding end_at is_complete
-  unnamed_alone alone = subst (λ (r : Reading). IsFaultOf wanted text r.end) (sym (read_alone wanted origin text alone)) (unnamed_end alone (nat_lt MAX_BYTES (length text)) refl)
+  unnamed_alone alone = subst (λ (r : Reading). IsFaultOf bits wanted text r.end) (sym (read_alone wanted (origin bits) text alone)) (unnamed_end alone (nat_lt MAX_BYTES (length text)) refl)
 
-  unnamed : IsFaultOf wanted text (reading_of wanted text).end
+  unnamed : IsFaultOf bits wanted text (reading_of bits wanted text).end
   unnamed = elim (either (ltb (position_or_len is_line_end text) (length text))) [
     | inl t ↦ unnamed_line (ltb-true (position_or_len is_line_end text) (length text) t)
     | inr t ↦ unnamed_alone (ltb-false (position_or_len is_line_end text) (length text) t)
   ]
 
-by_version : (wanted : ℕ) (text : List ℕ) (v : Option ℕ) → version_of text ≡ v → IsFaultOf wanted text (reading_of wanted text).end
-by_version wanted text None e = unnamed wanted text (no_version text e)
-by_version wanted text (Some version) e =
-    let h = has_header text version e in
-    end_fault version h.known wanted text (reading_of wanted text).end (after_header version h.known wanted h.rest text h.text_is)
+by_version : (bits : Bool) (wanted : ℕ) (text : List ℕ) (v : Option ℕ) → version_of bits text ≡ v → IsFaultOf bits wanted text (reading_of bits wanted text).end
+by_version bits wanted text None e = unnamed bits wanted text (no_version bits text e)
+by_version bits wanted text (Some version) e =
+    let h = has_header bits text version e in
+    end_fault bits version h.known wanted text (reading_of bits wanted text).end (after_header bits version h.known wanted h.rest text h.text_is)
 
 pub faults_are_first : FaultsAreFirst
-faults_are_first wanted text = by_version wanted text (version_of text) refl
+faults_are_first bits wanted text = by_version bits wanted text (version_of bits text) refl

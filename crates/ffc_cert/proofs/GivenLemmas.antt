@@ -178,7 +178,7 @@ positive n e = grind (arith, nat_tests, e)
 more_bytes : (text line : List ℕ) (bytes : ℕ) → bytes ≡ length text → bytes + (length line + 1) ≡ length (text ++ with_end line)
 more_bytes text line bytes h = omega (arith, h, length-append text (with_end line), length-append line (10 ∷ []))
 
-module _ (version : ℕ) (known : IsVersion version) (wanted : ℕ) (text : List ℕ) (p : Progress) (same : p.version ≡ version) (bytes : p.bytes ≡ length text) where
+module _ {bits : Bool} (version : ℕ) (known : IsVersion bits version) (wanted : ℕ) (text : List ℕ) (p : Progress) (same : p.version ≡ version) (bytes : p.bytes ≡ length text) where
   -- the entry ends with a line
   whole_good : (line : List ℕ) → p.bytes + (length line + 1) ≤ MAX_BYTES → p.complete < wanted → (e : Entry) → IsWellFormed version e → entry_text e ≡ text ++ with_end line
       → p.line + 1 ≡ p.first_line + line_count e → IsGood version wanted (text ++ with_end line) p (given e p)
@@ -430,6 +430,6 @@ module _ (version : ℕ) (known : IsVersion version) (wanted : ℕ) (text : List
       good_uncut part line cut r.fits (with_line a (length line + 1) p l) (line_good a h.0 h.1 line r.fits l (t.text_is ∙ append-nil (line_items l)) t.next t.line t.fits))
 
 -- the state after a line
-pub next_good : (version : ℕ) → IsVersion version → (wanted : ℕ) (text : List ℕ) (p : Progress) (part : List ℕ) → IsInside version wanted text p → IsGood version wanted (text ++ with_end part) p (next_at wanted p part)
+pub next_good : {bits : Bool} (version : ℕ) → IsVersion bits version → (wanted : ℕ) (text : List ℕ) (p : Progress) (part : List ℕ) → IsInside version wanted text p → IsGood version wanted (text ++ with_end part) p (next_at wanted p part)
 unfolding next_at
 next_good version known wanted text p part h = place_good version known wanted text p h.version_is h.bytes p.place part (take (MAX_BYTES + 1) part) refl h.at

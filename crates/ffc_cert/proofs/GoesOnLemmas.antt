@@ -102,4 +102,4 @@ text_front (suc n) wanted p bytes more few = elim (either (ltb (position_or_len 
 ]
 
 pub goes_on : GoesOn
-goes_on wanted text more = text_front (length text) wanted origin text more (omega arith)
+goes_on bits wanted text more = text_front (length text) wanted (origin bits) text more (omega arith)

@@ -4,11 +4,11 @@ use Rattle.std.proofs.lemmas.Bool.Decides.{nat_tests}
 use Rattle.std.proofs.lemmas.List.Sums.{sum_by-cons}
 use Rattle.std.specs.Prelude.{cond}
 use Rattle.ffc_cert.specs.declared.entries.CertLine.{CertLine}
-use Rattle.ffc_cert.specs.declared.entries.CertLine.TheVariants.{Assume, Scheme, Hinted, Lemma, Combine, Chain, Step, Split, Values, Close}
+use Rattle.ffc_cert.specs.declared.entries.CertLine.TheVariants.{Assume, Scheme, Hinted, Lemma, Combine, Bits, Chain, Step, Split, Values, Close}
 use Rattle.ffc_cert.specs.declared.forms.Awaited.{Awaited}
 use Rattle.ffc_cert.specs.Reading.{awaited_after, is_whole}
 use Rattle.ffc_cert.specs.Spelling.{is_clause, clauses}
-use Rattle.ffc_cert.specs.Grammar.{AreSteps, no_steps, step, IsTree, combine, chain, split, values, close, AreTrees, no_trees, tree, AreClauses, no_clauses, assume, scheme, hinted, lemma}
+use Rattle.ffc_cert.specs.Grammar.{AreSteps, no_steps, step, IsTree, combine, with_bits, chain, split, values, close, AreTrees, no_trees, tree, AreClauses, no_clauses, assume, scheme, hinted, lemma}
 use Rattle.ffc_cert.proofs.LineCodes.{IsNext}
 
 abbrev pub awaiting : ℕ → ℕ → ℕ → Awaited
@@ -58,6 +58,7 @@ mutual
 
   tree_completes : {lines rest : List CertLine} → IsTree lines rest → (c t : ℕ) → Completes (awaiting c t 0) rest → Completes (awaiting c (suc t) 0) lines
   tree_completes (combine multiples h) c t k = (tree_needed c t 0, ((refl, omega arith), tree_completes h c t k))
+  tree_completes (with_bits line chosen polynomial bits h) c t k = (tree_needed c t 0, ((refl, omega arith), tree_completes h c t k))
   tree_completes (chain line variable steps s h) c t k = (tree_needed c t 0, ((refl, omega arith), steps_complete s c t (tree_completes h c t k)))
   tree_completes (split {lines = ls} line variable zeros h) c t k =
       (tree_needed c t 0, ((refl, omega arith), subst (λ m. Completes (awaiting c (m + length zeros) 0) ls) (sym (one_less t)) (trees_complete h c t k)))
@@ -86,6 +87,7 @@ mutual
 
   tree_count : {lines rest : List CertLine} → IsTree lines rest → clauses lines ≡ clauses rest
   tree_count (combine {lines = ls} multiples h) = count_other (Combine multiples) ls refl ∙ tree_count h
+  tree_count (with_bits {lines = ls} line chosen polynomial bits h) = count_other (Bits line chosen polynomial bits) ls refl ∙ tree_count h
   tree_count (chain {lines = ls} line variable steps s h) = count_other (Chain line variable steps) ls refl ∙ steps_count s ∙ tree_count h
   tree_count (split {lines = ls} line variable zeros h) = count_other (Split line variable zeros) ls refl ∙ trees_count h
   tree_count (values {lines = ls} variable trees h) = count_other (Values variable trees) ls refl ∙ trees_count h
@@ -197,6 +199,13 @@ shape (Combine multiples ∷ lines) c (suc t) zero h =
     let more = at_trees (suc t) c lines (shape lines c (suc t) zero h.1.1) in
     let one = first_tree more.trees in
     with_trees (suc t) c (Combine multiples ∷ lines) (record { after = more.after; trees = tree (combine multiples one.first) one.others; others = more.others; count = more.count })
+shape (Bits line chosen polynomial bits ∷ lines) c t (suc s) h = absurd (let no : suc s ≡ 0 = h.1.0.0 in cc)
+shape (Bits line chosen polynomial bits ∷ lines) c zero zero h = absurd (let no : 0 < 0 = h.1.0.1 in omega arith)
+shape (Bits line chosen polynomial bits ∷ lines) c (suc t) zero h =
+    let more = at_trees (suc t) c lines (shape lines c (suc t) zero h.1.1) in
+    let one = first_tree more.trees in
+    with_trees (suc t) c (Bits line chosen polynomial bits ∷ lines)
+    (record { after = more.after; trees = tree (with_bits line chosen polynomial bits one.first) one.others; others = more.others; count = more.count })
 shape (Chain line variable steps ∷ lines) c t (suc s) h = absurd (let no : suc s ≡ 0 = h.1.0.0 in cc)
 shape (Chain line variable steps ∷ lines) c zero zero h = absurd (let no : 0 < 0 = h.1.0.1 in omega arith)
 shape (Chain line variable steps ∷ lines) c (suc t) zero h =

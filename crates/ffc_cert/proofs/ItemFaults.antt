@@ -173,7 +173,7 @@ next_of : (lines others : List CertLine) (l : CertLine) (a : Awaited) → Comple
 next_of [] others l a h = h.1.0
 next_of (m ∷ lines) others l a h = next_of lines others l (awaited_after m a) h.1.1
 
-module _ (version : ℕ) (known : IsVersion version) where
+module _ {bits : Bool} (version : ℕ) (known : IsVersion bits version) where
   same_lines : (lines others more fill : List CertLine) (a : Awaited) → Completes a (lines ++ more) → Completes a (others ++ fill) → AreLines version lines → AreLines version others
       → flat_map line_text lines ≡ flat_map line_text others → lines ≡ others
   same_lines [] [] more fill a h k p q e = refl

@@ -7,13 +7,14 @@ use Rattle.ffc_cert.specs.declared.entries.Cause.TheVariants.{Degree, Terms, Ste
 use Rattle.ffc_cert.specs.declared.entries.Entry.{Entry}
 use Rattle.ffc_cert.specs.declared.entries.Entry.TheVariants.{Sat, UnsatCases, UnsatSteps, Unknown}
 use Rattle.ffc_cert.specs.declared.entries.CertLine.{CertLine}
-use Rattle.ffc_cert.specs.declared.entries.CertLine.TheVariants.{Assume, Scheme, Hinted, Lemma, Combine, Chain, Step, Split, Values, Close}
+use Rattle.ffc_cert.specs.declared.entries.CertLine.TheVariants.{Assume, Scheme, Hinted, Lemma, Combine, Bits, Chain, Step, Split, Values, Close}
 use Rattle.ffc_cert.specs.Spelling.{number, literal, counted, power, term, multiple, order_item, line_items, cause_items, clauses}
-use Rattle.ffc_cert.specs.Ranges.{IsNarrow, IsWide, IsLiteral, IsCounted, IsPower, VariablesIncrease, IsTerm, IsMultiple, IsOrder, IsLine, IsCause}
+use Rattle.ffc_cert.specs.Ranges.{IsNarrow, IsWide, IsLiteral, IsCounted, IsPower, VariablesIncrease, Increase, AreVariables, IsTerm, IsMultiple, IsOrder, IsLine, IsCause}
 use Rattle.ffc_cert.specs.WellFormed.{IsWellFormed}
-use Rattle.ffc_cert.specs.LineItems.{Item, Word, Below, spaced, narrow, wide, signed, counted_items, power_items, powers_items, term_items, multiple_items, order_items, items_of, first_items, AreRight, LinesAreItems, ValuesAreItems, FirstLinesAreItems}
+use Rattle.ffc_cert.specs.LineItems.{Item, Word, Below, spaced, narrow, wide, signed, counted_items, power_items, powers_items, variables_items, term_items, multiple_items, order_items, items_of, first_items, AreRight, LinesAreItems, ValuesAreItems, FirstLinesAreItems}
 use Rattle.ffc_cert.specs.LineItems.{cause_items as items_of_cause}
 use Rattle.ffc_cert.proofs.ListCodes.{all_map}
+use Rattle.ffc_cert.proofs.VariableCodes.{all_from_zero}
 use Rattle.ffc_cert.proofs.PrefixLemmas.{first_of, body_of, entry_is}
 use Rattle.ffc_cert.proofs.Gradual.{right_front, right_rest, right_both, spaced_append}
 
@@ -94,6 +95,39 @@ from_zero : (ps : List (ℕ × ℕ)) → AllByRecursion (λ q. 0 ≤ q.0) ps
 from_zero [] = tt
 from_zero (p ∷ ps) = (omega arith, from_zero ps)
 
+-- variables that increase from a number on
+variables_spelled : (least : ℕ) (xs : List ℕ) → spaced (variables_items least xs) ≡ flat_map number xs
+variables_spelled least [] = refl
+variables_spelled least (x ∷ xs) = ap (λ (bs : List ℕ). number x ++ bs) (variables_spelled (x + 1) xs)
+
+variables_to : (least : ℕ) (xs : List ℕ) → AllByRecursion IsNarrow xs → AllByRecursion (λ y. least ≤ y) xs → Increase xs → AreRight (variables_items least xs)
+variables_to least [] h k i = tt
+variables_to least (x ∷ xs) h k i = ((k.0, h.0), variables_to (x + 1) xs h.1 (all_map (λ (y : ℕ). x < y) (λ (y : ℕ). x + 1 ≤ y) xs (λ y lt. omega arith) i.0) i.1)
+
+record AreAbove (least : ℕ) (xs : List ℕ) : Type 0 where
+  each : AllByRecursion IsNarrow xs
+  above : AllByRecursion (λ y. least ≤ y) xs
+  increasing : Increase xs
+
+variables_from : (least : ℕ) (xs : List ℕ) → AreRight (variables_items least xs) → AreAbove least xs
+variables_from least [] h = record { each = tt; above = tt; increasing = tt }
+variables_from least (x ∷ xs) h =
+    let more = variables_from (x + 1) xs h.1 in
+    let low = h.0.0 in
+    record {
+      each = (h.0.1, more.each);
+      above = (low, all_map (λ (y : ℕ). x + 1 ≤ y) (λ (y : ℕ). least ≤ y) xs (λ y le. omega (arith, low)) more.above);
+      increasing = (all_map (λ (y : ℕ). x + 1 ≤ y) (λ (y : ℕ). x < y) xs (λ y le. omega arith) more.above, more.increasing);
+    }
+
+chosen_same : IsSame {A = List ℕ} (λ xs. narrow (length xs) ++ variables_items 0 xs) (counted number) AreVariables
+unfolding counted
+chosen_same = record {
+  spelled = λ xs. both_spelled (narrow (length xs)) (variables_items 0 xs) (number (length xs)) (flat_map number xs) (narrow_same.spelled (length xs)) (variables_spelled 0 xs);
+  to = λ xs h. (h.counted.few, variables_to 0 xs h.counted.each (all_from_zero xs) h.increasing);
+  from = λ xs h. let a = variables_from 0 xs h.1 in record { counted = record { few = h.0; each = a.each }; increasing = a.increasing };
+}
+
 term_same : IsSame term_items term IsTerm
 unfolding counted
 term_same = record {
@@ -163,6 +197,10 @@ step_same = pair_same (counted_same wide_same) (counted_same wide_same)
 split_same : IsSame {A = ℕ × (ℕ × List ℕ)} (λ x. narrow x.0 ++ (narrow x.1.0 ++ counted_items wide x.1.1)) (λ x. number x.0 ++ (number x.1.0 ++ counted number x.1.1)) (λ x. IsNarrow x.0 × (IsNarrow x.1.0 × IsCounted IsWide x.1.1))
 split_same = pair_same narrow_same (pair_same narrow_same (counted_same wide_same))
 
+bits_same : IsSame {A = ℕ × (List ℕ × (List (ℕ × List (ℕ × ℕ)) × List ℕ))} (λ x. narrow x.0 ++ ((narrow (length x.1.0) ++ variables_items 0 x.1.0) ++ (counted_items term_items x.1.1.0 ++ counted_items narrow x.1.1.1)))
+    (λ x. number x.0 ++ (counted number x.1.0 ++ (counted term x.1.1.0 ++ counted number x.1.1.1))) (λ x. IsNarrow x.0 × (AreVariables x.1.0 × (IsCounted IsTerm x.1.1.0 × IsCounted IsNarrow x.1.1.1)))
+bits_same = pair_same narrow_same (pair_same chosen_same (pair_same (counted_same term_same) (counted_same narrow_same)))
+
 narrow_pair : IsSame {A = ℕ × ℕ} (λ x. narrow x.0 ++ narrow x.1) (λ x. number x.0 ++ number x.1) (λ x. IsNarrow x.0 × IsNarrow x.1)
 narrow_pair = pair_same narrow_same narrow_same
 
@@ -177,6 +215,9 @@ line_text_is (Scheme node scheme index) =
 line_text_is (Hinted lits hints) = same_line hinted_same (codes "r") (lits, hints)
 line_text_is (Lemma order lits) = same_line lemma_same (codes "f") (order, lits)
 line_text_is (Combine multiples) = same_line (counted_same multiple_same) (codes "c") multiples
+line_text_is (Bits line chosen polynomial bits) =
+    ap (λ (bs : List ℕ). 32 ∷ bs) (grouped (codes "b" ++ number line) (counted number chosen) (counted term polynomial) (counted number bits) ∙ append_assoc (codes "b") (number line) (counted number chosen ++ (counted term polynomial ++ counted number bits)))
+    ∙ same_line bits_same (codes "b") (line, (chosen, (polynomial, bits)))
 line_text_is (Chain line variable steps) =
     ap (λ (bs : List ℕ). 32 ∷ bs) (grouped (codes "p") (number line) (number variable) (number steps)) ∙ same_line narrow_three (codes "p") (line, (variable, steps))
 line_text_is (Step quotient remainder) = same_line step_same (codes "u") (quotient, remainder)
@@ -191,6 +232,7 @@ line_right (Scheme node scheme index) = same_right narrow_three (codes "n") (nod
 line_right (Hinted lits hints) = same_right hinted_same (codes "r") (lits, hints)
 line_right (Lemma order lits) = same_right lemma_same (codes "f") (order, lits)
 line_right (Combine multiples) = same_right (counted_same multiple_same) (codes "c") multiples
+line_right (Bits line chosen polynomial bits) = same_right bits_same (codes "b") (line, (chosen, (polynomial, bits)))
 line_right (Chain line variable steps) = same_right narrow_three (codes "p") (line, (variable, steps))
 line_right (Step quotient remainder) = same_right step_same (codes "u") (quotient, remainder)
 line_right (Split line variable zeros) = same_right split_same (codes "s") (line, (variable, zeros))

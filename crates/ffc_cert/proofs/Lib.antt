@@ -13,6 +13,7 @@ pub mod Codes
 pub mod NumberCodes
 pub mod ListCodes
 pub mod TermCodes
+pub mod VariableCodes
 pub mod LineCodes
 pub mod GrammarLemmas
 pub mod OpeningCodes
@@ -20,6 +21,7 @@ pub mod PrefixLemmas
 pub mod GivenLemmas
 pub mod BackLemmas
 pub mod TextLemmas
+pub mod OldVersions
 pub mod GoesOnLemmas
 pub mod Gradual
 pub mod GradualItems

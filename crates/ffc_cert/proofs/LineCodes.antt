@@ -1,5 +1,5 @@
 -- Lines of clauses and trees.
-use Rattle.std.proofs.Common.{◌≡◌, ℕ, ◌<◌, ◌==◌, Bool, true, false, List, [], ◌∷◌, ◌++◌, Option, None, Some, Result, Ok, inl, inr, refl, sym, ap, ◌∙◌, subst, arith}
+use Rattle.std.proofs.Common.{◌≡◌, ℕ, ◌<◌, ◌==◌, Bool, true, false, List, [], ◌∷◌, ◌++◌, Option, None, Some, Result, Ok, ◌⊎◌, inl, inr, refl, sym, ap, ◌∙◌, subst, arith}
 use Rattle.std.specs.Prelude.{if◌then◌else◌, nat_lt, codes}
 use Rattle.std.specs.Str.{bytes_eq}
 use Rattle.std.proofs.lemmas.List.{append-nil}
@@ -8,19 +8,20 @@ use Rattle.std.proofs.lemmas.Slice.Eq.{bytes_eq-Decides}
 use Rattle.ffc_cert.specs.declared.flaws.Flaw.{Flaw}
 use Rattle.ffc_cert.specs.declared.flaws.Flaw.TheVariants.{Form}
 use Rattle.ffc_cert.specs.declared.entries.CertLine.{CertLine}
-use Rattle.ffc_cert.specs.declared.entries.CertLine.TheVariants.{Assume, Scheme, Hinted, Lemma, Combine, Chain, Step, Split, Values, Close}
+use Rattle.ffc_cert.specs.declared.entries.CertLine.TheVariants.{Assume, Scheme, Hinted, Lemma, Combine, Bits, Chain, Step, Split, Values, Close}
 use Rattle.ffc_cert.specs.declared.forms.Awaited.{Awaited}
 use Rattle.ffc_cert.specs.Items.{◌>>=◌, first_item, behind_item, ended, wide_at}
-use Rattle.ffc_cert.specs.Lines.{assume_at, scheme_at, hinted_at, order_at, lemma_at, combine_at, chain_at, step_at, split_at, values_at, clause_form, tree_form, step_form, form_at, line_at}
-use Rattle.ffc_cert.specs.Spelling.{number, literal, counted, multiple, order_item, line_items}
+use Rattle.ffc_cert.specs.Lines.{assume_at, scheme_at, hinted_at, order_at, lemma_at, combine_at, bits_at, bits_in, chain_at, step_at, split_at, values_at, clause_form, tree_form, step_form, form_at, line_at}
+use Rattle.ffc_cert.specs.Spelling.{number, literal, counted, term, multiple, order_item, line_items}
 use Rattle.ffc_cert.specs.Ranges.{IsOrder, IsLine}
 use Rattle.ffc_cert.specs.WellFormed.{LineFitsVersion}
 use Rattle.ffc_cert.specs.Laws.{IsVersion}
 use Rattle.ffc_cert.specs.Cuts.{IsCut}
 use Rattle.ffc_cert.proofs.Codes.{IsPlain, IsText, IsCode, bound, branch, chosen, same_parts, Is}
 use Rattle.ffc_cert.proofs.NumberCodes.{IsItem, narrow_code, wide_code, literal_code, word_front, word_behind, front_behind, is_same, differs}
-use Rattle.ffc_cert.proofs.ListCodes.{counted_code, pair_reads, pair_gives, pair_plain, triple_reads, triple_gives, triple_plain}
-use Rattle.ffc_cert.proofs.TermCodes.{multiple_code}
+use Rattle.ffc_cert.proofs.ListCodes.{counted_code, pair_reads, pair_gives, pair_plain, triple_reads, triple_gives, triple_plain, four_reads, four_gives, four_plain}
+use Rattle.ffc_cert.proofs.TermCodes.{term_code, multiple_code}
+use Rattle.ffc_cert.proofs.VariableCodes.{chosen_code}
 
 -- the line may come where this is needed
 abbrev pub IsNext : CertLine → Awaited → Type 0
@@ -29,6 +30,7 @@ IsNext (Scheme node scheme index) a = (a.steps ≡ 0) × (a.trees ≡ 0)
 IsNext (Hinted lits hints) a = (a.steps ≡ 0) × (a.trees ≡ 0)
 IsNext (Lemma order lits) a = (a.steps ≡ 0) × (a.trees ≡ 0)
 IsNext (Combine multiples) a = (a.steps ≡ 0) × (0 < a.trees)
+IsNext (Bits line chosen polynomial bits) a = (a.steps ≡ 0) × (0 < a.trees)
 IsNext (Chain line variable steps) a = (a.steps ≡ 0) × (0 < a.trees)
 IsNext (Step quotient remainder) a = 0 < a.steps
 IsNext (Split line variable zeros) a = (a.steps ≡ 0) × (0 < a.trees)
@@ -38,13 +40,18 @@ IsNext Close a = (a.steps ≡ 0) × (0 < a.trees)
 -- The order of a lemma.
 abbrev pub OrderFits : ℕ → Option ℕ → Type 0
 OrderFits version None = version ≡ 1
-OrderFits version (Some order) = version ≡ 2
+OrderFits version (Some order) = (version ≡ 2) ⊎ (version ≡ 3)
 
-two_left : (version : ℕ) → IsVersion version → (version == 1) ≡ false → version ≡ 2
-two_left version (inl one) h = absurd (differs version 1 h one)
-two_left version (inr two) h = two
+later_left : {bits : Bool} (version : ℕ) → IsVersion bits version → (version == 1) ≡ false → (version ≡ 2) ⊎ (version ≡ 3)
+later_left version (inl one) h = absurd (differs version 1 h one)
+later_left version (inr (inl two)) h = inl two
+later_left version (inr (inr three)) h = inr three.0
 
-module _ (version : ℕ) (known : IsVersion version) where
+pub not_first : (version : ℕ) → (version ≡ 2) ⊎ (version ≡ 3) → (version == 1) ≡ false
+not_first version (inl two) = rw two refl
+not_first version (inr three) = rw three refl
+
+module _ {bits : Bool} (version : ℕ) (known : IsVersion bits version) where
   order_cut : (order : Option ℕ) (rest : List ℕ) → IsCut rest → IsCut (order_item order ++ rest)
   order_cut None rest k = k
   order_cut (Some order) rest k = refl
@@ -56,7 +63,7 @@ module _ (version : ℕ) (known : IsVersion version) where
   order_reads : (order : Option ℕ) (rest : List ℕ) → OrderFits version order × IsOrder order → IsCut rest → order_at version (order_item order ++ rest) ≡ Ok (order, rest)
   unfolding order_at
   order_reads None rest h k = rw h.0 refl
-  order_reads (Some order) rest h k = let other : (version == 1) ≡ false = rw h.0 refl in rw (other, wide_code.reads order rest h.1 k) refl
+  order_reads (Some order) rest h k = rw (not_first version h.0, wide_code.reads order rest h.1 k) refl
 
   order_gives_by : (one : Bool) → (version == 1) ≡ one → (bytes : List ℕ) (order : Option ℕ) (rest : List ℕ)
       → Is {A = Option ℕ × List ℕ} (if one then Ok (None, bytes) else (wide_at bytes >>= λ read. Ok (Some read.0, read.1))) (order, rest)
@@ -70,7 +77,7 @@ module _ (version : ℕ) (known : IsVersion version) where
       let text = wide_code.gives bytes read.value.0 read.value.1 read.first in
       subst (λ o. IsText bytes (order_item o) rest (OrderFits version o × IsOrder o)) parts.0 (record {
         text_is = text.text_is ∙ ap (λ (ys : List ℕ). number read.value.0 ++ ys) parts.1;
-        holds = (two_left version known e, text.holds);
+        holds = (later_left version known e, text.holds);
       })
 
   order_gives : (bytes : List ℕ) (order : Option ℕ) (rest : List ℕ) → order_at version bytes ≡ Ok (order, rest) → IsText bytes (order_item order) rest (OrderFits version order × IsOrder order)
@@ -132,7 +139,7 @@ unfolding ended
 ended_gives x y [] h = (cc, refl)
 ended_gives x y (c ∷ rest) h = absurd (cc)
 
-module _ (version : ℕ) (known : IsVersion version) (a : Awaited) where
+module _ {bits : Bool} (version : ℕ) (known : IsVersion bits version) (a : Awaited) where
   reads_word : (word text : List ℕ) (l : CertLine) → IsItem word → IsCut text → Is (form_at version a word text) (l, []) → line_at version a (word ++ text) ≡ Ok l
   unfolding line_at ended
   reads_word word text l item k h = rw (word_front word text item k, word_behind word text item k, h) refl
@@ -141,7 +148,7 @@ module _ (version : ℕ) (known : IsVersion version) (a : Awaited) where
   unfolding form_at
   clause_reads word text l item k h read = reads_word word text l item k (rw (zero_steps a.steps h.0, zero_steps a.trees h.1) read)
 
-  tree_reads : (word text : List ℕ) (l : CertLine) → IsItem word → IsCut text → (a.steps ≡ 0) × (0 < a.trees) → Is (tree_form word text) (l, []) → line_at version a (word ++ text) ≡ Ok l
+  tree_reads : (word text : List ℕ) (l : CertLine) → IsItem word → IsCut text → (a.steps ≡ 0) × (0 < a.trees) → Is (tree_form version word text) (l, []) → line_at version a (word ++ text) ≡ Ok l
   unfolding form_at
   tree_reads word text l item k h read = reads_word word text l item k (rw (zero_steps a.steps h.0, some_steps a.trees h.1) read)
 
@@ -149,8 +156,12 @@ module _ (version : ℕ) (known : IsVersion version) (a : Awaited) where
   unfolding form_at
   step_reads word text l item k h read = reads_word word text l item k (rw (some_steps a.steps h) read)
 
+  bits_reads : (text : List ℕ) (l : CertLine) → version ≡ 3 → Is (bits_at text) (l, []) → Is (bits_in version text) (l, [])
+  unfolding bits_in
+  bits_reads text l three read = rw three read
+
   pub line_reads : (l : CertLine) → IsNext l a → IsLine l → LineFitsVersion version l → line_at version a (line_items l) ≡ Ok l
-  unfolding line_items clause_form tree_form step_form assume_at scheme_at hinted_at lemma_at combine_at chain_at step_at split_at values_at
+  unfolding line_items clause_form tree_form step_form assume_at scheme_at hinted_at lemma_at combine_at bits_at bits_in chain_at step_at split_at values_at
   line_reads (Assume k) next h fits =
       clause_reads (codes "a") (number k) (Assume k) (refl, tt) refl next
       (whole assume_at (number k) (Assume k) (rw (narrow_code.reads k [] h tt) refl))
@@ -166,6 +177,11 @@ module _ (version : ℕ) (known : IsVersion version) (a : Awaited) where
   line_reads (Combine multiples) next h fits =
       tree_reads (codes "c") (counted multiple multiples) (Combine multiples) (refl, tt) (front multiple multiples) next
       (whole combine_at (counted multiple multiples) (Combine multiples) (rw ((counted_code multiple_code).reads multiples [] h tt) refl))
+  line_reads (Bits line chosen polynomial bits) next h fits =
+      tree_reads (codes "b") (((number line ++ counted number chosen) ++ counted term polynomial) ++ counted number bits) (Bits line chosen polynomial bits) (refl, tt) refl next
+      (bits_reads (((number line ++ counted number chosen) ++ counted term polynomial) ++ counted number bits) (Bits line chosen polynomial bits) fits
+      (whole bits_at (((number line ++ counted number chosen) ++ counted term polynomial) ++ counted number bits) (Bits line chosen polynomial bits)
+      (four_reads narrow_code chosen_code (counted_code term_code) (counted_code narrow_code) Bits line chosen polynomial bits [] h.0 h.1.0 h.1.1.0 h.1.1.1 tt)))
   line_reads (Chain line variable steps) next h fits =
       tree_reads (codes "p") ((number line ++ number variable) ++ number steps) (Chain line variable steps) (refl, tt) refl next
       (whole chain_at ((number line ++ number variable) ++ number steps) (Chain line variable steps) (triple_reads narrow_code narrow_code narrow_code Chain line variable steps [] h.0 h.1.0 h.1.1 tt))
@@ -246,6 +262,18 @@ module _ (version : ℕ) (known : IsVersion version) (a : Awaited) where
         fits = tt;
       })
 
+  bits_gives : (bytes : List ℕ) (l : CertLine) (rest : List ℕ) → Tree → bits_in version bytes ≡ Ok (l, rest) → IsLineText version a (98 ∷ bytes) l rest
+  unfolding bits_at bits_in line_items
+  bits_gives bytes l rest here h =
+      let in_three = chosen (version == 3) (bits_at bytes) Form (l, rest) h in
+      let f = four_gives narrow_code chosen_code (counted_code term_code) (counted_code narrow_code) Bits bytes l rest in_three.1 in
+      subst (λ m. IsLineText version a (98 ∷ bytes) m rest) f.made (record {
+        text_is = ap (λ (ys : List ℕ). 98 ∷ ys) f.text_is;
+        next = here;
+        line = (f.first, (f.second, (f.third, f.fourth)));
+        fits = is_same version 3 in_three.0;
+      })
+
   chain_gives : (bytes : List ℕ) (l : CertLine) (rest : List ℕ) → Tree → chain_at bytes ≡ Ok (l, rest) → IsLineText version a (112 ∷ bytes) l rest
   unfolding chain_at line_items
   chain_gives bytes l rest here h =
@@ -315,20 +343,23 @@ module _ (version : ℕ) (known : IsVersion version) (a : Awaited) where
         ]
       ]
 
-  tree_gives : (word bytes : List ℕ) (l : CertLine) (rest : List ℕ) → Tree → tree_form word bytes ≡ Ok (l, rest) → IsLineText version a (word ++ bytes) l rest
+  tree_gives : (word bytes : List ℕ) (l : CertLine) (rest : List ℕ) → Tree → tree_form version word bytes ≡ Ok (l, rest) → IsLineText version a (word ++ bytes) l rest
   unfolding tree_form
   tree_gives word bytes l rest here h =
       elim (branch (bytes_eq word (codes "c")) (combine_at bytes) _ (l, rest) h) [
         | inl one ↦ with_word word (codes "c") bytes l rest one.0 (combine_gives bytes l rest here one.1)
-        | inr other ↦ elim (branch (bytes_eq word (codes "p")) (chain_at bytes) _ (l, rest) other.1) [
-          | inl one ↦ with_word word (codes "p") bytes l rest one.0 (chain_gives bytes l rest here one.1)
-          | inr other ↦ elim (branch (bytes_eq word (codes "s")) (split_at bytes) _ (l, rest) other.1) [
-            | inl one ↦ with_word word (codes "s") bytes l rest one.0 (split_gives bytes l rest here one.1)
-            | inr other ↦ elim (branch (bytes_eq word (codes "v")) (values_at bytes) _ (l, rest) other.1) [
-              | inl one ↦ with_word word (codes "v") bytes l rest one.0 (values_gives bytes l rest here one.1)
-              | inr other ↦
-                  let one = chosen (bytes_eq word (codes "z")) (Ok (Close, bytes)) Form (l, rest) other.1 in
-                  with_word word (codes "z") bytes l rest one.0 (close_gives bytes l rest here one.1)
+        | inr other ↦ elim (branch (bytes_eq word (codes "b")) (bits_in version bytes) _ (l, rest) other.1) [
+          | inl one ↦ with_word word (codes "b") bytes l rest one.0 (bits_gives bytes l rest here one.1)
+          | inr other ↦ elim (branch (bytes_eq word (codes "p")) (chain_at bytes) _ (l, rest) other.1) [
+            | inl one ↦ with_word word (codes "p") bytes l rest one.0 (chain_gives bytes l rest here one.1)
+            | inr other ↦ elim (branch (bytes_eq word (codes "s")) (split_at bytes) _ (l, rest) other.1) [
+              | inl one ↦ with_word word (codes "s") bytes l rest one.0 (split_gives bytes l rest here one.1)
+              | inr other ↦ elim (branch (bytes_eq word (codes "v")) (values_at bytes) _ (l, rest) other.1) [
+                | inl one ↦ with_word word (codes "v") bytes l rest one.0 (values_gives bytes l rest here one.1)
+                | inr other ↦
+                    let one = chosen (bytes_eq word (codes "z")) (Ok (Close, bytes)) Form (l, rest) other.1 in
+                    with_word word (codes "z") bytes l rest one.0 (close_gives bytes l rest here one.1)
+              ]
             ]
           ]
         ]
@@ -360,6 +391,8 @@ module _ (version : ℕ) (known : IsVersion version) (a : Awaited) where
   items_plain (Hinted lits hints) h fits = (refl, pair_plain (counted_code literal_code) (counted_code narrow_code) Hinted lits hints h.0 h.1)
   items_plain (Lemma order lits) h fits = (refl, pair_plain (order_code version known) (counted_code literal_code) Lemma order lits (lemma_fits version order lits fits, h.0) h.1)
   items_plain (Combine multiples) h fits = (refl, (counted_code multiple_code).plain multiples h)
+  items_plain (Bits line chosen polynomial bits) h fits =
+      (refl, four_plain narrow_code chosen_code (counted_code term_code) (counted_code narrow_code) Bits line chosen polynomial bits h.0 h.1.0 h.1.1.0 h.1.1.1)
   items_plain (Chain line variable steps) h fits = (refl, triple_plain narrow_code narrow_code narrow_code Chain line variable steps h.0 h.1.0 h.1.1)
   items_plain (Step quotient remainder) h fits = (refl, pair_plain (counted_code wide_code) (counted_code wide_code) Step quotient remainder h.0 h.1)
   items_plain (Split line variable zeros) h fits = (refl, triple_plain narrow_code narrow_code (counted_code wide_code) Split line variable zeros h.0 h.1.0 h.1.1)

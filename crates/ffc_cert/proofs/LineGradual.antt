@@ -1,5 +1,5 @@
 -- The lines of an entry, item by item.
-use Rattle.std.proofs.Common.{◌≡◌, ℕ, ◌<◌, ◌^◌, Bool, true, false, List, [], ◌∷◌, ◌++◌, length, Option, None, Some, Result, Ok, Err, refl, sym, ap, ◌∙◌, subst, arith}
+use Rattle.std.proofs.Common.{◌≡◌, ℕ, ◌<◌, ◌^◌, ◌==◌, Bool, true, false, List, [], ◌∷◌, ◌++◌, length, Option, None, Some, Result, Ok, Err, refl, sym, ap, ◌∙◌, subst, arith}
 use Rattle.std.specs.Prelude.{if◌then◌else◌, nat_lt, codes, decimal}
 use Rattle.std.specs.Str.{bytes_eq}
 use Rattle.std.proofs.lemmas.Slice.Eq.{bytes_eq-Decides}
@@ -10,23 +10,23 @@ use Rattle.ffc_cert.specs.declared.entries.Cause.TheVariants as causes
 use Rattle.ffc_cert.specs.declared.entries.Entry.{Entry}
 use Rattle.ffc_cert.specs.declared.entries.Entry.TheVariants.{Sat, UnsatCases, UnsatSteps, Unknown}
 use Rattle.ffc_cert.specs.declared.entries.CertLine.{CertLine}
-use Rattle.ffc_cert.specs.declared.entries.CertLine.TheVariants.{Assume, Scheme, Hinted, Lemma, Combine, Chain, Step, Split, Values, Close}
+use Rattle.ffc_cert.specs.declared.entries.CertLine.TheVariants.{Assume, Scheme, Hinted, Lemma, Combine, Bits, Chain, Step, Split, Values, Close}
 use Rattle.ffc_cert.specs.declared.forms.Awaited.{Awaited}
 use Rattle.ffc_cert.specs.declared.forms.Opening.{Opening}
 use Rattle.ffc_cert.specs.declared.forms.Opening.TheVariants.{Assignment, Refutation, Whole}
 use Rattle.ffc_cert.specs.Items.{◌>>=◌, item_at, is_digits, number_in, narrow_at, wide_at}
-use Rattle.ffc_cert.specs.Lines.{assume_at, scheme_at, hinted_at, lemma_at, combine_at, chain_at, step_at, split_at, values_at, clause_form, tree_form, step_form, form_at, sat_at, unsat_at, steps_at, unknown_at, opening_form}
+use Rattle.ffc_cert.specs.Lines.{assume_at, scheme_at, hinted_at, lemma_at, combine_at, bits_at, bits_in, chain_at, step_at, split_at, values_at, clause_form, tree_form, step_form, form_at, sat_at, unsat_at, steps_at, unknown_at, opening_form}
 use Rattle.ffc_cert.specs.LineItems.{Item, Word, Below, item_text, IsRight, IsBadNumber, narrow, wide, items_of, value_items, cause_items, first_items}
 use Rattle.ffc_cert.specs.Spelling.{clauses}
 use Rattle.ffc_cert.specs.Laws.{IsVersion}
 use Rattle.ffc_cert.specs.WellFormed.{LineFitsVersion}
 use Rattle.ffc_cert.specs.Cuts.{IsCut}
 use Rattle.ffc_cert.proofs.Codes.{Is, bound}
-use Rattle.ffc_cert.proofs.NumberCodes.{IsItem, decimal_is_digits}
+use Rattle.ffc_cert.proofs.NumberCodes.{IsItem, decimal_is_digits, is_same}
 use Rattle.ffc_cert.proofs.LineCodes.{IsNext, zero_steps, some_steps, above_zero, is_zero, lemma_fits, fits_lemma}
 use Rattle.ffc_cert.proofs.Gradual.{Stops, Fails, Gives, IsGradual, pure_gradual, then_gradual, mapped_gradual, same_gradual}
 use Rattle.ffc_cert.proofs.GradualItems.{IsNextItem, next_item, no_item, IsJudge, judged_gradual, narrow_gradual, wide_gradual, number_judge}
-use Rattle.ffc_cert.proofs.GradualLists.{assume_gradual, scheme_gradual, hinted_gradual, lemma_gradual, combine_gradual, chain_gradual, step_gradual, split_gradual, values_gradual}
+use Rattle.ffc_cert.proofs.GradualLists.{assume_gradual, scheme_gradual, hinted_gradual, lemma_gradual, combine_gradual, bits_gradual, chain_gradual, step_gradual, split_gradual, values_gradual}
 use Rattle.ffc_cert.proofs.GrammarLemmas.{awaiting, clauses_shape}
 use Rattle.ffc_cert.proofs.PrefixLemmas.{opening_of}
 use Rattle.ffc_cert.proofs.FillLemmas.{filled, zeros}
@@ -71,7 +71,7 @@ module _ {S A : Type 0} {at : List ℕ → Result (A × List ℕ) Flaw} {items :
   word_outcome bytes item rest i e = word_by bytes rest (i.bytes_are ∙ ap (λ (xs : List ℕ). 32 ∷ (xs ++ rest)) (word_is item word e)) i.cut (at rest) (is rest)
 
 -- lines of a refutation
-module _ (version : ℕ) (known : IsVersion version) (a : Awaited) where
+module _ {bits : Bool} (version : ℕ) (known : IsVersion bits version) (a : Awaited) where
   abbrev pub MayCome : CertLine → Type 0
   MayCome l = IsNext l a × LineFitsVersion version l
 
@@ -79,9 +79,13 @@ module _ (version : ℕ) (known : IsVersion version) (a : Awaited) where
   unfolding form_at
   clause_is h word bytes = rw (zero_steps a.steps h.0, zero_steps a.trees h.1) refl
 
-  tree_is : (a.steps ≡ 0) × (0 < a.trees) → (word bytes : List ℕ) → form_at version a word bytes ≡ tree_form word bytes
+  tree_is : (a.steps ≡ 0) × (0 < a.trees) → (word bytes : List ℕ) → form_at version a word bytes ≡ tree_form version word bytes
   unfolding form_at
   tree_is h word bytes = rw (zero_steps a.steps h.0, some_steps a.trees h.1) refl
+
+  bits_is : (a.steps ≡ 0) × (0 < a.trees) → version ≡ 3 → (bytes : List ℕ) → form_at version a (codes "b") bytes ≡ bits_at bytes
+  unfolding tree_form bits_in
+  bits_is h three bytes = tree_is h (codes "b") bytes ∙ rw three refl
 
   step_is : 0 < a.steps → (word bytes : List ℕ) → form_at version a word bytes ≡ step_form word bytes
   unfolding form_at
@@ -97,6 +101,7 @@ module _ (version : ℕ) (known : IsVersion version) (a : Awaited) where
   line_reads (Hinted lits hints) h = word_reads hinted_gradual form (codes "r") (refl, tt) (clause_is h.0 (codes "r")) (lits, hints) (tt, tt)
   line_reads (Lemma order lits) h = word_reads (lemma_gradual version known) form (codes "f") (refl, tt) (clause_is h.0 (codes "f")) (order, lits) (lemma_fits version order lits h.1, tt)
   line_reads (Combine multiples) h = word_reads combine_gradual form (codes "c") (refl, tt) (tree_is h.0 (codes "c")) multiples tt
+  line_reads (Bits line chosen polynomial bits) h = word_reads bits_gradual form (codes "b") (refl, tt) (bits_is h.0 h.1) (line, (chosen, (polynomial, bits))) (tt, (tt, (tt, tt)))
   line_reads (Chain line variable steps) h = word_reads chain_gradual form (codes "p") (refl, tt) (tree_is h.0 (codes "p")) (line, (variable, steps)) (tt, (tt, tt))
   line_reads (Step quotient remainder) h = word_reads step_gradual form (codes "u") (refl, tt) (step_is h.0 (codes "u")) (quotient, remainder) (tt, tt)
   line_reads (Split line variable zeros) h = word_reads split_gradual form (codes "s") (refl, tt) (tree_is h.0 (codes "s")) (line, (variable, zeros)) (tt, (tt, tt))
@@ -139,21 +144,29 @@ module _ (version : ℕ) (known : IsVersion version) (a : Awaited) where
           other_word form items_of MayCome (no_clause h) bytes item rest i (clause_is h item [] ∙ rw (e1, e2, e3, e4) refl)
 
     module _ (h : (a.steps ≡ 0) × (0 < a.trees)) where
-      tree_outcome : (is_c is_p is_s is_v is_z : Bool) → bytes_eq item (codes "c") ≡ is_c → bytes_eq item (codes "p") ≡ is_p → bytes_eq item (codes "s") ≡ is_s → bytes_eq item (codes "v") ≡ is_v → bytes_eq item (codes "z") ≡ is_z
-          → After bytes (if is_c then combine_at rest else if is_p then chain_at rest else if is_s then split_at rest else if is_v then values_at rest else if is_z then Ok (Close, rest) else Err Form)
-      unfolding tree_form
-      tree_outcome true p s v z e1 e2 e3 e4 e5 =
+      bits_outcome : (is_three : Bool) → (version == 3) ≡ is_three → bytes_eq item (codes "b") ≡ true → form item [] ≡ (if is_three then bits_at [] else Err Form) → After bytes (if is_three then bits_at rest else Err Form)
+      bits_outcome true e same here =
+          let three = is_same version 3 e in
+          word_outcome bits_gradual form (codes "b") (refl, tt) (bits_is h three) items_of MayCome (λ l. l) (λ s. Bits s.0 s.1.0 s.1.1.0 s.1.1.1) (λ s. refl) (λ s p. (h, three)) (λ s. refl) bytes item rest i same
+      bits_outcome false e same here = other_word form items_of MayCome (no_tree h) bytes item rest i here
+
+      tree_outcome : (is_c is_b is_p is_s is_v is_z is_three : Bool) → bytes_eq item (codes "c") ≡ is_c → bytes_eq item (codes "b") ≡ is_b → bytes_eq item (codes "p") ≡ is_p → bytes_eq item (codes "s") ≡ is_s → bytes_eq item (codes "v") ≡ is_v → bytes_eq item (codes "z") ≡ is_z
+          → (version == 3) ≡ is_three
+          → After bytes (if is_c then combine_at rest else if is_b then (if is_three then bits_at rest else Err Form) else if is_p then chain_at rest else if is_s then split_at rest else if is_v then values_at rest else if is_z then Ok (Close, rest) else Err Form)
+      unfolding tree_form bits_in
+      tree_outcome true b p s v z three e1 e2 e3 e4 e5 e6 e7 =
           word_outcome combine_gradual form (codes "c") (refl, tt) (tree_is h (codes "c")) items_of MayCome (λ l. l) Combine (λ s. refl) (λ s p. (h, tt)) (λ s. refl) bytes item rest i e1
-      tree_outcome false true s v z e1 e2 e3 e4 e5 =
-          word_outcome chain_gradual form (codes "p") (refl, tt) (tree_is h (codes "p")) items_of MayCome (λ l. l) (λ s. Chain s.0 s.1.0 s.1.1) (λ s. refl) (λ s p. (h, tt)) (λ s. refl) bytes item rest i e2
-      tree_outcome false false true v z e1 e2 e3 e4 e5 =
-          word_outcome split_gradual form (codes "s") (refl, tt) (tree_is h (codes "s")) items_of MayCome (λ l. l) (λ s. Split s.0 s.1.0 s.1.1) (λ s. refl) (λ s p. (h, tt)) (λ s. refl) bytes item rest i e3
-      tree_outcome false false false true z e1 e2 e3 e4 e5 =
-          word_outcome values_gradual form (codes "v") (refl, tt) (tree_is h (codes "v")) items_of MayCome (λ l. l) (λ s. Values s.0 s.1) (λ s. refl) (λ s p. (h, tt)) (λ s. refl) bytes item rest i e4
-      tree_outcome false false false false true e1 e2 e3 e4 e5 =
-          word_outcome (pure_gradual Close) form (codes "z") (refl, tt) (tree_is h (codes "z")) items_of MayCome (λ l. l) (λ _. Close) (λ s. refl) (λ s p. (h, tt)) (λ s. refl) bytes item rest i e5
-      tree_outcome false false false false false e1 e2 e3 e4 e5 =
-          other_word form items_of MayCome (no_tree h) bytes item rest i (tree_is h item [] ∙ rw (e1, e2, e3, e4, e5) refl)
+      tree_outcome false true p s v z three e1 e2 e3 e4 e5 e6 e7 = bits_outcome three e7 e2 (tree_is h item [] ∙ rw (e1, e2, e7) refl)
+      tree_outcome false false true s v z three e1 e2 e3 e4 e5 e6 e7 =
+          word_outcome chain_gradual form (codes "p") (refl, tt) (tree_is h (codes "p")) items_of MayCome (λ l. l) (λ s. Chain s.0 s.1.0 s.1.1) (λ s. refl) (λ s p. (h, tt)) (λ s. refl) bytes item rest i e3
+      tree_outcome false false false true v z three e1 e2 e3 e4 e5 e6 e7 =
+          word_outcome split_gradual form (codes "s") (refl, tt) (tree_is h (codes "s")) items_of MayCome (λ l. l) (λ s. Split s.0 s.1.0 s.1.1) (λ s. refl) (λ s p. (h, tt)) (λ s. refl) bytes item rest i e4
+      tree_outcome false false false false true z three e1 e2 e3 e4 e5 e6 e7 =
+          word_outcome values_gradual form (codes "v") (refl, tt) (tree_is h (codes "v")) items_of MayCome (λ l. l) (λ s. Values s.0 s.1) (λ s. refl) (λ s p. (h, tt)) (λ s. refl) bytes item rest i e5
+      tree_outcome false false false false false true three e1 e2 e3 e4 e5 e6 e7 =
+          word_outcome (pure_gradual Close) form (codes "z") (refl, tt) (tree_is h (codes "z")) items_of MayCome (λ l. l) (λ _. Close) (λ s. refl) (λ s p. (h, tt)) (λ s. refl) bytes item rest i e6
+      tree_outcome false false false false false false three e1 e2 e3 e4 e5 e6 e7 =
+          other_word form items_of MayCome (no_tree h) bytes item rest i (tree_is h item [] ∙ rw (e1, e2, e3, e4, e5, e6) refl)
 
     module _ (h : 0 < a.steps) where
       step_outcome : (is_u : Bool) → bytes_eq item (codes "u") ≡ is_u → After bytes (if is_u then step_at rest else Err Form)
@@ -163,14 +176,14 @@ module _ (version : ℕ) (known : IsVersion version) (a : Awaited) where
       step_outcome false e = other_word form items_of MayCome (no_step h) bytes item rest i (step_is h item [] ∙ rw e refl)
 
     line_outcome : (some more : Bool) → nat_lt 0 a.steps ≡ some → nat_lt 0 a.trees ≡ more → After bytes (form item rest)
-    unfolding clause_form tree_form step_form
+    unfolding clause_form tree_form bits_in step_form
     line_outcome true more s t =
         let h = above_zero a.steps s in
         subst (After bytes) (sym (step_is h item rest)) (step_outcome h (bytes_eq item (codes "u")) refl)
     line_outcome false true s t =
         let h : (a.steps ≡ 0) × (0 < a.trees) = (is_zero a.steps s, above_zero a.trees t) in
         subst (After bytes) (sym (tree_is h item rest))
-        (tree_outcome h (bytes_eq item (codes "c")) (bytes_eq item (codes "p")) (bytes_eq item (codes "s")) (bytes_eq item (codes "v")) (bytes_eq item (codes "z")) refl refl refl refl refl)
+        (tree_outcome h (bytes_eq item (codes "c")) (bytes_eq item (codes "b")) (bytes_eq item (codes "p")) (bytes_eq item (codes "s")) (bytes_eq item (codes "v")) (bytes_eq item (codes "z")) (version == 3) refl refl refl refl refl refl refl)
     line_outcome false false s t =
         let h : (a.steps ≡ 0) × (a.trees ≡ 0) = (is_zero a.steps s, is_zero a.trees t) in
         subst (After bytes) (sym (clause_is h item rest))

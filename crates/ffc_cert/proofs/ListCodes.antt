@@ -24,7 +24,7 @@ module _ {A : Type 0} {at : List ℕ → Result (A × List ℕ) Flaw} {text : A 
   flat_cut [] rest k = k
   flat_cut (x ∷ xs) rest k = subst IsCut (sym (append_assoc (text x) (flat_map text xs) rest)) (code.cut x (flat_map text xs ++ rest) (flat_cut xs rest k))
 
-  flat_plain : (xs : List A) → AllByRecursion P xs → IsPlain (flat_map text xs)
+  pub flat_plain : (xs : List A) → AllByRecursion P xs → IsPlain (flat_map text xs)
   flat_plain [] h = tt
   flat_plain (x ∷ xs) h = plain_append (text x) (flat_map text xs) (code.plain x h.0) (flat_plain xs h.1)
 
@@ -157,3 +157,55 @@ module _ {A B D : Type 0} {at₁ : List ℕ → Result (A × List ℕ) Flaw} {t�
 
   pub triple_plain : (x : A) (y : B) (z : D) → P x → Q y → R z → IsPlain ((t₁ x ++ t₂ y) ++ t₃ z)
   triple_plain x y z p q r = plain_append (t₁ x ++ t₂ y) (t₃ z) (plain_append (t₁ x) (t₂ y) (c₁.plain x p) (c₂.plain y q)) (c₃.plain z r)
+
+-- Four items.
+pub record IsFour {A B D E C : Type 0} (bytes : List ℕ) (t₁ : A → List ℕ) (t₂ : B → List ℕ) (t₃ : D → List ℕ) (t₄ : E → List ℕ) (P : A → Type 0) (Q : B → Type 0) (R : D → Type 0) (S : E → Type 0) (f : A → B → D → E → C) (z : C) (rest : List ℕ) : Type 0 where
+  pub one : A
+  pub two : B
+  pub three : D
+  pub four : E
+  pub made : f one two three four ≡ z
+  pub text_is : bytes ≡ (((t₁ one ++ t₂ two) ++ t₃ three) ++ t₄ four) ++ rest
+  pub first : P one
+  pub second : Q two
+  pub third : R three
+  pub fourth : S four
+
+module _ {A B D E : Type 0} {at₁ : List ℕ → Result (A × List ℕ) Flaw} {t₁ : A → List ℕ} {P : A → Type 0} (c₁ : IsCode at₁ t₁ P)
+    {at₂ : List ℕ → Result (B × List ℕ) Flaw} {t₂ : B → List ℕ} {Q : B → Type 0} (c₂ : IsCode at₂ t₂ Q)
+    {at₃ : List ℕ → Result (D × List ℕ) Flaw} {t₃ : D → List ℕ} {R : D → Type 0} (c₃ : IsCode at₃ t₃ R)
+    {at₄ : List ℕ → Result (E × List ℕ) Flaw} {t₄ : E → List ℕ} {S : E → Type 0} (c₄ : IsCode at₄ t₄ S) {C : Type 0} (f : A → B → D → E → C) where
+  abbrev pub four_at : List ℕ → Result (C × List ℕ) Flaw
+  four_at bytes = at₁ bytes >>= λ a. at₂ a.1 >>= λ b. at₃ b.1 >>= λ d. at₄ d.1 >>= λ e. Ok (f a.0 b.0 d.0 e.0, e.1)
+
+  -- the first, and then the others
+  first_apart : (x : A) (y : B) (z : D) (w : E) (rest : List ℕ) → (((t₁ x ++ t₂ y) ++ t₃ z) ++ t₄ w) ++ rest ≡ t₁ x ++ (((t₂ y ++ t₃ z) ++ t₄ w) ++ rest)
+  first_apart x y z w rest = simp append_assoc
+
+  pub four_reads : (x : A) (y : B) (z : D) (w : E) (rest : List ℕ) → P x → Q y → R z → S w → IsCut rest → four_at ((((t₁ x ++ t₂ y) ++ t₃ z) ++ t₄ w) ++ rest) ≡ Ok (f x y z w, rest)
+  four_reads x y z w rest p q r s k =
+      let others = triple_reads c₂ c₃ c₄ (f x) y z w rest q r s k in
+      let cut : IsCut (((t₂ y ++ t₃ z) ++ t₄ w) ++ rest) =
+      subst IsCut (sym (append_assoc (t₂ y ++ t₃ z) (t₄ w) rest ∙ append_assoc (t₂ y) (t₃ z) (t₄ w ++ rest))) (c₂.cut y (t₃ z ++ (t₄ w ++ rest)) (c₃.cut z (t₄ w ++ rest) (c₄.cut w rest k))) in
+      rw (first_apart x y z w rest, c₁.reads x (((t₂ y ++ t₃ z) ++ t₄ w) ++ rest) p cut) others
+
+  pub four_gives : (bytes : List ℕ) (z : C) (rest : List ℕ) → four_at bytes ≡ Ok (z, rest) → IsFour bytes t₁ t₂ t₃ t₄ P Q R S f z rest
+  four_gives bytes z rest h =
+      let a = bound _ _ _ h in
+      let one = c₁.gives bytes a.value.0 a.value.1 a.first in
+      let others = triple_gives c₂ c₃ c₄ (f a.value.0) a.value.1 z rest a.second in
+      record {
+        one = a.value.0;
+        two = others.one;
+        three = others.two;
+        four = others.three;
+        made = others.made;
+        text_is = one.text_is ∙ ap (λ (ys : List ℕ). t₁ a.value.0 ++ ys) others.text_is ∙ sym (first_apart a.value.0 others.one others.two others.three rest);
+        first = one.holds;
+        second = others.first;
+        third = others.second;
+        fourth = others.third;
+      }
+
+  pub four_plain : (x : A) (y : B) (z : D) (w : E) → P x → Q y → R z → S w → IsPlain (((t₁ x ++ t₂ y) ++ t₃ z) ++ t₄ w)
+  four_plain x y z w p q r s = plain_append ((t₁ x ++ t₂ y) ++ t₃ z) (t₄ w) (triple_plain c₁ c₂ c₃ (λ a b d. f a b d w) x y z p q r) (c₄.plain w s)

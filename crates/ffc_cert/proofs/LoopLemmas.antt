@@ -4,7 +4,7 @@ use Rattle.std.proofs.lemmas.List.{append-nil}
 use Rattle.ffc_cert.specs.declared.flaws.Flaw.{Flaw}
 use Rattle.ffc_cert.specs.declared.flaws.LineStop.{LineStop}
 use Rattle.ffc_cert.specs.declared.flaws.LineStop.TheVariants as stops
-use Rattle.ffc_cert.specs.Items.{◌>>=◌, Stops, many_at, power_at, powers_at}
+use Rattle.ffc_cert.specs.Items.{◌>>=◌, Stops, many_at, power_at, powers_at, variable_at, variables_at}
 
 -- what was read before, and what is still read
 abbrev pub with_front : {A : Type 0} → List A → Result (List A × List ℕ) Flaw → Result (List A × List ℕ) Flaw
@@ -67,4 +67,29 @@ module _ (least : ℕ) (front : List (ℕ × ℕ)) (count i : ℕ) (bytes : List
   power_is_done le so_far =
       let k : count - i ≡ 0 = omega arith in
       let one : with_front front (powers_at least (count - i) bytes) ≡ Ok (front, bytes) = rw k (ap (λ (xs : List (ℕ × ℕ)). Ok (xs, bytes)) (append-nil front)) in
+      sym so_far ∙ one
+
+-- The same for variables, each of which bounds the next.
+module _ (least : ℕ) (front : List ℕ) (count i : ℕ) (bytes : List ℕ) (total : Result (List ℕ × List ℕ) Flaw) where
+  pub variable_goes_on : (x : ℕ) (after : List ℕ) → i < count → variable_at least bytes ≡ Ok (x, after)
+      → with_front front (variables_at least (count - i) bytes) ≡ total → with_front (front ++ x ∷ []) (variables_at (x + 1) (count - (i + 1)) after) ≡ total
+  unfolding variables_at
+  variable_goes_on x after lt h so_far =
+      let k : count - i ≡ suc (count - (i + 1)) = omega arith in
+      let one : with_front front (variables_at least (count - i) bytes) ≡ with_front (front ++ x ∷ []) (variables_at (x + 1) (count - (i + 1)) after) = rw (k, h) (regroup front x (variables_at (x + 1) (count - (i + 1)) after)) in
+      sym one ∙ so_far
+
+  pub variable_ends : (stop : LineStop) → i < count → Stops stop (variable_at least bytes) → with_front front (variables_at least (count - i) bytes) ≡ total → Stops stop total
+  unfolding variables_at
+  variable_ends stops.Memory lt h so_far = tt
+  variable_ends (stops.Flaw f) lt h so_far =
+      let k : count - i ≡ suc (count - (i + 1)) = omega arith in
+      let one : with_front front (variables_at least (count - i) bytes) ≡ Err f = rw (k, h) refl in
+      sym so_far ∙ one
+
+  pub variable_is_done : count ≤ i → with_front front (variables_at least (count - i) bytes) ≡ total → total ≡ Ok (front, bytes)
+  unfolding variables_at
+  variable_is_done le so_far =
+      let k : count - i ≡ 0 = omega arith in
+      let one : with_front front (variables_at least (count - i) bytes) ≡ Ok (front, bytes) = rw k (ap (λ (xs : List ℕ). Ok (xs, bytes)) (append-nil front)) in
       sym so_far ∙ one

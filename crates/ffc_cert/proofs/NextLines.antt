@@ -1,5 +1,5 @@
 -- Which lines a well-formed entry has after a part of its text: just those that are read there.
-use Rattle.std.proofs.Common.{◌≡◌, ℕ, ◌+◌, ◌-◌, true, false, List, [], ◌∷◌, ◌++◌, length, Result, Ok, refl, sym, ap, ◌∙◌, subst, arith, append_assoc, length-append}
+use Rattle.std.proofs.Common.{◌≡◌, ℕ, ◌+◌, ◌-◌, true, false, Bool, List, [], ◌∷◌, ◌++◌, length, Result, Ok, refl, sym, ap, ◌∙◌, subst, arith, append_assoc, length-append}
 use Rattle.std.specs.Prelude.{codes}
 use Rattle.std.specs.List.{AllByRecursion, flat_map}
 use Rattle.ffc_cert.specs.declared.flaws.Flaw.{Flaw}
@@ -54,7 +54,7 @@ values_front (v ∷ values) (w ∷ others) line more plain h k e =
 pub spread : (part line more : List ℕ) → (part ++ ended_line line) ++ more ≡ part ++ (line ++ (10 ∷ more))
 spread part line more = append_assoc part (ended_line line) more ∙ ap (λ (xs : List ℕ). part ++ xs) (append_assoc line (10 ∷ []) more)
 
-module _ (version : ℕ) (known : IsVersion version) where
+module _ {bits : Bool} (version : ℕ) (known : IsVersion bits version) where
   lines_front : (lines others filling : List CertLine) (a : Awaited) (line more : List ℕ) → IsPlain line → Completes a (lines ++ filling) → Completes a others
       → AreLines version lines → AreLines version others → flat_map line_text lines ++ (line ++ (10 ∷ more)) ≡ flat_map line_text others
       → IsRead (line_at version (after_lines lines a) line)

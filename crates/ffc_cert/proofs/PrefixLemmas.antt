@@ -1,5 +1,5 @@
 -- The text of an entry is known by its first line and by where its body ends.
-use Rattle.std.proofs.Common.{◌≡◌, ℕ, true, false, List, [], ◌∷◌, ◌++◌, length, Ok, refl, sym, ap, ◌∙◌, subst, arith, append_assoc}
+use Rattle.std.proofs.Common.{◌≡◌, ℕ, true, false, Bool, List, [], ◌∷◌, ◌++◌, length, Ok, refl, sym, ap, ◌∙◌, subst, arith, append_assoc}
 use Rattle.std.specs.Prelude.{codes}
 use Rattle.std.specs.List.{AllByRecursion, flat_map}
 use Rattle.ffc_cert.specs.declared.entries.CertLine.{CertLine}
@@ -40,7 +40,7 @@ pub record AreLines (version : ℕ) (lines : List CertLine) : Type 0 where
   pub ranges : AllByRecursion IsLine lines
   pub fits : AllByRecursion (LineFitsVersion version) lines
 
-module _ (version : ℕ) (known : IsVersion version) where
+module _ {bits : Bool} (version : ℕ) (known : IsVersion bits version) where
   same_line : (a : Awaited) (l m : CertLine) (lines others : List CertLine) → Completes a (l ∷ lines) → Completes a (m ∷ others)
       → AreLines version (l ∷ lines) → AreLines version (m ∷ others) → line_items l ≡ line_items m → l ≡ m
   same_line a l m lines others h k p q e =
@@ -143,7 +143,7 @@ module _ (version : ℕ) where
   first_reads (UnsatSteps lines) h = unsat_reads (clauses lines) h.few
   first_reads (Unknown cause) h = unknown_reads cause h
 
-  bodies_end : IsVersion version → (a b : Entry) (more : List ℕ) → IsWellFormed version a → IsWellFormed version b → opening_of a ≡ opening_of b
+  bodies_end : {bits : Bool} → IsVersion bits version → (a b : Entry) (more : List ℕ) → IsWellFormed version a → IsWellFormed version b → opening_of a ≡ opening_of b
       → body_of a ++ more ≡ body_of b → (a ≡ b) × (more ≡ [])
   bodies_end known (Sat values) (Sat others) more h k o e =
       let n : length values ≡ length others = cc in
@@ -171,7 +171,7 @@ module _ (version : ℕ) where
   bodies_end known (Unknown cause) (UnsatSteps others) more h k o e = absurd (cc)
 
 pub begins_no_other : BeginsNoOther
-begins_no_other version a b more known h k e =
+begins_no_other bits version a b more known h k e =
     let front : first_of a ++ (10 ∷ (body_of a ++ more)) ≡ first_of b ++ (10 ∷ body_of b) =
     sym (append_assoc (first_of a) (10 ∷ body_of a) more) ∙ ap (λ (xs : List ℕ). xs ++ more) (sym (entry_is a)) ∙ e ∙ entry_is b in
     let parts = cut_at (first_of a) (first_of b) _ _ (first_plain version a h) (first_plain version b k) front in

@@ -19,6 +19,7 @@ use Rattle.ffc_cert.specs.declared.forms.Awaited.{Awaited}
 use Rattle.ffc_cert.specs.Lines.{opening_at, value_at, line_at}
 use Rattle.ffc_cert.specs.Taking.{Takes}
 use Rattle.ffc_cert.specs.Scan.{end_here}
+use Rattle.ffc_cert.proofs.GrammarLemmas.{and_false}
 use Rattle.ffc_cert.proofs.SplitLemmas.{Parts, parts_of}
 
 -- without an LF, what comes first goes to the first part of what follows
@@ -101,7 +102,7 @@ limited_long line p (Err flaw) next lt = tt
 limited_long line p (Ok read) next lt =
     let long : nat_lt MAX_BYTES (p.bytes + (length line + 1)) ≡ true = lt-ltb _ _ (omega arith) in rw long tt
 
-no_match : (a b : List ℕ) (r : Bool) → bytes_eq a b ≡ r → length b < length a → r ≡ false
+pub no_match : (a b : List ℕ) (r : Bool) → bytes_eq a b ≡ r → length b < length a → r ≡ false
 no_match a b true h lt = absurd (let same : a ≡ b = (bytes_eq-Decides a b).0 h in omega (arith, ap length same))
 no_match a b false h lt = refl
 
@@ -110,7 +111,8 @@ unfolding header_line
 header_long p line lt =
     let one : bytes_eq line (codes "ffcert 1") ≡ false = no_match line (codes "ffcert 1") _ refl (omega arith) in
     let two : bytes_eq line (codes "ffcert 2") ≡ false = no_match line (codes "ffcert 2") _ refl (omega arith) in
-    rw (one, two) tt
+    let three : bytes_eq line (codes "ffcert 3") ≡ false = no_match line (codes "ffcert 3") _ refl (omega arith) in
+    rw (one, two, three, and_false p.bits) tt
 
 opening_long : (p : Progress) (line : List ℕ) → MAX_BYTES < length line → IsHalt (opening_line p line)
 unfolding opening_line
@@ -152,7 +154,7 @@ pub none_found : (wanted : ℕ) (p : Progress) (bytes : List ℕ) → length byt
 unfolding read
 none_found wanted p bytes le few h = rw (split_alone bytes le) (refl, rest_end wanted p bytes (is_complete p.place p.complete wanted) refl few h)
 
-both_true : (a b : Bool) → (a && b) ≡ true → (a ≡ true) × (b ≡ true)
+pub both_true : (a b : Bool) → (a && b) ≡ true → (a ≡ true) × (b ≡ true)
 both_true true b h = (refl, h)
 both_true false b h = absurd (cc)
 

@@ -1,5 +1,5 @@
 -- The scanner goes on after a line.
-use Rattle.std.proofs.Common.{◌≡◌, ℕ, zero, suc, ◌+◌, ◌-◌, ◌≤◌, ◌<◌, List, [], ◌∷◌, ◌++◌, length, take, drop, Some, refl, ap, ◌∙◌, arith, length-drop, add-one, true, false}
+use Rattle.std.proofs.Common.{◌≡◌, ℕ, zero, suc, ◌+◌, ◌-◌, ◌≤◌, ◌<◌, Bool, List, [], ◌∷◌, ◌++◌, length, take, drop, Some, refl, ap, ◌∙◌, arith, length-drop, add-one, true, false}
 use Rattle.std.specs.Prelude.{slice_get}
 use Rattle.std.specs.List.{position_or_len, before_first, after_first}
 use Rattle.std.proofs.lemmas.List.{drop-drop}
@@ -45,7 +45,7 @@ same_reading a b e f =
     ap (λ (xs : List Numbered). record { entries = xs; end = a.end }) e ∙ ap (λ (z : End). record { entries = b.entries; end = z }) f
 
 -- The line that ends at this place.
-module _ (wanted : ℕ) (text : List ℕ) (s : Scanner) (end : ℕ) (ready : IsReady wanted text s) (whole : end < length text)
+module _ (bits : Bool) (wanted : ℕ) (text : List ℕ) (s : Scanner) (end : ℕ) (ready : IsReady bits wanted text s) (whole : end < length text)
     (found : end ≡ s.start + position_or_len is_line_end (ahead text s)) where
   shorter : position_or_len is_line_end (ahead text s) < length (ahead text s)
   shorter = omega (arith, length-drop s.start text)
@@ -57,17 +57,17 @@ module _ (wanted : ℕ) (text : List ℕ) (s : Scanner) (end : ℕ) (ready : IsR
   rest_is = drop-drop (position_or_len is_line_end (ahead text s) + 1) s.start text ∙ ap (λ (n : ℕ). drop n text) (omega arith)
 
   leads : (n : Next) (more : List ℕ) → next_at wanted s.progress (take (end - s.start) (drop s.start text)) ≡ n
-      → without s.progress.complete (reading_of wanted (text ++ more)) ≡ after_next n (λ q. read_text wanted q (drop (end + 1) text ++ more))
+      → without s.progress.complete (reading_of bits wanted (text ++ more)) ≡ after_next n (λ q. read_text wanted q (drop (end + 1) text ++ more))
   leads n more h =
       let k : next_at wanted s.progress (before_first is_line_end (ahead text s)) ≡ n = rw line_is at h in
       ready.reads more ∙ rw (← rest_is) (read_line wanted s.progress (ahead text s) more n shorter k)
 
   pub halts : (fault : CertFault) → next_at wanted s.progress (take (end - s.start) (drop s.start text)) ≡ Halt fault
-      → IsStopped wanted s.progress.complete text fault
+      → IsStopped bits wanted s.progress.complete text fault
   halts fault h more = leads (Halt fault) more h
 
   pub goes : (q : Progress) → next_at wanted s.progress (take (end - s.start) (drop s.start text)) ≡ Move q → Follows s.progress q
-      → q.complete ≡ s.progress.complete → IsReady wanted text (record { progress = q; gone = s.gone; start = end + 1; scanned = end + 1 })
+      → q.complete ≡ s.progress.complete → IsReady bits wanted text (record { progress = q; gone = s.gone; start = end + 1; scanned = end + 1 })
   goes q h follows same = record {
     kept = omega (arith, ready.kept);
     within = omega arith;
@@ -76,15 +76,15 @@ module _ (wanted : ℕ) (text : List ℕ) (s : Scanner) (end : ℕ) (ready : IsR
     line = omega (arith, follows.line, ready.line);
     complete = omega (arith, follows.complete, ready.complete);
     bounded = follows.bounded;
-    reads = λ more. ap (λ (n : ℕ). without n (reading_of wanted (text ++ more))) same ∙ leads (Move q) more h;
+    reads = λ more. ap (λ (n : ℕ). without n (reading_of bits wanted (text ++ more))) same ∙ leads (Move q) more h;
   }
 
   gave_front : (entry : Numbered) (q : Progress) (more : List ℕ) → next_at wanted s.progress (take (end - s.start) (drop s.start text)) ≡ Give entry q
-      → Front s.progress.complete (reading_of wanted (text ++ more)).entries entry (read_text wanted q (drop (end + 1) text ++ more)).entries
+      → Front s.progress.complete (reading_of bits wanted (text ++ more)).entries entry (read_text wanted q (drop (end + 1) text ++ more)).entries
   gave_front entry q more h = front_of _ _ _ _ (ap (λ (r : Reading). r.entries) (leads (Give entry q) more h))
 
   pub gives : (entry : Numbered) (q : Progress) → next_at wanted s.progress (take (end - s.start) (drop s.start text)) ≡ Give entry q → Follows s.progress q
-      → q.complete ≡ s.progress.complete + 1 → IsReady wanted text (record { progress = q; gone = s.gone; start = end + 1; scanned = end + 1 })
+      → q.complete ≡ s.progress.complete + 1 → IsReady bits wanted text (record { progress = q; gone = s.gone; start = end + 1; scanned = end + 1 })
   gives entry q h follows more_by_one = record {
     kept = omega (arith, ready.kept);
     within = omega arith;
@@ -93,43 +93,43 @@ module _ (wanted : ℕ) (text : List ℕ) (s : Scanner) (end : ℕ) (ready : IsR
     line = omega (arith, follows.line, ready.line);
     complete = omega (arith, follows.complete, ready.complete);
     bounded = follows.bounded;
-    reads = λ more. ap (λ (n : ℕ). without n (reading_of wanted (text ++ more))) (more_by_one ∙ add-one s.progress.complete)
-        ∙ same_reading (without (suc s.progress.complete) (reading_of wanted (text ++ more))) (read_text wanted q (drop (end + 1) text ++ more)) (gave_front entry q more h).others (ap (λ (r : Reading). r.end) (leads (Give entry q) more h));
+    reads = λ more. ap (λ (n : ℕ). without n (reading_of bits wanted (text ++ more))) (more_by_one ∙ add-one s.progress.complete)
+        ∙ same_reading (without (suc s.progress.complete) (reading_of bits wanted (text ++ more))) (read_text wanted q (drop (end + 1) text ++ more)) (gave_front entry q more h).others (ap (λ (r : Reading). r.end) (leads (Give entry q) more h));
   }
 
   pub gives_entry : (entry : Numbered) (q : Progress) → next_at wanted s.progress (take (end - s.start) (drop s.start text)) ≡ Give entry q
-      → IsEntry wanted s.progress.complete text entry
+      → IsEntry bits wanted s.progress.complete text entry
   gives_entry entry q h more = (gave_front entry q more h).first
 
   pub stops : (stop : CertStop) (q : Progress)
       → MatchStop stop (λ fault. next_at wanted s.progress (take (end - s.start) (drop s.start text)) ≡ Halt fault) (q ≡ s.progress)
-      → AfterStop stop wanted s.progress.complete text (record s { progress = q })
+      → AfterStop stop bits wanted s.progress.complete text (record s { progress = q })
   stops (Fault fault) q h = halts fault h
   stops Memory q h = rw h (ready, refl)
 
 -- What has come of a line that is not whole.
-module _ (wanted : ℕ) (text : List ℕ) (s : Scanner) (ready : IsReady wanted text s)
+module _ (bits : Bool) (wanted : ℕ) (text : List ℕ) (s : Scanner) (ready : IsReady bits wanted text s)
     (none : length text ≤ s.start + position_or_len is_line_end (ahead text s)) where
   unended : length (ahead text s) ≤ position_or_len is_line_end (ahead text s)
   unended = omega (arith, length-drop s.start text)
 
   stopped : (fault : CertFault)
       → ((x : List ℕ) → (next_at wanted s.progress (ahead text s ++ x) ≡ Halt fault) × (end_at wanted s.progress (ahead text s ++ x) ≡ Stopped fault))
-      → IsStopped wanted s.progress.complete text fault
+      → IsStopped bits wanted s.progress.complete text fault
   stopped fault h more = ready.reads more ∙ rest_halts wanted s.progress (ahead text s) more fault unended h
 
   pub too_long : (stop : CertStop) (q : Progress) → MAX_BYTES < length (ahead text s)
       → MatchStop stop (λ fault. next_at wanted s.progress (ahead text s) ≡ Halt fault) (q ≡ s.progress)
-      → AfterStop stop wanted s.progress.complete text (record s { progress = q })
+      → AfterStop stop bits wanted s.progress.complete text (record s { progress = q })
   too_long (Fault fault) q long h = stopped fault (cut_halts wanted s.progress (ahead text s) fault long h)
   too_long Memory q long h = rw h (ready, refl)
 
   pub over : (is_complete s.progress.place s.progress.complete wanted && nat_lt 0 (length (ahead text s))) ≡ true
-      → IsStopped wanted s.progress.complete text (fault_at 2 s.progress)
+      → IsStopped bits wanted s.progress.complete text (fault_at 2 s.progress)
   over h = stopped (fault_at 2 s.progress) (over_halts wanted s.progress (ahead text s) h)
 
   pub waits : length (ahead text s) ≤ MAX_BYTES → (is_complete s.progress.place s.progress.complete wanted && nat_lt 0 (length (ahead text s))) ≡ false
-      → IsReady wanted text (record s { scanned = length text }) × IsDone wanted text (record s { scanned = length text })
+      → IsReady bits wanted text (record s { scanned = length text }) × IsDone wanted text (record s { scanned = length text })
   waits few h = (
     record {
       kept = ready.kept;

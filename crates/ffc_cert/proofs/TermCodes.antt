@@ -27,7 +27,7 @@ record IsPowerText (least : ℕ) (bytes : List ℕ) (p : ℕ × ℕ) (rest : Lis
   above : least ≤ p.0
   holds : IsPower p
 
-not_below : (a b : ℕ) → nat_lt a b ≡ false → b ≤ a
+pub not_below : (a b : ℕ) → nat_lt a b ≡ false → b ≤ a
 not_below a b h = grind (arith, nat_tests, h)
 
 not_zero : (n : ℕ) → (n == 0) ≡ false → 0 < n

@@ -1,6 +1,6 @@
 -- What is read of a text is its own text.
 use Rattle.std.proofs.Common.{◌≡◌, ℕ, zero, suc, ◌+◌, ◌<◌, ◌≤◌, Bool, true, false, List, [], ◌∷◌, ◌++◌, length, take, drop, min, Option, Some, None, inl, inr, refl, sym, ap, ◌∙◌, subst, arith, append_assoc, length-append}
-use Rattle.std.specs.Prelude.{codes, decimal, nat_lt, nat_eq, slice_get, if◌then◌else◌}
+use Rattle.std.specs.Prelude.{codes, decimal, nat_lt, nat_eq, ◌&&◌, slice_get, if◌then◌else◌}
 use Rattle.std.specs.List.{AllByRecursion, flat_map, slice_split, onto_first, starts_with}
 use Rattle.std.specs.Str.{bytes_eq}
 use Rattle.std.proofs.lemmas.List.{append-nil, length-take, take_all}
@@ -24,12 +24,13 @@ use Rattle.ffc_cert.proofs.NumberCodes.{is_same}
 use Rattle.ffc_cert.proofs.OpeningCodes.{value_items}
 use Rattle.ffc_cert.proofs.PrefixLemmas.{body_of}
 use Rattle.ffc_cert.proofs.ReadLemmas.{after_next, read_next}
+use Rattle.ffc_cert.proofs.RestLemmas.{both_true}
 use Rattle.ffc_cert.proofs.SplitLemmas.{parts_of}
 use Rattle.ffc_cert.proofs.GivenLemmas.{with_end, IsInside, At, IsGood, IsMoved, IsGiven, inside_few, next_good, entry_length}
 use Rattle.ffc_cert.proofs.BackLemmas.{header_read, between, reads_back}
 
 -- parts with an LF between each two
-abbrev joined : List ℕ → List (List ℕ) → List ℕ
+abbrev pub joined : List ℕ → List (List ℕ) → List ℕ
 joined part [] = part
 joined part (next ∷ parts) = part ++ (10 ∷ joined next parts)
 
@@ -58,7 +59,7 @@ split_by false c e text part parts h more =
     ∙ ap (λ (xs : List ℕ). joined xs p.others) front
     ∙ ap (joined part) others
 
-split_joined : (text part : List ℕ) (parts : List (List ℕ)) → slice_split is_line_end text ≡ part ∷ parts → text ≡ joined part parts
+pub split_joined : (text part : List ℕ) (parts : List (List ℕ)) → slice_split is_line_end text ≡ part ∷ parts → text ≡ joined part parts
 split_joined [] part parts h = let e : [] ∷ [] ≡ part ∷ parts = h in let one : [] ≡ part = cc in let none : [] ≡ parts = cc in one ∙ ap (joined part) none
 split_joined (c ∷ text) part parts h = split_by (is_line_end c) c refl text part parts h (λ l ps k. split_joined text l ps k)
 
@@ -154,7 +155,7 @@ source_on version wanted text part next parts p (Halt fault) few h more = source
 source_on version wanted text part next parts p (Move q) few h more = source_moved version wanted text part p q (joined next parts) (read wanted q next parts) h (more (text ++ with_end part) q h.inside)
 source_on version wanted text part next parts p (Give x q) few h more = source_given version wanted text part p x q (joined next parts) (read wanted q next parts) h (more [] q h.inside)
 
-source : (version : ℕ) → IsVersion version → (wanted : ℕ) (parts : List (List ℕ)) (part text : List ℕ) (p : Progress) → IsInside version wanted text p
+source : {bits : Bool} (version : ℕ) → IsVersion bits version → (wanted : ℕ) (parts : List (List ℕ)) (part text : List ℕ) (p : Progress) → IsInside version wanted text p
     → IsSource version wanted text p (joined part parts) (read wanted p part parts)
 unfolding read
 source version known wanted [] part text p h =
@@ -168,31 +169,31 @@ source version known wanted (next ∷ parts) part text p h =
     (λ t q k. source version known wanted parts next t q k))
 
 -- the bytes after line 1
-behind_header : (version : ℕ) → IsVersion version → (wanted : ℕ) (rest : List ℕ) → IsSource version wanted [] (between version 0 2) rest (read_text wanted (between version 0 2) rest)
-behind_header version known wanted rest =
+behind_header : (bits : Bool) (version : ℕ) → IsVersion bits version → (wanted : ℕ) (rest : List ℕ) → IsSource version wanted [] (between bits version 0 2) rest (read_text wanted (between bits version 0 2) rest)
+behind_header bits version known wanted rest =
     let parts = parts_of is_line_end rest in
-    let inside : IsInside version wanted [] (between version 0 2) =
+    let inside : IsInside version wanted [] (between bits version 0 2) =
     record { version_is = refl; bytes = refl; at = record { text_is = refl; values = refl; lines = refl; line = refl; few = omega arith } } in
-    let h = source version known wanted parts.others parts.first [] (between version 0 2) inside in
-    let r : IsSource version wanted [] (between version 0 2) (joined parts.first parts.others) (read_text wanted (between version 0 2) rest) =
-    subst (IsSource version wanted [] (between version 0 2) (joined parts.first parts.others)) (sym (ap (read_parts wanted (between version 0 2)) parts.split)) h in
-    subst (λ (xs : List ℕ). IsSource version wanted [] (between version 0 2) xs (read_text wanted (between version 0 2) rest)) (sym (split_joined rest parts.first parts.others parts.split)) r
+    let h = source version known wanted parts.others parts.first [] (between bits version 0 2) inside in
+    let r : IsSource version wanted [] (between bits version 0 2) (joined parts.first parts.others) (read_text wanted (between bits version 0 2) rest) =
+    subst (IsSource version wanted [] (between bits version 0 2) (joined parts.first parts.others)) (sym (ap (read_parts wanted (between bits version 0 2)) parts.split)) h in
+    subst (λ (xs : List ℕ). IsSource version wanted [] (between bits version 0 2) xs (read_text wanted (between bits version 0 2) rest)) (sym (split_joined rest parts.first parts.others parts.split)) r
 
 -- a text with line 1
-pub record HasHeader (version : ℕ) (text : List ℕ) : Type 0 where
-  pub known : IsVersion version
+pub record HasHeader (bits : Bool) (version : ℕ) (text : List ℕ) : Type 0 where
+  pub known : IsVersion bits version
   pub rest : List ℕ
   pub text_is : text ≡ header version ++ rest
 
-of_header : (wanted version : ℕ) (text : List ℕ) → HasHeader version text → IsOfText wanted version text (reading_of wanted text)
+of_header : (bits : Bool) (wanted version : ℕ) (text : List ℕ) → HasHeader bits version text → IsOfText wanted version text (reading_of bits wanted text)
 unfolding text_of
-of_header wanted version text h =
-    let s = behind_header version h.known wanted h.rest in
-    let is : reading_of wanted text ≡ read_text wanted (between version 0 2) h.rest = ap (reading_of wanted) h.text_is ∙ header_read version h.known wanted h.rest in
+of_header bits wanted version text h =
+    let s = behind_header bits version h.known wanted h.rest in
+    let is : reading_of bits wanted text ≡ read_text wanted (between bits version 0 2) h.rest = ap (reading_of bits wanted) h.text_is ∙ header_read bits version h.known wanted h.rest in
     subst (IsOfText wanted version text) (sym is) (record {
       more = s.more;
       text_is = h.text_is ∙ ap (λ (xs : List ℕ). header version ++ xs) s.text_is
-          ∙ sym (append_assoc (header version) (flat_map entry_text (entries_of (read_text wanted (between version 0 2) h.rest).entries)) s.more);
+          ∙ sym (append_assoc (header version) (flat_map entry_text (entries_of (read_text wanted (between bits version 0 2) h.rest).entries)) s.more);
       numbers = s.numbers;
       readable = s.readable;
       few = omega (arith, s.few);
@@ -207,6 +208,9 @@ header_one = ap (λ (ds : List ℕ). codes "ffcert " ++ ds ++ (10 ∷ [])) (deci
 header_two : header 2 ≡ codes "ffcert 2\n"
 header_two = ap (λ (ds : List ℕ). codes "ffcert " ++ ds ++ (10 ∷ [])) (decimal_digit 2 (omega arith))
 
+header_three : header 3 ≡ codes "ffcert 3\n"
+header_three = ap (λ (ds : List ℕ). codes "ffcert " ++ ds ++ (10 ∷ [])) (decimal_digit 3 (omega arith))
+
 -- a text that begins so
 begins : (text line : List ℕ) → starts_with nat_eq text line ≡ true → text ≡ line ++ drop (length line) text
 begins text line h = (starts_is Decides-eqb text line (starts_with nat_eq text line) refl).0 h
@@ -217,59 +221,80 @@ begins_with text line rest h = (starts_is Decides-eqb text line (starts_with nat
 some_is : (a b : ℕ) → Some a ≡ Some b → a ≡ b
 some_is a b h = cc
 
-abbrev named_by : Bool → Bool → Option ℕ
-named_by one two = if one then Some 1 else if two then Some 2 else None
+abbrev named_by : Bool → Bool → Bool → Option ℕ
+named_by one two three = if one then Some 1 else if two then Some 2 else if three then Some 3 else None
 
-version_by : (text : List ℕ) (version : ℕ) (one two : Bool) → starts_with nat_eq text (codes "ffcert 1\n") ≡ one → starts_with nat_eq text (codes "ffcert 2\n") ≡ two
-    → named_by one two ≡ Some version → HasHeader version text
-version_by text version true two e f h =
-    let v : version ≡ 1 = sym (some_is 1 version h) in
-    record {
-      known = inl v;
-      rest = drop (length (codes "ffcert 1\n")) text;
-      text_is = begins text (codes "ffcert 1\n") e ∙ ap (λ (xs : List ℕ). xs ++ drop (length (codes "ffcert 1\n")) text) (sym header_one ∙ ap header (sym v));
-    }
-version_by text version false true e f h =
-    let v : version ≡ 2 = sym (some_is 2 version h) in
-    record {
-      known = inr v;
-      rest = drop (length (codes "ffcert 2\n")) text;
-      text_is = begins text (codes "ffcert 2\n") f ∙ ap (λ (xs : List ℕ). xs ++ drop (length (codes "ffcert 2\n")) text) (sym header_two ∙ ap header (sym v));
-    }
-version_by text version false false e f h = absurd (cc)
+-- line 1 of each version
+abbrev line_one : List ℕ
+line_one = codes "ffcert 1\n"
 
-pub has_header : (text : List ℕ) (version : ℕ) → version_of text ≡ Some version → HasHeader version text
-has_header text version h = version_by text version (starts_with nat_eq text (codes "ffcert 1\n")) (starts_with nat_eq text (codes "ffcert 2\n")) refl refl h
+abbrev line_two : List ℕ
+line_two = codes "ffcert 2\n"
 
-one_named : (text rest : List ℕ) → text ≡ codes "ffcert 1\n" ++ rest → version_of text ≡ Some 1
-one_named text rest h = rw h refl
+abbrev line_three : List ℕ
+line_three = codes "ffcert 3\n"
 
-two_named : (text rest : List ℕ) → text ≡ codes "ffcert 2\n" ++ rest → version_of text ≡ Some 2
-two_named text rest h = rw h refl
+with_header : (bits : Bool) (text line : List ℕ) (version number : ℕ) → IsVersion bits version → version ≡ number → header number ≡ line → starts_with nat_eq text line ≡ true → HasHeader bits version text
+with_header bits text line version number known v is e = record {
+  known = known;
+  rest = drop (length line) text;
+  text_is = begins text line e ∙ ap (λ (xs : List ℕ). xs ++ drop (length line) text) (sym is ∙ ap header (sym v));
+}
 
-header_named : (version : ℕ) → IsVersion version → (text rest : List ℕ) → text ≡ header version ++ rest → version_of text ≡ Some version
-header_named version (inl one) text rest h = one_named text rest (h ∙ ap (λ (xs : List ℕ). xs ++ rest) (ap header one ∙ header_one)) ∙ ap Some (sym one)
-header_named version (inr two) text rest h = two_named text rest (h ∙ ap (λ (xs : List ℕ). xs ++ rest) (ap header two ∙ header_two)) ∙ ap Some (sym two)
+version_by : (bits : Bool) (text : List ℕ) (version : ℕ) (one two three : Bool) → starts_with nat_eq text line_one ≡ one → starts_with nat_eq text line_two ≡ two
+    → (bits && starts_with nat_eq text line_three) ≡ three → named_by one two three ≡ Some version → HasHeader bits version text
+version_by bits text version true two three e f g h =
+    let v : version ≡ 1 = sym (some_is 1 version h) in with_header bits text line_one version 1 (inl v) v header_one e
+version_by bits text version false true three e f g h =
+    let v : version ≡ 2 = sym (some_is 2 version h) in with_header bits text line_two version 2 (inr (inl v)) v header_two f
+version_by bits text version false false true e f g h =
+    let v : version ≡ 3 = sym (some_is 3 version h) in
+    let k = both_true bits (starts_with nat_eq text line_three) g in
+    with_header bits text line_three version 3 (inr (inr (v, k.0))) v header_three k.1
+version_by bits text version false false false e f g h = absurd (cc)
+
+pub has_header : (bits : Bool) (text : List ℕ) (version : ℕ) → version_of bits text ≡ Some version → HasHeader bits version text
+has_header bits text version h = version_by bits text version (starts_with nat_eq text line_one) (starts_with nat_eq text line_two) (bits && starts_with nat_eq text line_three) refl refl refl h
+
+one_named : (bits : Bool) (text rest : List ℕ) → text ≡ line_one ++ rest → version_of bits text ≡ Some 1
+one_named bits text rest h = rw h refl
+
+two_named : (bits : Bool) (text rest : List ℕ) → text ≡ line_two ++ rest → version_of bits text ≡ Some 2
+two_named bits text rest h = rw h refl
+
+three_named : (bits : Bool) (text rest : List ℕ) → bits ≡ true → text ≡ line_three ++ rest → version_of bits text ≡ Some 3
+three_named bits text rest known h = rw (known, h) refl
+
+header_named : (bits : Bool) (version : ℕ) → IsVersion bits version → (text rest : List ℕ) → text ≡ header version ++ rest → version_of bits text ≡ Some version
+header_named bits version (inl one) text rest h = one_named bits text rest (h ∙ ap (λ (xs : List ℕ). xs ++ rest) (ap header one ∙ header_one)) ∙ ap Some (sym one)
+header_named bits version (inr (inl two)) text rest h = two_named bits text rest (h ∙ ap (λ (xs : List ℕ). xs ++ rest) (ap header two ∙ header_two)) ∙ ap Some (sym two)
+header_named bits version (inr (inr three)) text rest h =
+    three_named bits text rest three.1 (h ∙ ap (λ (xs : List ℕ). xs ++ rest) (ap header three.0 ∙ header_three)) ∙ ap Some (sym three.0)
 
 -- the version stays the version
-pub version_stays : (text more : List ℕ) (version : ℕ) → version_of text ≡ Some version → version_of (text ++ more) ≡ Some version
-version_stays text more version h =
-    let k = has_header text version h in
-    header_named version k.known (text ++ more) (k.rest ++ more) (ap (λ (xs : List ℕ). xs ++ more) k.text_is ∙ append_assoc (header version) k.rest more)
+pub version_stays : (bits : Bool) (text more : List ℕ) (version : ℕ) → version_of bits text ≡ Some version → version_of bits (text ++ more) ≡ Some version
+version_stays bits text more version h =
+    let k = has_header bits text version h in
+    header_named bits version k.known (text ++ more) (k.rest ++ more) (ap (λ (xs : List ℕ). xs ++ more) k.text_is ∙ append_assoc (header version) k.rest more)
 
 pub reads_its_text : ReadsItsText
-reads_its_text wanted version text h = of_header wanted version text (has_header text version h)
+reads_its_text bits wanted version text h = of_header bits wanted version text (has_header bits text version h)
 
-abbrev pub NoVersion : List ℕ → Type 0
-NoVersion text = (starts_with nat_eq text (codes "ffcert 1\n") ≡ false) × (starts_with nat_eq text (codes "ffcert 2\n") ≡ false)
+-- the text begins with line 1 of no version that is read
+pub record NoVersion (bits : Bool) (text : List ℕ) : Type 0 where
+  pub one : starts_with nat_eq text line_one ≡ false
+  pub two : starts_with nat_eq text line_two ≡ false
+  pub three : bits ≡ true → starts_with nat_eq text line_three ≡ false
 
-no_version_by : (one two : Bool) → named_by one two ≡ None → (one ≡ false) × (two ≡ false)
-no_version_by true two h = absurd (cc)
-no_version_by false true h = absurd (cc)
-no_version_by false false h = (refl, refl)
+no_version_by : (bits : Bool) (text : List ℕ) (one two three : Bool) → starts_with nat_eq text line_one ≡ one → starts_with nat_eq text line_two ≡ two → (bits && starts_with nat_eq text line_three) ≡ three
+    → named_by one two three ≡ None → NoVersion bits text
+no_version_by bits text true two three e f g h = absurd (cc)
+no_version_by bits text false true three e f g h = absurd (cc)
+no_version_by bits text false false true e f g h = absurd (cc)
+no_version_by bits text false false false e f g h = record { one = e; two = f; three = λ known. rw known at g }
 
-pub no_version : (text : List ℕ) → version_of text ≡ None → NoVersion text
-no_version text h = no_version_by (starts_with nat_eq text (codes "ffcert 1\n")) (starts_with nat_eq text (codes "ffcert 2\n")) h
+pub no_version : (bits : Bool) (text : List ℕ) → version_of bits text ≡ None → NoVersion bits text
+no_version bits text h = no_version_by bits text (starts_with nat_eq text line_one) (starts_with nat_eq text line_two) (bits && starts_with nat_eq text line_three) refl refl refl h
 
 -- nothing was read, and something is wanted
 abbrev IsBare : Reading → Type 0
@@ -285,61 +310,68 @@ never_named line seen part rest text h cut short same none =
     let text_is : text ≡ (line ++ (10 ∷ [])) ++ rest = h ∙ ap (λ (xs : List ℕ). xs ++ (10 ∷ rest)) whole ∙ sym (append_assoc line (10 ∷ []) rest) in
     absurd (let clash : true ≡ false = sym (begins_with text (line ++ (10 ∷ [])) rest text_is) ∙ none in cc)
 
-bare_by : (wanted : ℕ) (text part next : List ℕ) (parts : List (List ℕ)) → text ≡ part ++ (10 ∷ joined next parts) → NoVersion text
-    → (one two : Bool) → bytes_eq (take (MAX_BYTES + 1) part) (codes "ffcert 1") ≡ one → bytes_eq (take (MAX_BYTES + 1) part) (codes "ffcert 2") ≡ two
-    → IsBare (after_next (if one then Move (named 1 origin) else if two then Move (named 2 origin) else Halt (fault_at 1 origin)) (λ q. read wanted q next parts))
-bare_by wanted text part next parts h none true two e f =
-    absurd (never_named (codes "ffcert 1") (take (MAX_BYTES + 1) part) part (joined next parts) text h refl (omega arith) ((bytes_eq-Decides (take (MAX_BYTES + 1) part) (codes "ffcert 1")).0 e) none.0)
-bare_by wanted text part next parts h none false true e f =
-    absurd (never_named (codes "ffcert 2") (take (MAX_BYTES + 1) part) part (joined next parts) text h refl (omega arith) ((bytes_eq-Decides (take (MAX_BYTES + 1) part) (codes "ffcert 2")).0 f) none.1)
-bare_by wanted text part next parts h none false false e f = (refl, λ k. cc)
+module _ (bits : Bool) (wanted : ℕ) (text : List ℕ) (none : NoVersion bits text) where
+  -- line 1 of a text is no line 1 of a version
+  line_is_not : (line part rest : List ℕ) → text ≡ part ++ (10 ∷ rest) → length line ≤ MAX_BYTES → bytes_eq (take (MAX_BYTES + 1) part) line ≡ true → starts_with nat_eq text (line ++ (10 ∷ [])) ≡ false → ⊥
+  line_is_not line part rest h short e other =
+      never_named line (take (MAX_BYTES + 1) part) part rest text h refl short ((bytes_eq-Decides (take (MAX_BYTES + 1) part) line).0 e) other
 
-bare_next : (wanted : ℕ) (text part next : List ℕ) (parts : List (List ℕ)) → text ≡ part ++ (10 ∷ joined next parts) → NoVersion text
-    → IsBare (after_next (next_at wanted origin part) (λ q. read wanted q next parts))
-unfolding next_at next_in header_line
-bare_next wanted text part next parts h none = bare_by wanted text part next parts h none
-    (bytes_eq (take (MAX_BYTES + 1) part) (codes "ffcert 1")) (bytes_eq (take (MAX_BYTES + 1) part) (codes "ffcert 2")) refl refl
+  bare_by : (part next : List ℕ) (parts : List (List ℕ)) → text ≡ part ++ (10 ∷ joined next parts)
+      → (one two three : Bool) → bytes_eq (take (MAX_BYTES + 1) part) (codes "ffcert 1") ≡ one → bytes_eq (take (MAX_BYTES + 1) part) (codes "ffcert 2") ≡ two
+      → (bits && bytes_eq (take (MAX_BYTES + 1) part) (codes "ffcert 3")) ≡ three
+      → IsBare (after_next (if one then Move (named 1 (origin bits)) else if two then Move (named 2 (origin bits)) else if three then Move (named 3 (origin bits)) else Halt (fault_at 1 (origin bits))) (λ q. read wanted q next parts))
+  bare_by part next parts h true two three e f g = absurd (line_is_not (codes "ffcert 1") part (joined next parts) h (omega arith) e none.one)
+  bare_by part next parts h false true three e f g = absurd (line_is_not (codes "ffcert 2") part (joined next parts) h (omega arith) f none.two)
+  bare_by part next parts h false false true e f g =
+      let k = both_true bits (bytes_eq (take (MAX_BYTES + 1) part) (codes "ffcert 3")) g in
+      absurd (line_is_not (codes "ffcert 3") part (joined next parts) h (omega arith) k.1 (none.three k.0))
+  bare_by part next parts h false false false e f g = (refl, λ k. cc)
 
-bare_end : (wanted : ℕ) (part : List ℕ) → end_at wanted origin part ≡ Complete → ⊥
-unfolding is_complete
-bare_end wanted part h = let e : false ≡ true = (end_complete wanted origin part h).0 in cc
+  bare_next : (part next : List ℕ) (parts : List (List ℕ)) → text ≡ part ++ (10 ∷ joined next parts) → IsBare (after_next (next_at wanted (origin bits) part) (λ q. read wanted q next parts))
+  unfolding next_at next_in header_line
+  bare_next part next parts h = bare_by part next parts h
+      (bytes_eq (take (MAX_BYTES + 1) part) (codes "ffcert 1")) (bytes_eq (take (MAX_BYTES + 1) part) (codes "ffcert 2")) (bits && bytes_eq (take (MAX_BYTES + 1) part) (codes "ffcert 3")) refl refl refl
 
-bare_parts : (wanted : ℕ) (text part : List ℕ) (parts : List (List ℕ)) → text ≡ joined part parts → NoVersion text → IsBare (read wanted origin part parts)
-unfolding read
-bare_parts wanted text part [] h none = (refl, bare_end wanted part)
-bare_parts wanted text part (next ∷ parts) h none =
-    subst IsBare (sym (read_next wanted origin part next parts (next_at wanted origin part) refl)) (bare_next wanted text part next parts h none)
+  bare_end : (part : List ℕ) → end_at wanted (origin bits) part ≡ Complete → ⊥
+  unfolding is_complete
+  bare_end part h = let e : false ≡ true = (end_complete wanted (origin bits) part h).0 in cc
+
+  bare_parts : (part : List ℕ) (parts : List (List ℕ)) → text ≡ joined part parts → IsBare (read wanted (origin bits) part parts)
+  unfolding read
+  bare_parts part [] h = (refl, bare_end part)
+  bare_parts part (next ∷ parts) h =
+      subst IsBare (sym (read_next wanted (origin bits) part next parts (next_at wanted (origin bits) part) refl)) (bare_next part next parts h)
 
 pub reads_no_other : ReadsNoOther
-reads_no_other wanted text h =
+reads_no_other bits wanted text h =
     let p = parts_of is_line_end text in
-    subst (λ (ps : List (List ℕ)). IsBare (read_parts wanted origin ps)) (sym p.split) (bare_parts wanted text p.first p.others (split_joined text p.first p.others p.split) (no_version text h))
+    subst (λ (ps : List (List ℕ)). IsBare (read_parts wanted (origin bits) ps)) (sym p.split) (bare_parts bits wanted text (no_version bits text h) p.first p.others (split_joined text p.first p.others p.split))
 
 entries_count : (xs : List Numbered) → length (entries_of xs) ≡ length xs
 entries_count [] = refl
 entries_count (x ∷ xs) = let h = entries_count xs in omega (arith, h)
 
-accepted_by : (wanted : ℕ) (text : List ℕ) (v : Option ℕ) → version_of text ≡ v → (reading_of wanted text).end ≡ Complete → IsText wanted text
-accepted_by wanted text None e h = absurd ((reads_no_other wanted text e).1 h)
-accepted_by wanted text (Some version) e h =
-    let r = reads_its_text wanted version text e in
+accepted_by : (bits : Bool) (wanted : ℕ) (text : List ℕ) (v : Option ℕ) → version_of bits text ≡ v → (reading_of bits wanted text).end ≡ Complete → IsText bits wanted text
+accepted_by bits wanted text None e h = absurd ((reads_no_other bits wanted text e).1 h)
+accepted_by bits wanted text (Some version) e h =
+    let r = reads_its_text bits wanted version text e in
     let w = r.whole h in
     record {
       version = version;
-      entries = entries_of (reading_of wanted text).entries;
-      known = (has_header text version e).known;
+      entries = entries_of (reading_of bits wanted text).entries;
+      known = (has_header bits text version e).known;
       readable = r.readable;
-      count = entries_count (reading_of wanted text).entries ∙ w.1;
-      text_is = r.text_is ∙ ap (λ (xs : List ℕ). text_of version (entries_of (reading_of wanted text).entries) ++ xs) w.0 ∙ append-nil (text_of version (entries_of (reading_of wanted text).entries));
+      count = entries_count (reading_of bits wanted text).entries ∙ w.1;
+      text_is = r.text_is ∙ ap (λ (xs : List ℕ). text_of version (entries_of (reading_of bits wanted text).entries) ++ xs) w.0 ∙ append-nil (text_of version (entries_of (reading_of bits wanted text).entries));
     }
 
-text_accepted : (wanted : ℕ) (text : List ℕ) → IsText wanted text → (reading_of wanted text).end ≡ Complete
-text_accepted wanted text t =
-    ap (λ (n : ℕ). (reading_of n text).end) (sym t.count) ∙ ap (λ (xs : List ℕ). (reading_of (length t.entries) xs).end) t.text_is
-    ∙ ap (λ (r : Reading). r.end) (reads_back t.version t.entries t.known t.readable)
+text_accepted : (bits : Bool) (wanted : ℕ) (text : List ℕ) → IsText bits wanted text → (reading_of bits wanted text).end ≡ Complete
+text_accepted bits wanted text t =
+    ap (λ (n : ℕ). (reading_of bits n text).end) (sym t.count) ∙ ap (λ (xs : List ℕ). (reading_of bits (length t.entries) xs).end) t.text_is
+    ∙ ap (λ (r : Reading). r.end) (reads_back bits t.version t.entries t.known t.readable)
 
 pub accepts_texts : AcceptsTexts
-accepts_texts wanted text = (accepted_by wanted text (version_of text) refl, text_accepted wanted text)
+accepts_texts bits wanted text = (accepted_by bits wanted text (version_of bits text) refl, text_accepted bits wanted text)
 
 -- What a reader gives.
 
@@ -356,13 +388,13 @@ readable_at version (y ∷ xs) (suc n) x h e = readable_at version xs n x h.1 e
 none_at : (xs : List Numbered) (n : ℕ) (x : Numbered) → xs ≡ [] → slice_get xs n ≡ Some x → ⊥
 none_at xs n x h e = absurd (let e2 : slice_get [] n ≡ Some x = subst (λ (ys : List Numbered). slice_get ys n ≡ Some x) h e in cc)
 
-given_by : (wanted : ℕ) (text : List ℕ) (n : ℕ) (x : Numbered) (v : Option ℕ) → version_of text ≡ v → slice_get (reading_of wanted text).entries n ≡ Some x → IsReadableIn v x.entry
-given_by wanted text n x None e h = none_at (reading_of wanted text).entries n x (reads_no_other wanted text e).0 h
-given_by wanted text n x (Some version) e h = readable_at version (reading_of wanted text).entries n x (reads_its_text wanted version text e).readable h
+given_by : (bits : Bool) (wanted : ℕ) (text : List ℕ) (n : ℕ) (x : Numbered) (v : Option ℕ) → version_of bits text ≡ v → slice_get (reading_of bits wanted text).entries n ≡ Some x → IsReadableIn v x.entry
+given_by bits wanted text n x None e h = none_at (reading_of bits wanted text).entries n x (reads_no_other bits wanted text e).0 h
+given_by bits wanted text n x (Some version) e h = readable_at version (reading_of bits wanted text).entries n x (reads_its_text bits wanted version text e).readable h
 
 -- an entry is well formed in the version of the text
-pub given_readable : (wanted : ℕ) (text : List ℕ) (n : ℕ) (x : Numbered) → slice_get (reading_of wanted text).entries n ≡ Some x → IsReadableIn (version_of text) x.entry
-given_readable wanted text n x h = given_by wanted text n x (version_of text) refl h
+pub given_readable : (bits : Bool) (wanted : ℕ) (text : List ℕ) (n : ℕ) (x : Numbered) → slice_get (reading_of bits wanted text).entries n ≡ Some x → IsReadableIn (version_of bits text) x.entry
+given_readable bits wanted text n x h = given_by bits wanted text n x (version_of bits text) refl h
 
 number_at : (entries : List Entry) (first line n : ℕ) (x : Numbered) → slice_get (numbered_from first line entries) n ≡ Some x → x.number ≡ first + n
 number_at [] first line n x h = absurd (cc)
@@ -372,16 +404,16 @@ number_at (e ∷ entries) first line zero x h =
     omega (arith, ap (λ (y : Numbered). y.number) same)
 number_at (e ∷ entries) first line (suc n) x h = let later = number_at entries (first + 1) (line + line_count e) n x h in omega (arith, later)
 
-numbered_by : (wanted : ℕ) (text : List ℕ) (n : ℕ) (x : Numbered) (v : Option ℕ) → version_of text ≡ v → slice_get (reading_of wanted text).entries n ≡ Some x → x.number ≡ n + 1
-numbered_by wanted text n x None e h = absurd (none_at (reading_of wanted text).entries n x (reads_no_other wanted text e).0 h)
-numbered_by wanted text n x (Some version) e h =
-    let is = (reads_its_text wanted version text e).numbers in
-    let number = number_at (entries_of (reading_of wanted text).entries) 1 2 n x (ap (λ (xs : List Numbered). slice_get xs n) (sym is) ∙ h) in
+numbered_by : (bits : Bool) (wanted : ℕ) (text : List ℕ) (n : ℕ) (x : Numbered) (v : Option ℕ) → version_of bits text ≡ v → slice_get (reading_of bits wanted text).entries n ≡ Some x → x.number ≡ n + 1
+numbered_by bits wanted text n x None e h = absurd (none_at (reading_of bits wanted text).entries n x (reads_no_other bits wanted text e).0 h)
+numbered_by bits wanted text n x (Some version) e h =
+    let is = (reads_its_text bits wanted version text e).numbers in
+    let number = number_at (entries_of (reading_of bits wanted text).entries) 1 2 n x (ap (λ (xs : List Numbered). slice_get xs n) (sym is) ∙ h) in
     omega (arith, number)
 
 -- an entry's number is one more than there are before it
-pub given_number : (wanted : ℕ) (text : List ℕ) (n : ℕ) (x : Numbered) → slice_get (reading_of wanted text).entries n ≡ Some x → x.number ≡ n + 1
-given_number wanted text n x h = numbered_by wanted text n x (version_of text) refl h
+pub given_number : (bits : Bool) (wanted : ℕ) (text : List ℕ) (n : ℕ) (x : Numbered) → slice_get (reading_of bits wanted text).entries n ≡ Some x → x.number ≡ n + 1
+given_number bits wanted text n x h = numbered_by bits wanted text n x (version_of bits text) refl h
 
 -- each line has a byte
 
@@ -426,12 +458,12 @@ lines_below (e ∷ entries) number line =
 header_size : (version : ℕ) → 2 ≤ length (header version)
 header_size version = omega (arith, length-append (codes "ffcert" ++ (32 ∷ decimal version)) (10 ∷ []), length-append (codes "ffcert") (32 ∷ decimal version))
 
-inside_by : (wanted : ℕ) (text : List ℕ) (v : Option ℕ) → version_of text ≡ v → AllByRecursion (λ x. x.first_line < length text) (reading_of wanted text).entries
+inside_by : (bits : Bool) (wanted : ℕ) (text : List ℕ) (v : Option ℕ) → version_of bits text ≡ v → AllByRecursion (λ x. x.first_line < length text) (reading_of bits wanted text).entries
 unfolding text_of
-inside_by wanted text None e = subst (AllByRecursion (λ (x : Numbered). x.first_line < length text)) (sym (reads_no_other wanted text e).0) tt
-inside_by wanted text (Some version) e =
-    let r = reads_its_text wanted version text e in
-    let entries = entries_of (reading_of wanted text).entries in
+inside_by bits wanted text None e = subst (AllByRecursion (λ (x : Numbered). x.first_line < length text)) (sym (reads_no_other bits wanted text e).0) tt
+inside_by bits wanted text (Some version) e =
+    let r = reads_its_text bits wanted version text e in
+    let entries = entries_of (reading_of bits wanted text).entries in
     let size : length text ≡ length ((header version ++ flat_map entry_text entries) ++ r.more) = ap (λ (xs : List ℕ). length xs) r.text_is in
     let one = length-append (header version ++ flat_map entry_text entries) r.more in
     let two = length-append (header version) (flat_map entry_text entries) in
@@ -441,7 +473,7 @@ inside_by wanted text (Some version) e =
     (λ x h. omega (arith, h, size, one, two, three)) (numbered_from 1 2 entries) (lines_below entries 1 2))
 
 pub lines_are_inside : LinesAreInside
-lines_are_inside wanted text = inside_by wanted text (version_of text) refl
+lines_are_inside bits wanted text = inside_by bits wanted text (version_of bits text) refl
 
-pub given_line : (wanted : ℕ) (text : List ℕ) (n : ℕ) (x : Numbered) → slice_get (reading_of wanted text).entries n ≡ Some x → x.first_line < length text
-given_line wanted text n x h = at_place (λ (y : Numbered). y.first_line < length text) (reading_of wanted text).entries n x (lines_are_inside wanted text) h
+pub given_line : (bits : Bool) (wanted : ℕ) (text : List ℕ) (n : ℕ) (x : Numbered) → slice_get (reading_of bits wanted text).entries n ≡ Some x → x.first_line < length text
+given_line bits wanted text n x h = at_place (λ (y : Numbered). y.first_line < length text) (reading_of bits wanted text).entries n x (lines_are_inside bits wanted text) h

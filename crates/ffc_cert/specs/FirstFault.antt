@@ -2,7 +2,7 @@
 -- are line 1, the text of readable entries, and a part of one more that some well-formed entry begins with. The line at
 -- fault is one with which none does, or with which its entry is too long, or one that is not ended, or any after the last
 -- entry. Only the laws at the end name the reading of a text.
-use Rattle.std.specs.Prelude.{◌≡◌, ◌≢◌, ℕ, ◌+◌, ◌<◌, ◌≤◌, ◌⊎◌, List, [], ◌∷◌, ◌++◌, length, take, codes, count_by}
+use Rattle.std.specs.Prelude.{◌≡◌, ◌≢◌, ℕ, ◌+◌, ◌<◌, ◌≤◌, ◌⊎◌, Bool, true, List, [], ◌∷◌, ◌++◌, length, take, codes, count_by}
 use Rattle.std.specs.List.{AllByRecursion, before_first, position_or_len}
 use Rattle.ffc_cert.specs.declared.entries.Entry.{Entry}
 use Rattle.ffc_cert.specs.declared.entries.CertFault.{CertFault}
@@ -45,8 +45,8 @@ abbrev pub BeginsNone : ℕ → List ℕ → Type 0
 BeginsNone version bytes = (entry : Entry) (more : List ℕ) → IsWellFormed version entry → entry_text entry ≡ bytes ++ more → ⊥
 
 -- Lines without a fault, all of them ended: line 1, entries, and a part of one more, which is not the whole of it.
-pub record AreFaultless (version : ℕ) (entries : List Entry) (part front : List ℕ) : Type 0 where
-  pub known : IsVersion version
+pub record AreFaultless (bits : Bool) (version : ℕ) (entries : List Entry) (part front : List ℕ) : Type 0 where
+  pub known : IsVersion bits version
   pub readable : AllByRecursion (IsReadable version) entries
   pub begun : Begins version part
   pub unfinished : 0 < length begun.more
@@ -83,24 +83,25 @@ pub record IsUnended (wanted count : ℕ) (rest : List ℕ) (code : ℕ) : Type 
   pub code_is : code ≡ 4
 
 -- The first line at fault, after line 1: the lines before it have none.
-pub record IsFirstAfter (Wrong : ℕ → ℕ → List ℕ → List ℕ → ℕ → Type 0) (text : List ℕ) (fault : CertFault) : Type 0 where
+pub record IsFirstAfter (bits : Bool) (Wrong : ℕ → ℕ → List ℕ → List ℕ → ℕ → Type 0) (text : List ℕ) (fault : CertFault) : Type 0 where
   pub version : ℕ
   pub entries : List Entry
   pub part : List ℕ
   pub front : List ℕ
   pub rest : List ℕ
-  pub right : AreFaultless version entries part front
+  pub right : AreFaultless bits version entries part front
   pub text_is : text ≡ front ++ rest
   pub entry : fault.entry ≡ length entries + 1
   pub line : fault.line ≡ lines_of front + 1
   pub wrong : Wrong version (length entries) part rest fault.code
 
 -- Line 1 is at fault.
-pub record IsHeaderFault (text : List ℕ) (fault : CertFault) : Type 0 where
+pub record IsHeaderFault (bits : Bool) (text : List ℕ) (fault : CertFault) : Type 0 where
   pub fault_is : fault ≡ record { entry = 0; line = 1; code = 1 }
   pub judged : IsJudged text
   pub not_one : seen_line text ≢ codes "ffcert 1"
   pub not_two : seen_line text ≢ codes "ffcert 2"
+  pub not_three : bits ≡ true → seen_line text ≢ codes "ffcert 3"
 
 -- Line 1 is not ended.
 pub record IsHeaderUnended (text : List ℕ) (fault : CertFault) : Type 0 where
@@ -109,34 +110,34 @@ pub record IsHeaderUnended (text : List ℕ) (fault : CertFault) : Type 0 where
   pub short : length text ≤ max_bytes
 
 -- the fault of a text, whatever follows it
-abbrev pub IsFirstFault : ℕ → List ℕ → CertFault → Type 0
-IsFirstFault wanted text fault = IsHeaderFault text fault ⊎ IsFirstAfter (IsWrong wanted) text fault
+abbrev pub IsFirstFault : Bool → ℕ → List ℕ → CertFault → Type 0
+IsFirstFault bits wanted text fault = IsHeaderFault bits text fault ⊎ IsFirstAfter bits (IsWrong wanted) text fault
 
 -- the fault where nothing follows
-abbrev pub IsEndFault : ℕ → List ℕ → CertFault → Type 0
-IsEndFault wanted text fault = IsHeaderUnended text fault ⊎ IsFirstAfter (λ version count part rest code. IsUnended wanted count rest code) text fault
+abbrev pub IsEndFault : Bool → ℕ → List ℕ → CertFault → Type 0
+IsEndFault bits wanted text fault = IsHeaderUnended text fault ⊎ IsFirstAfter bits (λ version count part rest code. IsUnended wanted count rest code) text fault
 
-abbrev pub IsFaultOf : ℕ → List ℕ → End → Type 0
-IsFaultOf wanted text Complete = Unit {0}
-IsFaultOf wanted text (Open fault) = IsEndFault wanted text fault
-IsFaultOf wanted text (Stopped fault) = IsFirstFault wanted text fault
+abbrev pub IsFaultOf : Bool → ℕ → List ℕ → End → Type 0
+IsFaultOf bits wanted text Complete = Unit {0}
+IsFaultOf bits wanted text (Open fault) = IsEndFault bits wanted text fault
+IsFaultOf bits wanted text (Stopped fault) = IsFirstFault bits wanted text fault
 
 -- A text's fault is that of its first line at fault.
 abbrev pub FaultsAreFirst : Type 0
-FaultsAreFirst = (wanted : ℕ) (text : List ℕ) → IsFaultOf wanted text (reading_of wanted text).end
+FaultsAreFirst = (bits : Bool) (wanted : ℕ) (text : List ℕ) → IsFaultOf bits wanted text (reading_of bits wanted text).end
 
 -- a text's first line with its LF, or all of it where the line is not ended
 abbrev pub first_line_of : List ℕ → List ℕ
 first_line_of text = take (position_or_len is_line_end text + 1) text
 
 -- The lines before a fault and its own line decide it: whatever else follows them, the fault is the same.
-pub record IsDecided (wanted : ℕ) (text : List ℕ) (fault : CertFault) : Type 0 where
+pub record IsDecided (bits : Bool) (wanted : ℕ) (text : List ℕ) (fault : CertFault) : Type 0 where
   pub front : List ℕ
   pub rest : List ℕ
   pub text_is : text ≡ front ++ rest
   pub ends : (front ≡ []) ⊎ ((body : List ℕ) × (front ≡ ended_line body))
   pub line : fault.line ≡ lines_of front + 1
-  pub decided : (other : List ℕ) → (reading_of wanted (front ++ (first_line_of rest ++ other))).end ≡ Stopped fault
+  pub decided : (other : List ℕ) → (reading_of bits wanted (front ++ (first_line_of rest ++ other))).end ≡ Stopped fault
 
 abbrev pub LinesDecide : Type 0
-LinesDecide = (wanted : ℕ) (text : List ℕ) (fault : CertFault) → (reading_of wanted text).end ≡ Stopped fault → IsDecided wanted text fault
+LinesDecide = (bits : Bool) (wanted : ℕ) (text : List ℕ) (fault : CertFault) → (reading_of bits wanted text).end ≡ Stopped fault → IsDecided bits wanted text fault

@@ -1,9 +1,9 @@
 -- The order of the lines of a refutation. `IsTree lines rest` says that a tree is at the front of the lines, and
--- the rest after it. A tree is lines `Combine` and lines `Chain`, each of these with its lines `Step`, and then one line
--- that ends it: `Close`, or `Split` or `Values` with a tree for each case.
+-- the rest after it. A tree is lines `Combine`, lines `Bits` and lines `Chain`, each of these last with its lines `Step`, and
+-- then one line that ends it: `Close`, or `Split` or `Values` with a tree for each case.
 use Rattle.std.specs.Prelude.{ℕ, zero, suc, Bool, Option, List, [], ◌∷◌, length}
 use Rattle.ffc_cert.specs.declared.entries.CertLine.{CertLine}
-use Rattle.ffc_cert.specs.declared.entries.CertLine.TheVariants.{Assume, Scheme, Hinted, Lemma, Combine, Chain, Step, Split, Values, Close}
+use Rattle.ffc_cert.specs.declared.entries.CertLine.TheVariants.{Assume, Scheme, Hinted, Lemma, Combine, Bits, Chain, Step, Split, Values, Close}
 
 -- so many steps of a chain, and the rest
 pub data AreSteps : ℕ → List CertLine → List CertLine → Type 0 where
@@ -14,6 +14,7 @@ mutual
   -- a tree, and the rest
   pub data IsTree : List CertLine → List CertLine → Type 0 where
     combine : {lines rest : List CertLine} (multiples : List (ℕ × List (ℕ × List (ℕ × ℕ)))) → IsTree lines rest → IsTree (Combine multiples ∷ lines) rest
+    with_bits : {lines rest : List CertLine} (line : ℕ) (chosen : List ℕ) (polynomial : List (ℕ × List (ℕ × ℕ))) (bits : List ℕ) → IsTree lines rest → IsTree (Bits line chosen polynomial bits ∷ lines) rest
     chain : {lines behind rest : List CertLine} (line variable steps : ℕ) → AreSteps steps lines behind → IsTree behind rest → IsTree (Chain line variable steps ∷ lines) rest
     split : {lines rest : List CertLine} (line variable : ℕ) (zeros : List ℕ) → AreTrees (length zeros) lines rest → IsTree (Split line variable zeros ∷ lines) rest
     values : {lines rest : List CertLine} (variable trees : ℕ) → AreTrees trees lines rest → IsTree (Values variable trees ∷ lines) rest

@@ -136,6 +136,20 @@ powers_at least (suc n) bytes = do
   others ← powers_at (first.0.0 + 1) n first.1
   Ok (first.0 ∷ others.0, others.1)
 
+-- so many variables that increase strictly, the first not below a number
+unfoldable pub variables_at : ℕ → ℕ → List ℕ → Result (List ℕ × List ℕ) Flaw
+variables_at least zero bytes = Ok ([], bytes)
+variables_at least (suc n) bytes = do
+  first ← variable_at least bytes
+  others ← variables_at (first.0 + 1) n first.1
+  Ok (first.0 ∷ others.0, others.1)
+
+-- how many variables, and then each, from the lowest
+unfoldable pub chosen_at : List ℕ → Result (List ℕ × List ℕ) Flaw
+chosen_at bytes = do
+  n ← narrow_at bytes
+  variables_at 0 n.0 n.1
+
 unfoldable pub term_at : List ℕ → Result ((ℕ × List (ℕ × ℕ)) × List ℕ) Flaw
 term_at bytes = do
   coefficient ← wide_at bytes

@@ -1,7 +1,7 @@
 -- Laws of the text: what was written is read back, what was read is its own text and no other spelling of it, in one version
 -- no entry's text begins another's, and reading goes on as it began.
-use Rattle.std.specs.Prelude.{◌≡◌, ℕ, ◌+◌, ◌<◌, ◌≤◌, ◌⊎◌, ◌↔◌, List, [], ◌∷◌, ◌++◌, length, take, Some, None}
-use Rattle.std.specs.List.{AllByRecursion}
+use Rattle.std.specs.Prelude.{◌≡◌, ℕ, ◌+◌, ◌<◌, ◌≤◌, ◌⊎◌, ◌↔◌, Bool, true, false, codes, nat_eq, List, [], ◌∷◌, ◌++◌, length, take, Some, None}
+use Rattle.std.specs.List.{AllByRecursion, starts_with}
 use Rattle.ffc_cert.specs.declared.entries.Entry.{Entry}
 use Rattle.ffc_cert.specs.declared.entries.Entry.TheVariants.{Sat, UnsatCases, UnsatSteps, Unknown}
 use Rattle.ffc_cert.specs.declared.entries.CertFault.{CertFault}
@@ -24,21 +24,22 @@ numbered_from number line [] = []
 numbered_from number line (entry ∷ entries) =
     record { number = number; first_line = line; entry = entry } ∷ numbered_from (number + 1) (line + line_count entry) entries
 
-abbrev pub IsVersion : ℕ → Type 0
-IsVersion version = (version ≡ 1) ⊎ (version ≡ 2)
+-- the versions that are read
+abbrev pub IsVersion : Bool → ℕ → Type 0
+IsVersion bits version = (version ≡ 1) ⊎ ((version ≡ 2) ⊎ ((version ≡ 3) × (bits ≡ true)))
 
 -- the text of these entries gives them, and nothing else
 abbrev pub ReadsBack : Type 0
-ReadsBack = (version : ℕ) (entries : List Entry) → IsVersion version → AllByRecursion (IsReadable version) entries
-    → reading_of (length entries) (text_of version entries) ≡ record { entries = numbered_from 1 2 entries; end = Complete }
+ReadsBack = (bits : Bool) (version : ℕ) (entries : List Entry) → IsVersion bits version → AllByRecursion (IsReadable version) entries
+    → reading_of bits (length entries) (text_of version entries) ≡ record { entries = numbered_from 1 2 entries; end = Complete }
 
 -- the same entries are the first where the text goes on
 abbrev pub ReadsBackFirst : Type 0
-ReadsBackFirst = (version : ℕ) (entries : List Entry) (wanted : ℕ) (more : List ℕ) → IsVersion version → AllByRecursion (IsReadable version) entries
-    → length entries ≤ wanted → take (length entries) (reading_of wanted (text_of version entries ++ more)).entries ≡ numbered_from 1 2 entries
+ReadsBackFirst = (bits : Bool) (version : ℕ) (entries : List Entry) (wanted : ℕ) (more : List ℕ) → IsVersion bits version → AllByRecursion (IsReadable version) entries
+    → length entries ≤ wanted → take (length entries) (reading_of bits wanted (text_of version entries ++ more)).entries ≡ numbered_from 1 2 entries
 
 abbrev pub BeginsNoOther : Type 0
-BeginsNoOther = (version : ℕ) (first second : Entry) (more : List ℕ) → IsVersion version → IsWellFormed version first → IsWellFormed version second
+BeginsNoOther = (bits : Bool) (version : ℕ) (first second : Entry) (more : List ℕ) → IsVersion bits version → IsWellFormed version first → IsWellFormed version second
     → entry_text first ++ more ≡ entry_text second → (first ≡ second) × (more ≡ [])
 
 -- an entry that is well formed can be written
@@ -62,28 +63,28 @@ pub record IsOfText (wanted version : ℕ) (text : List ℕ) (r : Reading) : Typ
 
 -- a text is read only as it is written
 abbrev pub ReadsItsText : Type 0
-ReadsItsText = (wanted version : ℕ) (text : List ℕ) → version_of text ≡ Some version → IsOfText wanted version text (reading_of wanted text)
+ReadsItsText = (bits : Bool) (wanted version : ℕ) (text : List ℕ) → version_of bits text ≡ Some version → IsOfText wanted version text (reading_of bits wanted text)
 
 -- where line 1 names no version, there is no entry, and the text is not complete
 abbrev pub ReadsNoOther : Type 0
-ReadsNoOther = (wanted : ℕ) (text : List ℕ) → version_of text ≡ None → ((reading_of wanted text).entries ≡ []) × ((reading_of wanted text).end ≡ Complete → ⊥)
+ReadsNoOther = (bits : Bool) (wanted : ℕ) (text : List ℕ) → version_of bits text ≡ None → ((reading_of bits wanted text).entries ≡ []) × ((reading_of bits wanted text).end ≡ Complete → ⊥)
 
 -- the text of so many entries in one of the versions
-pub record IsText (wanted : ℕ) (text : List ℕ) : Type 0 where
+pub record IsText (bits : Bool) (wanted : ℕ) (text : List ℕ) : Type 0 where
   pub version : ℕ
   pub entries : List Entry
-  pub known : IsVersion version
+  pub known : IsVersion bits version
   pub readable : AllByRecursion (IsReadable version) entries
   pub count : length entries ≡ wanted
   pub text_is : text ≡ text_of version entries
 
 -- the texts that are read without a fault up to their end
 abbrev pub AcceptsTexts : Type 0
-AcceptsTexts = (wanted : ℕ) (text : List ℕ) → ((reading_of wanted text).end ≡ Complete) ↔ IsText wanted text
+AcceptsTexts = (bits : Bool) (wanted : ℕ) (text : List ℕ) → ((reading_of bits wanted text).end ≡ Complete) ↔ IsText bits wanted text
 
 -- each entry's first line is within the text: its number is at most the number of the bytes
 abbrev pub LinesAreInside : Type 0
-LinesAreInside = (wanted : ℕ) (text : List ℕ) → AllByRecursion (λ x. x.first_line < length text) (reading_of wanted text).entries
+LinesAreInside = (bits : Bool) (wanted : ℕ) (text : List ℕ) → AllByRecursion (λ x. x.first_line < length text) (reading_of bits wanted text).entries
 
 -- a reading of the front of a text, and one of the whole
 pub record IsFront (front whole : Reading) : Type 0 where
@@ -93,4 +94,8 @@ pub record IsFront (front whole : Reading) : Type 0 where
 
 -- the entries of a text are the first ones however it goes on, and a fault stays the fault
 abbrev pub GoesOn : Type 0
-GoesOn = (wanted : ℕ) (text more : List ℕ) → IsFront (reading_of wanted text) (reading_of wanted (text ++ more))
+GoesOn = (bits : Bool) (wanted : ℕ) (text more : List ℕ) → IsFront (reading_of bits wanted text) (reading_of bits wanted (text ++ more))
+
+-- Where the text does not begin with line 1 of version 3, it is read the same with version 3 and without it.
+abbrev pub ReadsOldVersions : Type 0
+ReadsOldVersions = (wanted : ℕ) (text : List ℕ) → starts_with nat_eq text (codes "ffcert 3\n") ≡ false → reading_of true wanted text ≡ reading_of false wanted text

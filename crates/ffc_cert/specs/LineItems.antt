@@ -9,7 +9,7 @@ use Rattle.ffc_cert.specs.declared.entries.Entry.TheVariants.{Sat, UnsatCases, U
 use Rattle.ffc_cert.specs.declared.entries.Cause.{Cause}
 use Rattle.ffc_cert.specs.declared.entries.Cause.TheVariants.{Degree, Terms, Steps, Memory}
 use Rattle.ffc_cert.specs.declared.entries.CertLine.{CertLine}
-use Rattle.ffc_cert.specs.declared.entries.CertLine.TheVariants.{Assume, Scheme, Hinted, Lemma, Combine, Chain, Step, Split, Values, Close}
+use Rattle.ffc_cert.specs.declared.entries.CertLine.TheVariants.{Assume, Scheme, Hinted, Lemma, Combine, Bits, Chain, Step, Split, Values, Close}
 use Rattle.ffc_cert.specs.Items.{is_digits, is_canonical}
 use Rattle.ffc_cert.specs.Spelling.{line_items, value_line, entry_text, clauses}
 use Rattle.ffc_cert.specs.Ranges.{IsLine, IsValue}
@@ -81,6 +81,11 @@ abbrev pub powers_items : ℕ → List (ℕ × ℕ) → List Item
 powers_items least [] = []
 powers_items least (p ∷ powers) = power_items least p ++ powers_items (p.0 + 1) powers
 
+-- variables that increase
+abbrev pub variables_items : ℕ → List ℕ → List Item
+variables_items least [] = []
+variables_items least (x ∷ variables) = Variable least x ∷ variables_items (x + 1) variables
+
 abbrev pub term_items : ℕ × List (ℕ × ℕ) → List Item
 term_items t = wide t.0 ++ (narrow (length t.1) ++ powers_items 0 t.1)
 
@@ -98,6 +103,8 @@ items_of (Scheme node scheme index) = Word (codes "n") ∷ (narrow node ++ (narr
 items_of (Hinted lits hints) = Word (codes "r") ∷ (counted_items signed lits ++ counted_items narrow hints)
 items_of (Lemma order lits) = Word (codes "f") ∷ (order_items order ++ counted_items signed lits)
 items_of (Combine multiples) = Word (codes "c") ∷ counted_items multiple_items multiples
+items_of (Bits line chosen polynomial bits) =
+    Word (codes "b") ∷ (narrow line ++ ((narrow (length chosen) ++ variables_items 0 chosen) ++ (counted_items term_items polynomial ++ counted_items narrow bits)))
 items_of (Chain line variable steps) = Word (codes "p") ∷ (narrow line ++ (narrow variable ++ narrow steps))
 items_of (Step quotient remainder) = Word (codes "u") ∷ (counted_items wide quotient ++ counted_items wide remainder)
 items_of (Split line variable zeros) = Word (codes "s") ∷ (narrow line ++ (narrow variable ++ counted_items wide zeros))

@@ -6,11 +6,11 @@ use Rattle.ffc_cert.specs.declared.flaws.Flaw.TheVariants.{Form}
 use Rattle.ffc_cert.specs.declared.entries.Entry.TheVariants.{UnsatCases, Unknown}
 use Rattle.ffc_cert.specs.declared.entries.Cause.TheVariants as causes
 use Rattle.ffc_cert.specs.declared.entries.CertLine.{CertLine}
-use Rattle.ffc_cert.specs.declared.entries.CertLine.TheVariants.{Assume, Scheme, Hinted, Lemma, Combine, Chain, Step, Split, Values, Close}
+use Rattle.ffc_cert.specs.declared.entries.CertLine.TheVariants.{Assume, Scheme, Hinted, Lemma, Combine, Bits, Chain, Step, Split, Values, Close}
 use Rattle.ffc_cert.specs.declared.forms.Opening.{Opening}
 use Rattle.ffc_cert.specs.declared.forms.Opening.TheVariants.{Assignment, Refutation, Whole}
 use Rattle.ffc_cert.specs.declared.forms.Awaited.{Awaited}
-use Rattle.ffc_cert.specs.Items.{◌>>=◌, first_item, behind_item, item_at, ended, number_in, narrow_at, wide_at, literal_at, counted_at, multiple_at}
+use Rattle.ffc_cert.specs.Items.{◌>>=◌, first_item, behind_item, item_at, ended, number_in, narrow_at, wide_at, literal_at, counted_at, chosen_at, term_at, multiple_at}
 
 unfoldable pub assume_at : List ℕ → Result (CertLine × List ℕ) Flaw
 assume_at bytes = do
@@ -44,6 +44,18 @@ unfoldable pub combine_at : List ℕ → Result (CertLine × List ℕ) Flaw
 combine_at bytes = do
   multiples ← counted_at multiple_at bytes
   Ok (Combine multiples.0, multiples.1)
+
+unfoldable pub bits_at : List ℕ → Result (CertLine × List ℕ) Flaw
+bits_at bytes = do
+  line ← narrow_at bytes
+  chosen ← chosen_at line.1
+  polynomial ← counted_at term_at chosen.1
+  bits ← counted_at narrow_at polynomial.1
+  Ok (Bits line.0 chosen.0 polynomial.0 bits.0, bits.1)
+
+-- no version but 3 has this line
+unfoldable pub bits_in : ℕ → List ℕ → Result (CertLine × List ℕ) Flaw
+bits_in version bytes = if version == 3 then bits_at bytes else Err Form
 
 unfoldable pub chain_at : List ℕ → Result (CertLine × List ℕ) Flaw
 chain_at bytes = do
@@ -79,9 +91,10 @@ clause_form version word bytes =
     if bytes_eq word (codes "r") then hinted_at bytes else
     if bytes_eq word (codes "f") then lemma_at version bytes else Err Form
 
-unfoldable pub tree_form : List ℕ → List ℕ → Result (CertLine × List ℕ) Flaw
-tree_form word bytes =
+unfoldable pub tree_form : ℕ → List ℕ → List ℕ → Result (CertLine × List ℕ) Flaw
+tree_form version word bytes =
     if bytes_eq word (codes "c") then combine_at bytes else
+    if bytes_eq word (codes "b") then bits_in version bytes else
     if bytes_eq word (codes "p") then chain_at bytes else
     if bytes_eq word (codes "s") then split_at bytes else
     if bytes_eq word (codes "v") then values_at bytes else
@@ -94,7 +107,7 @@ step_form word bytes = if bytes_eq word (codes "u") then step_at bytes else Err 
 unfoldable pub form_at : ℕ → Awaited → List ℕ → List ℕ → Result (CertLine × List ℕ) Flaw
 form_at version awaited word bytes =
     if nat_lt 0 awaited.steps then step_form word bytes else
-    if nat_lt 0 awaited.trees then tree_form word bytes else clause_form version word bytes
+    if nat_lt 0 awaited.trees then tree_form version word bytes else clause_form version word bytes
 
 unfoldable pub line_at : ℕ → Awaited → List ℕ → Result CertLine Flaw
 line_at version awaited line = form_at version awaited (first_item line) (behind_item line) >>= ended

@@ -5,7 +5,7 @@ use Rattle.std.specs.List.{AllByRecursion}
 use Rattle.ffc_cert.specs.declared.entries.Cause.{Cause}
 use Rattle.ffc_cert.specs.declared.entries.Cause.TheVariants.{Degree, Terms, Steps, Memory}
 use Rattle.ffc_cert.specs.declared.entries.CertLine.{CertLine}
-use Rattle.ffc_cert.specs.declared.entries.CertLine.TheVariants.{Assume, Scheme, Hinted, Lemma, Combine, Chain, Step, Split, Values, Close}
+use Rattle.ffc_cert.specs.declared.entries.CertLine.TheVariants.{Assume, Scheme, Hinted, Lemma, Combine, Bits, Chain, Step, Split, Values, Close}
 
 -- a node, a line, a clause, a variable, an exponent, a count
 abbrev pub IsNarrow : ℕ → Type 0
@@ -41,6 +41,16 @@ pub record IsTerm (t : ℕ × List (ℕ × ℕ)) : Type 0 where
   pub coefficient : IsWide t.0
   pub monomial : IsMonomial t.1
 
+-- each number is below all that follow
+abbrev pub Increase : List ℕ → Type 0
+Increase [] = Unit {0}
+Increase (x ∷ xs) = AllByRecursion (λ y. x < y) xs × Increase xs
+
+-- variables of a line, each once, from the lowest
+pub record AreVariables (variables : List ℕ) : Type 0 where
+  pub counted : IsCounted IsNarrow variables
+  pub increasing : Increase variables
+
 pub record IsMultiple (m : ℕ × List (ℕ × List (ℕ × ℕ))) : Type 0 where
   pub line : IsNarrow m.0
   pub polynomial : IsCounted IsTerm m.1
@@ -56,6 +66,7 @@ IsLine (Scheme node scheme index) = IsNarrow node × (IsNarrow scheme × IsNarro
 IsLine (Hinted lits hints) = IsCounted IsLiteral lits × IsCounted IsNarrow hints
 IsLine (Lemma order lits) = IsOrder order × IsCounted IsLiteral lits
 IsLine (Combine multiples) = IsCounted IsMultiple multiples
+IsLine (Bits line chosen polynomial bits) = IsNarrow line × (AreVariables chosen × (IsCounted IsTerm polynomial × IsCounted IsNarrow bits))
 IsLine (Chain line variable steps) = IsNarrow line × (IsNarrow variable × IsNarrow steps)
 IsLine (Step quotient remainder) = IsCounted IsWide quotient × IsCounted IsWide remainder
 IsLine (Split line variable zeros) = IsNarrow line × (IsNarrow variable × IsCounted IsWide zeros)

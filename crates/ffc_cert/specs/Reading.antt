@@ -1,6 +1,6 @@
 -- How a text is read: its lines in order, the entries that they make, and how it ends. It is over a whole text, and says
 -- nothing of pieces. The entries, and a fault of a text other than that it ends too early, are the same however the text
--- goes on.
+-- goes on. Version 3 is read where `bits` is true.
 use Rattle.std.specs.Prelude.{ℕ, ◌+◌, ◌-◌, Bool, false, ◌==◌, ◌&&◌, nat_lt, List, [], ◌∷◌, ◌++◌, length, take, codes, if◌then◌else◌, Option, Some, None, Result, Ok, Err}
 use Rattle.std.specs.List.{slice_split}
 use Rattle.std.specs.Str.{bytes_eq}
@@ -10,7 +10,7 @@ use Rattle.ffc_cert.specs.declared.flaws.Flaw.TheVariants.{Form, Number, Missing
 use Rattle.ffc_cert.specs.declared.entries.Entry.{Entry}
 use Rattle.ffc_cert.specs.declared.entries.Entry.TheVariants.{Sat, UnsatSteps}
 use Rattle.ffc_cert.specs.declared.entries.CertLine.{CertLine}
-use Rattle.ffc_cert.specs.declared.entries.CertLine.TheVariants.{Assume, Scheme, Hinted, Lemma, Combine, Chain, Step, Split, Values, Close}
+use Rattle.ffc_cert.specs.declared.entries.CertLine.TheVariants.{Assume, Scheme, Hinted, Lemma, Combine, Bits, Chain, Step, Split, Values, Close}
 use Rattle.ffc_cert.specs.declared.entries.CertFault.{CertFault}
 use Rattle.ffc_cert.specs.declared.entries.Numbered.{Numbered}
 use Rattle.ffc_cert.specs.declared.forms.Opening.{Opening}
@@ -29,6 +29,7 @@ awaited_after (Scheme node scheme index) a = record a { clauses = a.clauses - 1 
 awaited_after (Hinted lits hints) a = record a { clauses = a.clauses - 1 }
 awaited_after (Lemma order lits) a = record { clauses = a.clauses - 1; trees = 1; steps = 0 }
 awaited_after (Combine multiples) a = a
+awaited_after (Bits line chosen polynomial bits) a = a
 awaited_after (Chain line variable steps) a = record a { steps = steps }
 awaited_after (Step quotient remainder) a = record a { steps = a.steps - 1 }
 awaited_after (Split line variable zeros) a = record a { trees = a.trees - 1 + length zeros }
@@ -71,6 +72,7 @@ numbered entry p = record { number = p.complete + 1; first_line = p.first_line; 
 -- after the last line of an entry
 abbrev pub completed : Progress → Progress
 completed p = record {
+  bits = p.bits;
   version = p.version;
   place = Between;
   complete = p.complete + 1;
@@ -120,7 +122,8 @@ named version p = record p { version = version; place = Between; line = p.line +
 unfoldable pub header_line : Progress → List ℕ → Next
 header_line p line =
     if bytes_eq line (codes "ffcert 1") then Move (named 1 p) else
-    if bytes_eq line (codes "ffcert 2") then Move (named 2 p) else Halt (fault_at 1 p)
+    if bytes_eq line (codes "ffcert 2") then Move (named 2 p) else
+    if p.bits && bytes_eq line (codes "ffcert 3") then Move (named 3 p) else Halt (fault_at 1 p)
 
 unfoldable pub opening_line : Progress → List ℕ → Next
 opening_line p line = after (limited line p (opening_at line)) (begun (length line + 1) p)
@@ -206,12 +209,12 @@ abbrev pub read_text : ℕ → Progress → List ℕ → Reading
 read_text wanted p bytes = read_parts wanted p (slice_split is_line_end bytes)
 
 -- before line 1
-abbrev pub origin : Progress
-origin = record { version = 0; place = Header; complete = 0; line = 1; first_line = 1; bytes = 0; values = []; lines = [] }
+abbrev pub origin : Bool → Progress
+origin bits = record { bits = bits; version = 0; place = Header; complete = 0; line = 1; first_line = 1; bytes = 0; values = []; lines = [] }
 
 -- the reading of a text from which so many entries are wanted
-abbrev pub reading_of : ℕ → List ℕ → Reading
-reading_of wanted text = read_text wanted origin text
+abbrev pub reading_of : Bool → ℕ → List ℕ → Reading
+reading_of bits wanted text = read_text wanted (origin bits) text
 
 -- the fault, whatever follows the text
 abbrev pub stop_fault : End → Option CertFault

@@ -1,5 +1,5 @@
 -- The text of a certificate. It is lines, each ended by LF; the items of a line are separated by single spaces. The form is
--- this project's own; `a`, `n`, `r`, `f` are clauses, `c`, `p`, `u`, `s`, `v`, `z` the lines of a clause's tree.
+-- this project's own; `a`, `n`, `r`, `f` are clauses, `c`, `b`, `p`, `u`, `s`, `v`, `z` the lines of a clause's tree.
 use Rattle.std.specs.Prelude.{ℕ, Bool, true, false, if◌then◌else◌, count_by, List, [], ◌∷◌, ◌++◌, length, Option, None, Some, codes, decimal}
 use Rattle.std.specs.List.{flat_map}
 use Rattle.ffc_cert.specs.declared.entries.Entry.{Entry}
@@ -7,7 +7,7 @@ use Rattle.ffc_cert.specs.declared.entries.Entry.TheVariants.{Sat, UnsatCases, U
 use Rattle.ffc_cert.specs.declared.entries.Cause.{Cause}
 use Rattle.ffc_cert.specs.declared.entries.Cause.TheVariants.{Degree, Terms, Steps, Memory}
 use Rattle.ffc_cert.specs.declared.entries.CertLine.{CertLine}
-use Rattle.ffc_cert.specs.declared.entries.CertLine.TheVariants.{Assume, Scheme, Hinted, Lemma, Combine, Chain, Step, Split, Values, Close}
+use Rattle.ffc_cert.specs.declared.entries.CertLine.TheVariants.{Assume, Scheme, Hinted, Lemma, Combine, Bits, Chain, Step, Split, Values, Close}
 
 -- The items of a line after its first one, each after a space.
 
@@ -33,7 +33,7 @@ term t = number t.0 ++ counted power t.1
 abbrev pub multiple : ℕ × List (ℕ × List (ℕ × ℕ)) → List ℕ
 multiple m = number m.0 ++ counted term m.1
 
--- version 2 names the order of a lemma
+-- versions 2 and 3 name the order of a lemma
 abbrev pub order_item : Option ℕ → List ℕ
 order_item None = []
 order_item (Some p) = number p
@@ -45,6 +45,7 @@ line_items (Scheme node scheme index) = codes "n" ++ number node ++ number schem
 line_items (Hinted lits hints) = codes "r" ++ counted literal lits ++ counted number hints
 line_items (Lemma order lits) = codes "f" ++ order_item order ++ counted literal lits
 line_items (Combine multiples) = codes "c" ++ counted multiple multiples
+line_items (Bits line chosen polynomial bits) = codes "b" ++ number line ++ counted number chosen ++ counted term polynomial ++ counted number bits
 line_items (Chain line variable steps) = codes "p" ++ number line ++ number variable ++ number steps
 line_items (Step quotient remainder) = codes "u" ++ counted number quotient ++ counted number remainder
 line_items (Split line variable zeros) = codes "s" ++ number line ++ number variable ++ counted number zeros
@@ -72,6 +73,7 @@ is_clause (Scheme node scheme index) = true
 is_clause (Hinted lits hints) = true
 is_clause (Lemma order lits) = true
 is_clause (Combine multiples) = false
+is_clause (Bits line chosen polynomial bits) = false
 is_clause (Chain line variable steps) = false
 is_clause (Step quotient remainder) = false
 is_clause (Split line variable zeros) = false
@@ -81,7 +83,7 @@ is_clause Close = false
 abbrev pub clauses : List CertLine → ℕ
 clauses lines = count_by is_clause lines
 
--- the text of an entry, in either version
+-- the text of an entry, in each version
 unfoldable pub entry_text : Entry → List ℕ
 entry_text (Sat values) = codes "sat" ++ number (length values) ++ 10 ∷ [] ++ flat_map value_line values
 entry_text UnsatCases = codes "unsat e" ++ 10 ∷ []

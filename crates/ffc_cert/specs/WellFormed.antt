@@ -1,19 +1,20 @@
 -- When an entry is well formed.
-use Rattle.std.specs.Prelude.{◌≡◌, ℕ, ◌^◌, ◌<◌, ◌≤◌, List, length, Option, Some, None}
+use Rattle.std.specs.Prelude.{◌≡◌, ℕ, ◌^◌, ◌<◌, ◌≤◌, ◌⊎◌, List, length, Option, Some, None}
 use Rattle.std.specs.List.{AllByRecursion}
 use Rattle.ffc_cert.specs.declared.entries.Entry.{Entry}
 use Rattle.ffc_cert.specs.declared.entries.Entry.TheVariants.{Sat, UnsatCases, UnsatSteps, Unknown}
 use Rattle.ffc_cert.specs.declared.entries.CertLine.{CertLine}
-use Rattle.ffc_cert.specs.declared.entries.CertLine.TheVariants.{Lemma}
+use Rattle.ffc_cert.specs.declared.entries.CertLine.TheVariants.{Lemma, Bits}
 use Rattle.ffc_cert.specs.Limits.{max_bytes}
 use Rattle.ffc_cert.specs.Spelling.{clauses, entry_text}
 use Rattle.ffc_cert.specs.Ranges.{IsCounted, IsValue, IsCause, IsLine}
 use Rattle.ffc_cert.specs.Grammar.{AreClauses}
 
--- a lemma names its order in version 2, and no order in version 1
+-- a lemma names its order in versions 2 and 3, and no order in version 1; lines of bits are of version 3
 abbrev pub LineFitsVersion : ℕ → CertLine → Type 0
 LineFitsVersion version (Lemma None lits) = version ≡ 1
-LineFitsVersion version (Lemma (Some order) lits) = version ≡ 2
+LineFitsVersion version (Lemma (Some order) lits) = (version ≡ 2) ⊎ (version ≡ 3)
+LineFitsVersion version (Bits line chosen polynomial bits) = version ≡ 3
 LineFitsVersion version _ = Unit {0}
 
 abbrev pub FitsVersion : ℕ → Entry → Type 0

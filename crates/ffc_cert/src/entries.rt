@@ -46,13 +46,17 @@ pub enum CertLine {
     Scheme(u32, u32, u32),
     /// A clause that follows by unit propagation over hints, which are earlier clauses of the entry.
     Hinted(Sequence<Literal>, Sequence<u32>),
-    /// A clause over equalities of one order, which is named in version 2 alone. A tree follows.
+    /// A clause over equalities of one order, which version 1 does not name. A tree follows.
     Lemma {
         order: Option<u64>,
         lits: Sequence<Literal>,
     },
     /// A sum of multiples of earlier lines of the tree.
     Combine(Sequence<Multiple>),
+    /// A polynomial that is 0 wherever a sum of bits is, in version 3 alone: the line of the sum, the bits whose values are
+    /// gone through, by their variables in increasing order, the polynomial, and for each variable of the sum in increasing
+    /// order the line that says that it is a bit.
+    Bits(u32, Sequence<u32>, Sequence<Term>, Sequence<u32>),
     /// Fermat's identity modulo a line in one variable: the line, the variable, and how many `Step` lines follow.
     Chain(u32, u32, u32),
     /// A product modulo the line of the chain: the quotient and the remainder, their coefficients from the lowest.
@@ -98,8 +102,9 @@ pub struct Numbered {
 pub struct CertFault {
     pub entry: u64,
     pub line: u64,
-    /// 1 for a line 1 that names no version, 2 for a line that has no form that may come there, 3 for a number that is not
-    /// canonical or out of range, 4 for a text that ends before an entry does, and 5 for an entry that is too long.
+    /// 1 for a line 1 that names no version that is read, 2 for a line that has no form that may come there, 3 for a number
+    /// that is not canonical or out of range, 4 for a text that ends before an entry does, and 5 for an entry that is too
+    /// long.
     pub code: u8,
 }
 

@@ -3,15 +3,15 @@ ghost use Rattle.std.specs.Prelude.{◌≡◌, ◌<◌, ◌^◌, IfOk};
 ghost use Rattle.std.specs.Str.{bytes_eq};
 ghost use Rattle.ffc_cert.specs.Items.{Reads, Gives, ended};
 ghost use Rattle.ffc_cert.specs.Trees.{new_trees};
-ghost use Rattle.ffc_cert.specs.Lines.{assume_at, scheme_at, hinted_at, order_at, lemma_at, combine_at, chain_at};
-ghost use Rattle.ffc_cert.specs.Lines.{step_at, split_at, values_at, clause_form, tree_form, step_form, form_at};
+ghost use Rattle.ffc_cert.specs.Lines.{assume_at, scheme_at, hinted_at, order_at, lemma_at, combine_at, bits_at, bits_in};
+ghost use Rattle.ffc_cert.specs.Lines.{chain_at, step_at, split_at, values_at, clause_form, tree_form, step_form, form_at};
 ghost use Rattle.ffc_cert.specs.Lines.{line_at, value_at, sat_at, unsat_at, steps_at, unknown_at, opening_form};
 ghost use Rattle.ffc_cert.specs.Lines.{opening_at};
 
 use crate::entries::{Cause, CertLine, Entry};
 use crate::flaws::{Flaw, LineStop};
 use crate::items::{Items, narrow_in};
-use crate::readable::Readable;
+use crate::readable::{Readable, chosen};
 use crate::sequences::Sequence;
 use std::alloc::Global;
 
@@ -113,6 +113,31 @@ fn combine(alloc: Global, items: &mut Items<'_>) -> Result<CertLine, LineStop>
     Ok(CertLine::Combine(multiples))
 }
 
+#[tactic(auto, unfolding(crate::specs::Lines::bits_at))]
+fn bits(alloc: Global, items: &mut Items<'_>) -> Result<CertLine, LineStop>
+    ensures reads { Reads result items.new (bits_at items.old) }
+    ensures short { IfOk result (λ line. new_trees line < 2 ^ 32) }
+{
+    let line = items.narrow()?;
+    let chosen = chosen(alloc, items)?;
+    let polynomial = Sequence::read(alloc, items)?;
+    let bits = Sequence::read(alloc, items)?;
+    Ok(CertLine::Bits(line, chosen, polynomial, bits))
+}
+
+/// A line of bits. No version but 3 has one.
+#[tactic(auto, unfolding(crate::specs::Lines::bits_in))]
+fn bits_in(alloc: Global, version: u8, items: &mut Items<'_>) -> Result<CertLine, LineStop>
+    ensures reads { Reads result items.new (bits_in version items.old) }
+    ensures short { IfOk result (λ line. new_trees line < 2 ^ 32) }
+{
+    if version == 3 {
+        bits(alloc, items)
+    } else {
+        Err(LineStop::Flaw(Flaw::Form))
+    }
+}
+
 #[tactic(auto, unfolding(crate::specs::Lines::chain_at))]
 fn chain(items: &mut Items<'_>) -> Result<CertLine, LineStop>
     ensures reads { Reads result items.new (chain_at items.old) }
@@ -179,12 +204,19 @@ fn clause_form(
 }
 
 #[tactic(auto, unfolding(crate::specs::Lines::tree_form))]
-fn tree_form(alloc: Global, word: &[u8], items: &mut Items<'_>) -> Result<CertLine, LineStop>
-    ensures reads { Reads result items.new (tree_form word.now items.old) }
+fn tree_form(
+    alloc: Global,
+    version: u8,
+    word: &[u8],
+    items: &mut Items<'_>,
+) -> Result<CertLine, LineStop>
+    ensures reads { Reads result items.new (tree_form version word.now items.old) }
     ensures short { IfOk result (λ line. new_trees line < 2 ^ 32) }
 {
     if is_word(word, "c") {
         combine(alloc, items)
+    } else if is_word(word, "b") {
+        bits_in(alloc, version, items)
     } else if is_word(word, "p") {
         chain(items)
     } else if is_word(word, "s") {
@@ -224,7 +256,7 @@ fn form(
     if awaited.steps > 0 {
         step_form(alloc, word, items)
     } else if awaited.trees > 0 {
-        tree_form(alloc, word, items)
+        tree_form(alloc, version, word, items)
     } else {
         clause_form(alloc, version, word, items)
     }

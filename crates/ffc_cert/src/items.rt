@@ -5,7 +5,7 @@ ghost use Rattle.std.specs.Char.{is_ascii_digit};
 ghost use Rattle.std.specs.List.{position_or_len, list_all};
 ghost use Rattle.std.specs.Str.Parse.{digits_value};
 ghost use Rattle.ffc_cert.specs.Items.{Reads, Stops, is_digits, is_canonical, first_item, behind_item, item_at};
-ghost use Rattle.ffc_cert.specs.Items.{number_in, sign_of, literal_in, number_at, literal_at, power_at};
+ghost use Rattle.ffc_cert.specs.Items.{number_in, sign_of, literal_in, number_at, literal_at, variable_at, power_at};
 ghost use Rattle.ffc_cert.specs.Cuts.{IsCut, BeginsWith};
 
 use crate::entries::{Literal, Power};
@@ -303,15 +303,24 @@ impl<'a> Items<'a> {
         Ok(literal_in(item)?)
     }
 
-    /// A variable that is not below this number, and its exponent.
-    #[tactic(auto, unfolding(crate::specs::Items::power_at, crate::specs::Items::variable_at, crate::specs::Items::exponent_at))]
-    pub fn power(&mut self, least: u64) -> Result<Power, LineStop>
-        ensures { Reads result self.new (power_at least self.old) }
+    /// A variable that is not below this number.
+    #[tactic(auto, unfolding(crate::specs::Items::variable_at))]
+    pub fn variable(&mut self, least: u64) -> Result<u32, LineStop>
+        ensures { Reads result self.new (variable_at least self.old) }
     {
         let variable = self.narrow()?;
         if u64::from(variable) < least {
             return Err(LineStop::Flaw(Flaw::Form));
         }
+        Ok(variable)
+    }
+
+    /// A variable that is not below this number, and its exponent.
+    #[tactic(auto, unfolding(crate::specs::Items::power_at, crate::specs::Items::exponent_at))]
+    pub fn power(&mut self, least: u64) -> Result<Power, LineStop>
+        ensures { Reads result self.new (power_at least self.old) }
+    {
+        let variable = self.variable(least)?;
         let exponent = self.narrow()?;
         if exponent == 0 {
             return Err(LineStop::Flaw(Flaw::Form));

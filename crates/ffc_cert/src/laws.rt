@@ -2,7 +2,7 @@
 ghost use Rattle.ffc_cert.specs.Laws.{IsWritten, ReadsBack, ReadsBackFirst, ReadsItsText, ReadsNoOther, AcceptsTexts};
 ghost use Rattle.ffc_cert.specs.FirstFault.{FaultsAreFirst, LinesDecide};
 ghost use Rattle.ffc_cert.specs.LineItems.{LinesAreItems, ValuesAreItems, FirstLinesAreItems};
-ghost use Rattle.ffc_cert.specs.Laws.{LinesAreInside, BeginsNoOther, GoesOn};
+ghost use Rattle.ffc_cert.specs.Laws.{LinesAreInside, BeginsNoOther, GoesOn, ReadsOldVersions};
 
 /// An entry that is well formed may be written, as the writer and its measure of length require.
 pub fn is_written()
@@ -31,6 +31,11 @@ pub fn reads_its_text()
 /// The texts without a fault are those of as many entries as are wanted, each well formed and not too long.
 pub fn accepts_texts()
     ensures { AcceptsTexts }
+{}
+
+/// Where a text does not begin with line 1 of version 3, it is read the same whether version 3 is read or not.
+pub fn reads_old_versions()
+    ensures { ReadsOldVersions }
 {}
 
 /// Each entry begins at a line of the text.

@@ -36,6 +36,8 @@ pub enum Place {
 /// The state after the lines so far.
 #[derive(Debug, Drop)]
 pub struct Progress {
+    /// Whether version 3 is read.
+    pub bits: bool,
     /// What line 1 named, and 0 before.
     pub version: u8,
     pub place: Place,
@@ -70,7 +72,7 @@ impl Awaited {
                 trees: 1,
                 steps: 0,
             },
-            CertLine::Combine(_) => self,
+            CertLine::Combine(_) | CertLine::Bits(_, _, _, _) => self,
             CertLine::Chain(_, _, steps) => Awaited {
                 steps: u64::from(*steps),
                 ..self
@@ -116,11 +118,12 @@ fn code_of(cut: bool, flaw: Flaw) -> u8
 
 impl Progress {
     /// Before line 1.
-    pub fn new(alloc: Global) -> Progress
-        ensures start { result ≡ origin }
+    pub fn new(alloc: Global, bits: bool) -> Progress
+        ensures start { result ≡ origin bits }
         ensures room { HasRoom result }
     {
         Progress {
+            bits,
             version: 0,
             place: Place::Header,
             complete: 0,
@@ -217,6 +220,8 @@ impl Progress {
             1
         } else if line == b"ffcert 2".as_slice() {
             2
+        } else if self.bits && line == b"ffcert 3".as_slice() {
+            3
         } else {
             return Err(CertStop::Fault(self.fault(1)));
         };

@@ -2,7 +2,7 @@
 ghost use Rattle.std.specs.Prelude.{◌≡◌, ◌<◌, ◌^◌, ℕ, List, [], Result, IfOk, length};
 ghost use Rattle.ffc_cert.specs.declared.flaws.Flaw.{Flaw};
 ghost use Rattle.ffc_cert.specs.Items.{Reads, narrow_at, wide_at, literal_at, many_at, counted_at, powers_at, term_at};
-ghost use Rattle.ffc_cert.specs.Items.{multiple_at};
+ghost use Rattle.ffc_cert.specs.Items.{variables_at, chosen_at, multiple_at};
 
 use crate::entries::{Literal, Multiple, Power, Term};
 use crate::flaws::LineStop;
@@ -94,6 +94,29 @@ fn powers(alloc: Global, count: u32, items: &mut Items<'_>) -> Result<Sequence<P
         least = u64::from(power.0) + 1;
     }
     Ok(Sequence::from_vec(read))
+}
+
+/// So many variables that increase strictly.
+fn variables(alloc: Global, count: u32, items: &mut Items<'_>) -> Result<Sequence<u32>, LineStop>
+    ensures { Reads result items.new (variables_at 0 count items.old) }
+{
+    let mut read = with_room(alloc, count, items)?;
+    let mut least = 0u64;
+    for _ in 0..count {
+        let variable = items.variable(least)?;
+        read.push(variable)?;
+        least = u64::from(variable) + 1;
+    }
+    Ok(Sequence::from_vec(read))
+}
+
+/// How many variables there are, and then each, from the lowest.
+#[tactic(auto, unfolding(crate::specs::Items::chosen_at))]
+pub fn chosen(alloc: Global, items: &mut Items<'_>) -> Result<Sequence<u32>, LineStop>
+    ensures { Reads result items.new (chosen_at items.old) }
+{
+    let count = items.narrow()?;
+    variables(alloc, count, items)
 }
 
 impl Readable for Term {

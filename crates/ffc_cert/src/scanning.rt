@@ -37,13 +37,13 @@ pub struct Scanner {
 
 impl Scanner {
     /// At the start of a text.
-    pub fn new(alloc: Global) -> Scanner
-        ensures ready { (wanted : ℕ) → IsReady wanted [] result }
+    pub fn new(alloc: Global, bits: bool) -> Scanner
+        ensures ready { (wanted : ℕ) → IsReady bits wanted [] result }
         ensures start { result.progress.complete ≡ 0 }
         ensures gone { result.gone ≡ 0 }
     {
         Scanner {
-            progress: Progress::new(alloc),
+            progress: Progress::new(alloc, bits),
             gone: 0,
             start: 0,
             scanned: 0,
@@ -66,21 +66,22 @@ impl Scanner {
         self.scanned + place_of(b'\n', after) as u64
     }
 
-    /// Takes a line that is whole, and its LF.
+    /// Takes a line that is whole, and its LF. Only clauses name the flag.
     fn take_whole(
         &mut self,
         alloc: Global,
+        _bits: bool,
         wanted: u64,
         _fed: &GhostText,
         window: &[u8],
         end: u64,
     ) -> Result<Found, CertStop>
-        requires ready { IsReady wanted _fed.now.bytes self.old }
+        requires ready { IsReady _bits wanted _fed.now.bytes self.old }
         requires size { length _fed.now.bytes < 2 ^ 63 }
         requires window { IsWindow self.old.gone _fed.now.bytes window.now }
         requires end { end ≡ self.old.start + position_or_len is_line_end (drop self.old.start _fed.now.bytes) }
         requires whole { end < length _fed.now.bytes }
-        ensures after { AfterStep result wanted self.old.progress.complete _fed.now.bytes self.new }
+        ensures after { AfterStep result _bits wanted self.old.progress.complete _fed.now.bytes self.new }
         ensures further { OnOk result (self.old.start < self.new.start) }
         ensures gone { self.new.gone ≡ self.old.gone }
     {
@@ -94,20 +95,21 @@ impl Scanner {
         }
     }
 
-    /// Judges what has come of a line that is not whole.
+    /// Judges what has come of a line that is not whole. Only clauses name the flag.
     fn judge_rest(
         &mut self,
         alloc: Global,
+        _bits: bool,
         wanted: u64,
         _fed: &GhostText,
         window: &[u8],
     ) -> Result<Found, CertStop>
-        requires ready { IsReady wanted _fed.now.bytes self.old }
+        requires ready { IsReady _bits wanted _fed.now.bytes self.old }
         requires size { length _fed.now.bytes < 2 ^ 63 }
         requires window { IsWindow self.old.gone _fed.now.bytes window.now }
         requires unended { length _fed.now.bytes ≤ self.old.start + position_or_len is_line_end
             (drop self.old.start _fed.now.bytes) }
-        ensures after { AfterStep result wanted self.old.progress.complete _fed.now.bytes self.new }
+        ensures after { AfterStep result _bits wanted self.old.progress.complete _fed.now.bytes self.new }
         ensures nothing { IfOk result (λ found. found ≡ Found.Nothing) }
         ensures gone { self.new.gone ≡ self.old.gone }
     {
@@ -129,22 +131,23 @@ impl Scanner {
     pub fn step(
         &mut self,
         alloc: Global,
+        bits: bool,
         wanted: u64,
         fed: &GhostText,
         window: &[u8],
     ) -> Result<Found, CertStop>
-        requires ready { IsReady wanted fed.now.bytes self.old }
+        requires ready { IsReady bits wanted fed.now.bytes self.old }
         requires size { length fed.now.bytes < 2 ^ 63 }
         requires window { IsWindow self.old.gone fed.now.bytes window.now }
-        ensures after { AfterStep result wanted self.old.progress.complete fed.now.bytes self.new }
+        ensures after { AfterStep result bits wanted self.old.progress.complete fed.now.bytes self.new }
         ensures further { IfOk result (λ found. GoesFurther found self.old self.new) }
         ensures gone { self.new.gone ≡ self.old.gone }
     {
         let end = self.line_end(fed, window);
         if end < self.gone + window.len() as u64 {
-            self.take_whole(alloc, wanted, fed, window, end)
+            self.take_whole(alloc, bits, wanted, fed, window, end)
         } else {
-            self.judge_rest(alloc, wanted, fed, window)
+            self.judge_rest(alloc, bits, wanted, fed, window)
         }
     }
 
@@ -152,18 +155,19 @@ impl Scanner {
     pub fn scan(
         &mut self,
         alloc: Global,
+        bits: bool,
         wanted: u64,
         fed: &GhostText,
         window: &[u8],
     ) -> Result<Option<Numbered>, CertStop>
-        requires ready { IsReady wanted fed.now.bytes self.old }
+        requires ready { IsReady bits wanted fed.now.bytes self.old }
         requires size { length fed.now.bytes < 2 ^ 63 }
         requires window { IsWindow self.old.gone fed.now.bytes window.now }
-        ensures after { AfterScan result wanted self.old.progress.complete fed.now.bytes self.new }
+        ensures after { AfterScan result bits wanted self.old.progress.complete fed.now.bytes self.new }
         ensures gone { self.new.gone ≡ self.old.gone }
     {
         'lines: loop {
-            match self.step(alloc, wanted, fed, window)? {
+            match self.step(alloc, bits, wanted, fed, window)? {
                 Found::Line => {}
                 Found::Whole(entry) => return Ok(Some(entry)),
                 Found::Nothing => return Ok(None),
@@ -175,21 +179,22 @@ impl Scanner {
     pub fn end(
         &mut self,
         alloc: Global,
+        bits: bool,
         wanted: u64,
         fed: &GhostText,
         window: &[u8],
     ) -> Result<Option<CertFault>, CertStop>
-        requires ready { IsReady wanted fed.now.bytes self.old }
+        requires ready { IsReady bits wanted fed.now.bytes self.old }
         requires size { length fed.now.bytes < 2 ^ 63 }
         requires window { IsWindow self.old.gone fed.now.bytes window.now }
-        requires given { next_entry_of wanted fed.now.bytes self.old.progress.complete ≡ None }
-        requires faultless { stop_fault (reading_of wanted fed.now.bytes).end ≡ None }
-        ensures after { AfterEnd result wanted fed.now.bytes }
-        ensures ready { IsReady wanted fed.now.bytes self.new }
+        requires given { next_entry_of bits wanted fed.now.bytes self.old.progress.complete ≡ None }
+        requires faultless { stop_fault (reading_of bits wanted fed.now.bytes).end ≡ None }
+        ensures after { AfterEnd result bits wanted fed.now.bytes }
+        ensures ready { IsReady bits wanted fed.now.bytes self.new }
         ensures complete { self.new.progress.complete ≡ self.old.progress.complete }
         ensures gone { self.new.gone ≡ self.old.gone }
     {
-        match self.scan(alloc, wanted, fed, window) {
+        match self.scan(alloc, bits, wanted, fed, window) {
             Ok(None) => {}
             Ok(Some(_)) => unreachable!(),
             Err(CertStop::Fault(_)) => unreachable!(),

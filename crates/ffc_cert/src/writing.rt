@@ -52,6 +52,13 @@ fn write_items(line: &CertLine, out: &mut Vec<u8>) -> Result<(), AllocError>
             out.push(b'c')?;
             multiples.write(out)
         }
+        CertLine::Bits(line, chosen, polynomial, bits) => {
+            out.push(b'b')?;
+            line.write(out)?;
+            chosen.write(out)?;
+            polynomial.write(out)?;
+            bits.write(out)
+        }
         CertLine::Chain(line, variable, steps) => {
             out.push(b'p')?;
             line.write(out)?;
@@ -188,7 +195,7 @@ fn append_entry(entry: &Entry, out: &mut Vec<u8>) -> Result<(), AllocError>
     }
 }
 
-/// Appends the one text of an entry. It is the same in both versions, since a lemma says whether it names an order. Where
+/// Appends the one text of an entry. It is the same in each version, since a lemma says whether it names an order. Where
 /// memory runs out, nothing is appended.
 pub fn write_entry(
     _alloc: Global,
@@ -196,7 +203,7 @@ pub fn write_entry(
     entry: &Entry,
     out: &mut Vec<u8>,
 ) -> Result<(), AllocError>
-    requires version { (version ≡ 1) ⊎ (version ≡ 2) }
+    requires version { (version ≡ 1) ⊎ ((version ≡ 2) ⊎ (version ≡ 3)) }
     requires fits { FitsVersion version entry.now }
     ensures ok { OnOk result (out.new.items ≡ out.old.items ++ entry_text entry.now) }
     ensures err { OnErr result (out.new.items ≡ out.old.items) }
@@ -234,6 +241,11 @@ fn line_len(line: &CertLine) -> u64
         CertLine::Hinted(lits, hints) => lits.text_len().saturating_add(hints.text_len()),
         CertLine::Lemma { order, lits } => order_len(*order).saturating_add(lits.text_len()),
         CertLine::Combine(multiples) => multiples.text_len(),
+        CertLine::Bits(line, chosen, polynomial, bits) => {
+            let lists = polynomial.text_len().saturating_add(bits.text_len());
+            let after = chosen.text_len().saturating_add(lists);
+            line.text_len().saturating_add(after)
+        }
         CertLine::Chain(line, variable, steps) => {
             let counts = variable.text_len().saturating_add(steps.text_len());
             line.text_len().saturating_add(counts)
@@ -303,7 +315,7 @@ fn cause_len(cause: Cause) -> u64
 /// The length of an entry's text, or the greatest number where that is less. It takes no memory.
 #[tactic(auto, unfolding(crate::specs::Spelling::entry_text))]
 pub fn text_len(version: u8, entry: &Entry) -> u64
-    requires version { (version ≡ 1) ⊎ (version ≡ 2) }
+    requires version { (version ≡ 1) ⊎ ((version ≡ 2) ⊎ (version ≡ 3)) }
     requires fits { FitsVersion version entry.now }
     ensures { result ≡ min (length (entry_text entry.now)) (2 ^ 64 - 1) }
 {

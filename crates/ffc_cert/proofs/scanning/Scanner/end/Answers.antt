@@ -6,19 +6,19 @@ use Rattle.ffc_cert.proofs.scanning.Scanner.end.Goals as goal
 
 pub unreachable-requires : goal.unreachable-requires
 unreachable-requires c =
-    let after : AfterScan (Ok c.in-Ok-Some.field-0) c.args.wanted c.args.self.now.progress.complete c.args.fed.now.bytes c.scan.new.self = c.in-Ok-Some.ensures.after in
+    let after : AfterScan (Ok c.in-Ok-Some.field-0) c.args.bits c.args.wanted c.args.self.now.progress.complete c.args.fed.now.bytes c.scan.new.self = c.in-Ok-Some.ensures.after in
     let found = rw c.in-Ok-Some.field-0-is at after in
-    no_entry c.args.wanted c.args.self.now.progress.complete c.args.fed.now.bytes c.in-Ok-Some.field-0-0 found.0 c.requires.given
+    no_entry c.args.bits c.args.wanted c.args.self.now.progress.complete c.args.fed.now.bytes c.in-Ok-Some.field-0-0 found.0 c.requires.given
 
 pub unreachable-requires-in-Err-Fault : goal.unreachable-requires-in-Err-Fault
 unreachable-requires-in-Err-Fault c =
-    let after : AfterStop c.in-Err-Fault.field-0 c.args.wanted c.args.self.now.progress.complete c.args.fed.now.bytes c.scan.new.self = c.in-Err-Fault.ensures.after in
+    let after : AfterStop c.in-Err-Fault.field-0 c.args.bits c.args.wanted c.args.self.now.progress.complete c.args.fed.now.bytes c.scan.new.self = c.in-Err-Fault.ensures.after in
     let found = rw c.in-Err-Fault.field-0-is at after in
-    no_fault c.args.wanted c.args.self.now.progress.complete c.args.fed.now.bytes c.in-Err-Fault.field-0-0 found c.requires.faultless
+    no_fault c.args.bits c.args.wanted c.args.self.now.progress.complete c.args.fed.now.bytes c.in-Err-Fault.field-0-0 found c.requires.faultless
 
 pub fault_at_end-requires : goal.fault_at_end-requires
 fault_at_end-requires c =
-    let after : AfterScan (Ok c.in-Ok-None.field-0) c.args.wanted c.args.self.now.progress.complete c.args.fed.now.bytes c.scan.new.self = c.in-Ok-None.ensures.after in
+    let after : AfterScan (Ok c.in-Ok-None.field-0) c.args.bits c.args.wanted c.args.self.now.progress.complete c.args.fed.now.bytes c.scan.new.self = c.in-Ok-None.ensures.after in
     let found = rw c.in-Ok-None.field-0-is at after in
     record {
       bounded = found.0.bounded;
@@ -28,6 +28,6 @@ fault_at_end-requires c =
 
 pub returns-clause-after : goal.returns-clause-after
 returns-clause-after c =
-    let after : AfterScan (Ok c.in-Ok-None.field-0) c.args.wanted c.args.self.now.progress.complete c.args.fed.now.bytes c.scan.new.self = c.in-Ok-None.ensures.after in
+    let after : AfterScan (Ok c.in-Ok-None.field-0) c.args.bits c.args.wanted c.args.self.now.progress.complete c.args.fed.now.bytes c.scan.new.self = c.in-Ok-None.ensures.after in
     let found = rw c.in-Ok-None.field-0-is at after in
-    c.fault_at_end.ensures ∙ ap open_fault (sym (done_end c.args.wanted c.args.self.now.progress.complete c.args.fed.now.bytes c.scan.new.self found.0 found.1.0 found.1.1).1)
+    c.fault_at_end.ensures ∙ ap open_fault (sym (done_end c.args.bits c.args.wanted c.args.self.now.progress.complete c.args.fed.now.bytes c.scan.new.self found.0 found.1.0 found.1.1).1)

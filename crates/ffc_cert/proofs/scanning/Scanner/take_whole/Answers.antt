@@ -9,7 +9,7 @@ returns-in_err-taken-clause-after c =
     let line = window_line s.gone s.start c.args.end c.args._fed.now.bytes c.args.window.now c.requires.window c.requires.ready.kept (omega (arith, c.requires.end)) in
     let taken = rw line at c.in_err-taken.ensures.taken in
     let p = err_from_is_err_and c.from_residual.result c.from_residual.ensures.1 in
-    rw (p.1, p.2) (stops c.args.wanted c.args._fed.now.bytes s c.args.end c.requires.ready c.requires.whole c.requires.end c.in_err-taken.field-0.0 c.take_line.new.self taken)
+    rw (p.1, p.2) (stops c.args._bits c.args.wanted c.args._fed.now.bytes s c.args.end c.requires.ready c.requires.whole c.requires.end c.in_err-taken.field-0.0 c.take_line.new.self taken)
 
 pub returns-in-Some-clause-after : goal.returns-in-Some-clause-after
 returns-in-Some-clause-after c =
@@ -17,9 +17,9 @@ returns-in-Some-clause-after c =
     let line = window_line s.gone s.start c.args.end c.args._fed.now.bytes c.args.window.now c.requires.window c.requires.ready.kept (omega (arith, c.requires.end)) in
     let next = rw (c.in-Some.is, line) at c.in_ok-taken.ensures.taken in
     let count = rw c.in-Some.is at c.in_ok-taken.ensures.counts in (
-      gives_entry c.args.wanted c.args._fed.now.bytes s c.args.end c.requires.ready c.requires.whole c.requires.end c.in-Some.entry c.take_line.new.self next,
+      gives_entry c.args._bits c.args.wanted c.args._fed.now.bytes s c.args.end c.requires.ready c.requires.whole c.requires.end c.in-Some.entry c.take_line.new.self next,
       (
-        gives c.args.wanted c.args._fed.now.bytes s c.args.end c.requires.ready c.requires.whole c.requires.end c.in-Some.entry c.take_line.new.self next c.take_line.ensures.follows count,
+        gives c.args._bits c.args.wanted c.args._fed.now.bytes s c.args.end c.requires.ready c.requires.whole c.requires.end c.in-Some.entry c.take_line.new.self next c.take_line.ensures.follows count,
         count,
       ),
     )
@@ -30,6 +30,6 @@ returns-in-None-clause-after c =
     let line = window_line s.gone s.start c.args.end c.args._fed.now.bytes c.args.window.now c.requires.window c.requires.ready.kept (omega (arith, c.requires.end)) in
     let next = rw (c.in-None.is, line) at c.in_ok-taken.ensures.taken in
     let count = rw c.in-None.is at c.in_ok-taken.ensures.counts in (
-      goes c.args.wanted c.args._fed.now.bytes s c.args.end c.requires.ready c.requires.whole c.requires.end c.take_line.new.self next c.take_line.ensures.follows count,
+      goes c.args._bits c.args.wanted c.args._fed.now.bytes s c.args.end c.requires.ready c.requires.whole c.requires.end c.take_line.new.self next c.take_line.ensures.follows count,
       count,
     )
