@@ -4,7 +4,7 @@ use Rattle.std.specs.List.{list_all}
 use Rattle.std.proofs.lemmas.Bool.{false≢true}
 use Rattle.std.proofs.lemmas.Option.{none-some, same_Some}
 use Rattle.ffc_cert.specs.declared.entries.CertLine.{CertLine}
-use Rattle.ffc_cert.specs.declared.entries.CertLine.TheVariants.{Assume, Scheme, Hinted, Lemma, Combine, Chain, Step, Split, Values, Close}
+use Rattle.ffc_cert.specs.declared.entries.CertLine.TheVariants.{Assume, Scheme, Hinted, Lemma, Combine, Bits, Chain, Step, Split, Values, Close}
 use Rattle.ffc_cert.specs.declared.entries.Entry.{Entry}
 use Rattle.ffc_cert.specs.declared.entries.Entry.TheVariants.{Sat, UnsatCases, UnsatSteps, Unknown}
 use Rattle.ffc_cert.specs.Laws.{line_count}
@@ -81,6 +81,7 @@ given_near l c clauses line (Lemma order lits) rest broken e =
     by_tree (Ok after) near is = absurd (ok≢err _ _ is)
     by_tree (Err b) near is = let k = near b refl in let same = ap (λ d. d.line) (same_Err _ broken is) in (omega arith, omega arith)
 given_near l c clauses line (Combine multiples) rest broken e = here line 12 rest broken e
+given_near l c clauses line (Bits known chosen polynomial bits) rest broken e = here line 12 rest broken e
 given_near l c clauses line (Chain known variable steps) rest broken e = here line 12 rest broken e
 given_near l c clauses line (Step quotient remainder) rest broken e = here line 12 rest broken e
 given_near l c clauses line (Split known variable zeros) rest broken e = here line 12 rest broken e

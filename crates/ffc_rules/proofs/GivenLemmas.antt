@@ -7,7 +7,7 @@ use Rattle.std.proofs.lemmas.List.{get_or_past}
 use Rattle.std.proofs.lemmas.List.Sums.{AllPass-from_list_all}
 use Rattle.std.proofs.lemmas.Option.{slice_get-get_or}
 use Rattle.ffc_cert.specs.declared.entries.CertLine.{CertLine}
-use Rattle.ffc_cert.specs.declared.entries.CertLine.TheVariants.{Assume, Scheme, Hinted, Lemma, Combine, Chain, Step, Split, Values, Close}
+use Rattle.ffc_cert.specs.declared.entries.CertLine.TheVariants.{Assume, Scheme, Hinted, Lemma, Combine, Bits, Chain, Step, Split, Values, Close}
 use Rattle.ffc_term.specs.declared.node.Node.{Node}
 use Rattle.ffc_term.specs.declared.node.Node.TheVariants.{True, Eq}
 use Rattle.ffc_term.specs.declared.node.Sort.TheVariants as sort
@@ -103,6 +103,7 @@ module _ (c : NodeCheck) (assignment : List Value) (table : IsTable c.nodes) whe
       ap (λ g. clause_holds t g.clause) (sym (same_Ok _ _ second.1)) ∙ follows_true t clauses lits hints hinted second.0
   given_true sound l clauses line (Lemma order lits) rest given hinted taken e = lemma_true sound l (order_or c.first_order order) lits line rest given e
   given_true sound l clauses line (Combine multiples) rest given hinted taken e = absurd (err≢ok _ _ e)
+  given_true sound l clauses line (Bits known chosen polynomial bits) rest given hinted taken e = absurd (err≢ok _ _ e)
   given_true sound l clauses line (Chain known variable steps) rest given hinted taken e = absurd (err≢ok _ _ e)
   given_true sound l clauses line (Step quotient remainder) rest given hinted taken e = absurd (err≢ok _ _ e)
   given_true sound l clauses line (Split known variable zeros) rest given hinted taken e = absurd (err≢ok _ _ e)

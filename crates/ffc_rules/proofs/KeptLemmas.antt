@@ -6,7 +6,7 @@ use Rattle.std.proofs.lemmas.List.Elements.{recursion_from_All}
 use Rattle.std.proofs.lemmas.List.{length-map, drop_at}
 use Rattle.std.proofs.lemmas.Option.{none-some}
 use Rattle.ffc_cert.specs.declared.entries.CertLine.{CertLine}
-use Rattle.ffc_cert.specs.declared.entries.CertLine.TheVariants.{Assume, Scheme, Hinted, Lemma, Combine, Chain, Step, Split, Values, Close}
+use Rattle.ffc_cert.specs.declared.entries.CertLine.TheVariants.{Assume, Scheme, Hinted, Lemma, Combine, Bits, Chain, Step, Split, Values, Close}
 use Rattle.ffc_cert.specs.declared.entries.Entry.TheVariants.{Sat, UnsatCases, UnsatSteps}
 use Rattle.ffc_term.specs.declared.node.Node.{Node}
 use Rattle.ffc_term.specs.declared.value.Value.{Value}
@@ -109,6 +109,7 @@ given_anywhere l c clauses line other (Lemma order lits) rest given e =
     by_tree (Ok after) is = is
     by_tree (Err broken) is = absurd (err≢ok _ _ is)
 given_anywhere l c clauses line other (Combine multiples) rest given e = absurd (err≢ok _ _ e)
+given_anywhere l c clauses line other (Bits known chosen polynomial bits) rest given e = absurd (err≢ok _ _ e)
 given_anywhere l c clauses line other (Chain known variable steps) rest given e = absurd (err≢ok _ _ e)
 given_anywhere l c clauses line other (Step quotient remainder) rest given e = absurd (err≢ok _ _ e)
 given_anywhere l c clauses line other (Split known variable zeros) rest given e = absurd (err≢ok _ _ e)

@@ -6,7 +6,7 @@ use Rattle.std.proofs.lemmas.List.Elements.{All-contains, Contains-append_left, 
 use Rattle.std.proofs.lemmas.List.Sums.{AllPass-from_list_all}
 use Rattle.std.proofs.lemmas.Option.{none-some, same_Some}
 use Rattle.ffc_cert.specs.declared.entries.CertLine.{CertLine}
-use Rattle.ffc_cert.specs.declared.entries.CertLine.TheVariants.{Assume, Scheme, Hinted, Lemma, Combine, Chain, Step, Split, Values, Close}
+use Rattle.ffc_cert.specs.declared.entries.CertLine.TheVariants.{Assume, Scheme, Hinted, Lemma, Combine, Bits, Chain, Step, Split, Values, Close}
 use Rattle.ffc_cert.specs.declared.entries.Entry.TheVariants.{UnsatSteps}
 use Rattle.ffc_clause.specs.Clauses.{Clause}
 use Rattle.ffc_term.proofs.ListLemmas.{nothing_in}
@@ -112,6 +112,7 @@ earlier_hints l c clauses line (Assume k) rest given e h has = absurd (nothing_i
 earlier_hints l c clauses line (Scheme n s i) rest given e h has = absurd (nothing_in h has)
 earlier_hints l c clauses line (Lemma order lits) rest given e h has = absurd (nothing_in h has)
 earlier_hints l c clauses line (Combine multiples) rest given e h has = absurd (nothing_in h has)
+earlier_hints l c clauses line (Bits known chosen polynomial bits) rest given e h has = absurd (nothing_in h has)
 earlier_hints l c clauses line (Chain known variable steps) rest given e h has = absurd (nothing_in h has)
 earlier_hints l c clauses line (Step quotient remainder) rest given e h has = absurd (nothing_in h has)
 earlier_hints l c clauses line (Split known variable zeros) rest given e h has = absurd (nothing_in h has)

@@ -1,5 +1,5 @@
 -- A certificate that is read to its end has as many entries as were wanted.
-use Rattle.std.proofs.Common.{◌≡◌, ℕ, ◌+◌, ◌==◌, nat_lt, Bool, true, false, cond, List, [], ◌∷◌, length, take, Result, Ok, Err, refl, sym, subst, arith, codes}
+use Rattle.std.proofs.Common.{◌≡◌, ℕ, ◌+◌, ◌==◌, ◌&&◌, nat_lt, Bool, true, false, cond, List, [], ◌∷◌, length, take, Result, Ok, Err, refl, sym, subst, arith, codes}
 use Rattle.std.proofs.lemmas.Bool.{false≢true, eqb-true}
 use Rattle.std.specs.Str.{bytes_eq}
 use Rattle.std.specs.List.{slice_split}
@@ -46,7 +46,7 @@ line_counts a size p x = either p (is_whole (awaited_after x a)) _ _ refl refl
 
 next_counts : (place : Place) (wanted : ℕ) (p : Progress) (line : List ℕ) → Counts p (next_in place wanted p line)
 unfolding Counts next_in header_line opening_line assignment_line refutation_line
-next_counts Header wanted p line = either p (bytes_eq line (codes "ffcert 1")) _ _ refl (either p (bytes_eq line (codes "ffcert 2")) _ _ refl tt)
+next_counts Header wanted p line = either p (bytes_eq line (codes "ffcert 1")) _ _ refl (either p (bytes_eq line (codes "ffcert 2")) _ _ refl (either p (p.bits && bytes_eq line (codes "ffcert 3")) _ _ refl tt))
 next_counts Between wanted p line = either p (p.complete == wanted) _ _ tt (after_counts p (limited line p (opening_at line)) _ (begun_counts (length line + 1) p))
 next_counts (Assignment left) wanted p line = after_counts p (limited line p (value_at line)) _ (value_counts left (length line + 1) p)
 next_counts (Refutation awaited) wanted p line = after_counts p (limited line p (line_at p.version awaited line)) _ (line_counts awaited (length line + 1) p)
@@ -95,13 +95,13 @@ read_counts wanted p part (next ∷ parts) is = by_next (next_at wanted p part) 
     by_next (Give entry q) counts is later = let e = later q is in omega (arith, counts, e)
 
 -- a text that is read to its end has as many entries as were wanted
-pub all_read : (wanted : ℕ) (text : List ℕ) → (reading_of wanted text).end ≡ Complete → length (reading_of wanted text).entries ≡ wanted
+pub all_read : (bits : Bool) (wanted : ℕ) (text : List ℕ) → (reading_of bits wanted text).end ≡ Complete → length (reading_of bits wanted text).entries ≡ wanted
 unfolding IsComplete
-all_read wanted text e = by_parts (slice_split is_line_end text) (subst IsComplete (sym e) is)
+all_read bits wanted text e = by_parts (slice_split is_line_end text) (subst IsComplete (sym e) is)
   where
     is : IsComplete Complete
     is = tt
 
-    by_parts : (parts : List (List ℕ)) → IsComplete (read_parts wanted origin parts).end → length (read_parts wanted origin parts).entries ≡ wanted
-    by_parts [] ends = let k = end_counts wanted origin [] ends in omega arith
-    by_parts (part ∷ parts) ends = let k = read_counts wanted origin part parts ends in omega arith
+    by_parts : (parts : List (List ℕ)) → IsComplete (read_parts wanted (origin bits) parts).end → length (read_parts wanted (origin bits) parts).entries ≡ wanted
+    by_parts [] ends = let k = end_counts wanted (origin bits) [] ends in omega arith
+    by_parts (part ∷ parts) ends = let k = read_counts wanted (origin bits) part parts ends in omega arith

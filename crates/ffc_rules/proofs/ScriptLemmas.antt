@@ -101,14 +101,14 @@ accepted_parts l checks r n e = by_broken (first_broken l checks r.entries) refl
     by_broken (Some refused) at is = absurd (true≢false (sym (ap is_accepted is) ∙ broken_refuses l checks r.entries refused at))
     by_broken None at is = (at, by_end r.end refl is)
 
-pub accepted_sound : (script certificate : List ℕ) → Accepts script certificate → (k : ℕ) (c : TableCheck) → slice_get (table_checks (reads script).steps) k ≡ Some c → HasEntry script certificate k c
-accepted_sound script certificate accepts k c at =
+pub accepted_sound : (bits : Bool) (script certificate : List ℕ) → Accepts bits script certificate → (k : ℕ) (c : TableCheck) → slice_get (table_checks (reads script).steps) k ≡ Some c → HasEntry bits script certificate k c
+accepted_sound bits script certificate accepts k c at =
     let checks = checks_in script in
-    let r = reading_of (length checks) certificate in
+    let r = reading_of bits (length checks) certificate in
     let parts = accepted_parts limits checks r accepts.counts accepts.accepted in
     let here : slice_get checks k ≡ Some (node_check c) = slice_get-map node_check (table_checks (reads script).steps) k ∙ ap (option_map node_check) at in
     let inside : k < length checks = slice_get_within checks k (node_check c) here in
-    let long = all_read (length checks) certificate parts.1 in
+    let long = all_read bits (length checks) certificate parts.1 in
     let (e, is) = element r.entries k (omega (arith, long, inside)) in
     record {
       entry = e;

@@ -7,7 +7,7 @@ use Rattle.std.proofs.lemmas.Option.{none-some, same_Some}
 use Rattle.std.proofs.lemmas.List.{take_at}
 use Rattle.std.proofs.lemmas.List.Folds.{list_any-append}
 use Rattle.ffc_cert.specs.declared.entries.CertLine.{CertLine}
-use Rattle.ffc_cert.specs.declared.entries.CertLine.TheVariants.{Assume, Scheme, Hinted, Lemma, Combine, Chain, Step, Split, Values, Close}
+use Rattle.ffc_cert.specs.declared.entries.CertLine.TheVariants.{Assume, Scheme, Hinted, Lemma, Combine, Bits, Chain, Step, Split, Values, Close}
 use Rattle.ffc_cert.specs.Spelling.{is_clause}
 use Rattle.ffc_term.specs.declared.value.Value.{Value}
 use Rattle.ffc_term.specs.Tables.{IsTable}
@@ -125,6 +125,7 @@ taken_by_clause trees l c clauses line (Lemma order lits) rest given e =
     by_tree (Ok after) taken is = subst (IsTaken rest) (ap (λ g. g.rest) (same_Ok _ _ is)) (taken after refl)
     by_tree (Err broken) taken is = absurd (err≢ok _ _ is)
 taken_by_clause trees l c clauses line (Combine multiples) rest given e = absurd (err≢ok _ _ e)
+taken_by_clause trees l c clauses line (Bits known chosen polynomial bits) rest given e = absurd (err≢ok _ _ e)
 taken_by_clause trees l c clauses line (Chain known variable steps) rest given e = absurd (err≢ok _ _ e)
 taken_by_clause trees l c clauses line (Step quotient remainder) rest given e = absurd (err≢ok _ _ e)
 taken_by_clause trees l c clauses line (Split known variable zeros) rest given e = absurd (err≢ok _ _ e)

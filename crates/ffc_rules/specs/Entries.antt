@@ -2,13 +2,13 @@
 -- before it gave.
 --
 -- In one line rule 12 comes first, then 11, then the line's own, and rule 9 last. The numbers of rules are: 1 values, 2 assume,
--- 3 scheme, 4 hints, 5 combination, 6 chain, 7 split, 8 not closed, 9 not empty, 10 cases, 11 limit, 12 reference.
+-- 3 scheme, 4 hints, 5 combination, 6 chain, 7 split, 8 not closed, 9 not empty, 10 cases, 11 limit, 12 reference, 13 bits.
 use Rattle.std.specs.Prelude.{◌≡◌, ℕ, zero, suc, ◌+◌, ◌-◌, Bool, true, false, ◌==◌, ◌&&◌, nat_lt, List, [], ◌∷◌, ◌++◌, length, Option, Some, None, Result, Ok, Err, slice_get, if◌then◌else◌}
 use Rattle.std.specs.List.{list_all}
 use Rattle.ffc_cert.specs.declared.entries.Entry.{Entry}
 use Rattle.ffc_cert.specs.declared.entries.Entry.TheVariants.{Sat, UnsatCases, UnsatSteps, Unknown}
 use Rattle.ffc_cert.specs.declared.entries.CertLine.{CertLine}
-use Rattle.ffc_cert.specs.declared.entries.CertLine.TheVariants.{Assume, Scheme, Hinted, Lemma, Combine, Chain, Step, Split, Values, Close}
+use Rattle.ffc_cert.specs.declared.entries.CertLine.TheVariants.{Assume, Scheme, Hinted, Lemma, Combine, Bits, Chain, Step, Split, Values, Close}
 use Rattle.ffc_term.specs.declared.node.Node.{Node}
 use Rattle.ffc_term.specs.declared.node.Node.TheVariants.{Eq}
 use Rattle.ffc_term.specs.declared.node.Sort.{Sort}
@@ -141,6 +141,7 @@ clause_given l c clauses line (Hinted lits hints) rest =
     ) else Err (breaks 12 line)
 clause_given l c clauses line (Lemma order lits) rest = lemma_given l c (order_or c.first_order order) lits line rest
 clause_given l c clauses line (Combine multiples) rest = Err (breaks 12 line)
+clause_given l c clauses line (Bits known chosen polynomial bits) rest = Err (breaks 12 line)
 clause_given l c clauses line (Chain known variable steps) rest = Err (breaks 12 line)
 clause_given l c clauses line (Step quotient remainder) rest = Err (breaks 12 line)
 clause_given l c clauses line (Split known variable zeros) rest = Err (breaks 12 line)

@@ -1,8 +1,8 @@
--- The judgement of a certificate for a script.
+-- The judgement of a certificate for a script. Certificates of version 3 are read where `bits` is true.
 --
 -- The first entry at fault is named. In an entry a fault of form comes before a broken rule, wherever it is. Entry 0 is
 -- line 1, and what follows the last check's entry counts as one more.
-use Rattle.std.specs.Prelude.{◌≡◌, ℕ, ◌+◌, List, [], ◌∷◌, length, map, Option, Some, None}
+use Rattle.std.specs.Prelude.{◌≡◌, ℕ, ◌+◌, Bool, List, [], ◌∷◌, length, map, Option, Some, None}
 use Rattle.ffc_cert.specs.declared.entries.Entry.{Entry}
 use Rattle.ffc_cert.specs.declared.entries.Entry.TheVariants.{Sat, UnsatCases, UnsatSteps, Unknown}
 use Rattle.ffc_cert.specs.declared.entries.Numbered.{Numbered}
@@ -69,19 +69,19 @@ judgement_of l checks reading =
     ]
 
 -- the judgement of a certificate for these checks
-abbrev pub judge_checks : Limits → List NodeCheck → List ℕ → Judgement
-judge_checks l checks certificate = judgement_of l checks (reading_of (length checks) certificate)
+abbrev pub judge_checks : Bool → Limits → List NodeCheck → List ℕ → Judgement
+judge_checks bits l checks certificate = judgement_of l checks (reading_of bits (length checks) certificate)
 
 -- of a script: all its checks, also those before a fault of it
 abbrev pub checks_in : List ℕ → List NodeCheck
 checks_in script = map node_check (table_checks (reads script).steps)
 
 -- the judgement of a certificate for a script
-abbrev pub judge : List ℕ → List ℕ → Judgement
-judge script certificate = judge_checks limits (checks_in script) certificate
+abbrev pub judge : Bool → List ℕ → List ℕ → Judgement
+judge bits script certificate = judge_checks bits limits (checks_in script) certificate
 
 -- the script reads to its end, and the certificate is accepted for it
-pub record Accepts (script certificate : List ℕ) : Type 0 where
+pub record Accepts (bits : Bool) (script certificate : List ℕ) : Type 0 where
   pub done : (reads script).end ≡ Done
   pub counts : Counts
-  pub accepted : judge script certificate ≡ Accepted counts
+  pub accepted : judge bits script certificate ≡ Accepted counts

@@ -1,5 +1,5 @@
 -- What it means that an entry breaks no rule. Nothing is assumed of the entry.
-use Rattle.std.specs.Prelude.{◌≡◌, ℕ, ◌<◌, ◌≤◌, ◌+◌, true, false, List, ◌↔◌, Some, None, Ok, Contains, IsSome, All, length, map, slice_get}
+use Rattle.std.specs.Prelude.{◌≡◌, ℕ, ◌<◌, ◌≤◌, ◌+◌, Bool, true, false, List, ◌↔◌, Some, None, Ok, Contains, IsSome, All, length, map, slice_get}
 use Rattle.ffc_cert.specs.declared.entries.CertLine.{CertLine}
 use Rattle.ffc_cert.specs.declared.entries.Entry.{Entry}
 use Rattle.ffc_cert.specs.declared.entries.Entry.TheVariants.{Sat, UnsatCases, UnsatSteps, Unknown}
@@ -170,12 +170,12 @@ EntriesAreTrueOfChecks = (l : Limits) (script : List ℕ) (k : ℕ) (c : TableCh
     → entry_fault_within l (node_check c) entry line ≡ None → IsTrueOfCheck c entry
 
 -- the entry of the check at this place of a certificate
-pub record HasEntry (script certificate : List ℕ) (k : ℕ) (c : TableCheck) : Type 0 where
+pub record HasEntry (bits : Bool) (script certificate : List ℕ) (k : ℕ) (c : TableCheck) : Type 0 where
   pub entry : Numbered
-  pub at : slice_get (reading_of (length (checks_in script)) certificate).entries k ≡ Some entry
+  pub at : slice_get (reading_of bits (length (checks_in script)) certificate).entries k ≡ Some entry
   pub true_of : IsTrueOfCheck c entry.entry
 
 -- where a certificate is accepted for a script, each check of the script has an entry, which is true of it
 abbrev pub AcceptanceIsSound : Type 0
-AcceptanceIsSound = (script certificate : List ℕ) → Accepts script certificate
-    → (k : ℕ) (c : TableCheck) → slice_get (table_checks (reads script).steps) k ≡ Some c → HasEntry script certificate k c
+AcceptanceIsSound = (bits : Bool) (script certificate : List ℕ) → Accepts bits script certificate
+    → (k : ℕ) (c : TableCheck) → slice_get (table_checks (reads script).steps) k ≡ Some c → HasEntry bits script certificate k c

@@ -24,7 +24,7 @@ accepted sat unsat unknown = Accepted (record { sat = sat; unsat = unsat; unknow
 
 -- the judgement of a certificate for one check
 abbrev pub Judges : NodeCheck → List (List ℕ) → Judgement → Type 0
-Judges c lines judgement = judge_checks limits (c ∷ []) (text lines) ≡ judgement
+Judges c lines judgement = judge_checks false limits (c ∷ []) (text lines) ≡ judgement
 
 -- the checks of a script
 abbrev pub Checks : List ℕ → List NodeCheck → Type 0
@@ -146,7 +146,7 @@ hints = codes "r 0 3 0 1 2"
 
 pub record AreProducts : Type 0 where
   pub whole : Judges product_check (product_certificate (codes "a 1") minus_one hints) (accepted 0 1 0)
-  pub empty : judge_checks limits (product_check ∷ []) [] ≡ Refused 0 1 (Format 4)
+  pub empty : judge_checks false limits (product_check ∷ []) [] ≡ Refused 0 1 (Format 4)
   pub cut_1 : Judges product_check (codes "ffcert 1" ∷ []) (Refused 1 2 (Format 4))
   pub cut_2 : Judges product_check (take 2 (product_certificate (codes "a 1") minus_one hints)) (Refused 1 3 (Format 4))
   pub cut_3 : Judges product_check (take 3 (product_certificate (codes "a 1") minus_one hints)) (Refused 1 4 (Format 4))
@@ -163,8 +163,8 @@ pub record AreProducts : Type 0 where
 
 -- the same from the bytes of the script
 pub record AreScripts : Type 0 where
-  pub product : judge product_script (text (product_certificate (codes "a 1") minus_one hints)) ≡ accepted 0 1 0
-  pub clause : judge clause_script (codes "ffcert 1\nunsat 4\na 0\na 1\nn 1 1 0\nr 0 3 0 1 2\n") ≡ accepted 0 1 0
+  pub product : judge false product_script (text (product_certificate (codes "a 1") minus_one hints)) ≡ accepted 0 1 0
+  pub clause : judge false clause_script (codes "ffcert 1\nunsat 4\na 0\na 1\nn 1 1 0\nr 0 3 0 1 2\n") ≡ accepted 0 1 0
 
 -- A chain
 
@@ -232,11 +232,27 @@ abbrev pub two_checks : List NodeCheck
 two_checks = clause_check ∷ clause_check ∷ []
 
 pub record AreFirst : Type 0 where
-  pub rule_before_later_form : judge_checks limits two_checks (text (codes "ffcert 2" ∷ codes "unsat 1" ∷ codes "a 0" ∷ codes "x" ∷ [])) ≡ Refused 1 3 (Rule 9)
-  pub form_before_rule : judge_checks limits two_checks (text (codes "ffcert 2" ∷ codes "unsat 2" ∷ codes "a 7" ∷ codes "x" ∷ [])) ≡ Refused 1 4 (Format 2)
-  pub second : judge_checks limits two_checks (text (codes "ffcert 2" ∷ codes "unsat e" ∷ codes "sat 0" ∷ [])) ≡ Refused 2 3 (Rule 1)
-  pub too_many : judge_checks limits two_checks (text (codes "ffcert 2" ∷ codes "unsat e" ∷ codes "unsat e" ∷ codes "unsat e" ∷ [])) ≡ Refused 3 4 (Format 2)
-  pub both : judge_checks limits two_checks (text (codes "ffcert 2" ∷ codes "unsat e" ∷ codes "unknown steps 1 2 3 4" ∷ [])) ≡ accepted 0 1 1
+  pub rule_before_later_form : judge_checks false limits two_checks (text (codes "ffcert 2" ∷ codes "unsat 1" ∷ codes "a 0" ∷ codes "x" ∷ [])) ≡ Refused 1 3 (Rule 9)
+  pub form_before_rule : judge_checks false limits two_checks (text (codes "ffcert 2" ∷ codes "unsat 2" ∷ codes "a 7" ∷ codes "x" ∷ [])) ≡ Refused 1 4 (Format 2)
+  pub second : judge_checks false limits two_checks (text (codes "ffcert 2" ∷ codes "unsat e" ∷ codes "sat 0" ∷ [])) ≡ Refused 2 3 (Rule 1)
+  pub too_many : judge_checks false limits two_checks (text (codes "ffcert 2" ∷ codes "unsat e" ∷ codes "unsat e" ∷ codes "unsat e" ∷ [])) ≡ Refused 3 4 (Format 2)
+  pub both : judge_checks false limits two_checks (text (codes "ffcert 2" ∷ codes "unsat e" ∷ codes "unknown steps 1 2 3 4" ∷ [])) ≡ accepted 0 1 1
+
+-- Two bits whose sum x + 2 * y is a number, and a certificate of version 3 that it is none that they have
+
+abbrev pub bits_script : List ℕ → List ℕ
+bits_script sum =
+    over (codes "18446744069414584321") (codes "(declare-const x F)(declare-const y F)(assert (= (ff.mul x x) x))(assert (= (ff.mul y y) y))(assert (= (ff.add x (ff.mul (as ff2 F) y)) (as ff" ++ sum ++ codes " F)))(check-sat)")
+
+abbrev pub bits_certificate : List ℕ → List ℕ
+bits_certificate header =
+    text (header ∷ codes "unsat 5" ∷ codes "a 0" ∷ codes "a 1" ∷ codes "a 2" ∷ codes "f 18446744069414584321 3 -3 -5 -10" ∷ codes "b 2 0 1 1 0 2 0 1" ∷ codes "z" ∷ codes "r 0 4 0 1 2 3" ∷ [])
+
+pub record AreBits : Type 0 where
+  pub whole : judge true (bits_script (codes "5")) (bits_certificate (codes "ffcert 3")) ≡ accepted 0 1 0
+  pub not_asked : judge false (bits_script (codes "5")) (bits_certificate (codes "ffcert 3")) ≡ Refused 0 1 (Format 1)
+  pub other_version : judge true (bits_script (codes "5")) (bits_certificate (codes "ffcert 2")) ≡ Refused 1 7 (Format 2)
+  pub possible : judge true (bits_script (codes "3")) (bits_certificate (codes "ffcert 3")) ≡ Refused 1 7 (Rule 13)
 
 -- Limits at the last good value and the first bad one
 

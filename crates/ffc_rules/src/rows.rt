@@ -1,7 +1,7 @@
 //! Scripts and certificates that the definitions are tried on. Each function has an empty body: what its contract says was
 //! computed.
 ghost use Rattle.ffc_rules.specs.Rows.{AreChecks, AreProducts, AreScripts, AreChains, AreClauses, AreSplits, AreWhole};
-ghost use Rattle.ffc_rules.specs.Rows.{AreFirst, AreLimits, AreSchemes, AreCores, AreCauses};
+ghost use Rattle.ffc_rules.specs.Rows.{AreFirst, AreBits, AreLimits, AreSchemes, AreCores, AreCauses};
 
 /// What scripts check.
 pub fn checks()
@@ -41,6 +41,11 @@ pub fn whole_entries()
 /// Which fault comes first.
 pub fn first_faults()
     ensures { AreFirst }
+{}
+
+/// A certificate of version 3, where it is read and where it is not.
+pub fn bits()
+    ensures { AreBits }
 {}
 
 /// Limits at the last good value and the first bad one.

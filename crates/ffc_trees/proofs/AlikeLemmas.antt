@@ -1,19 +1,21 @@
 -- What is read from the same lines, written in other orders of their terms, is one.
-use Rattle.std.proofs.Common.{◌≡◌, ℕ, zero, suc, ◌+◌, ◌-◌, ◌*◌, ◌<◌, Bool, true, false, not, ◌&&◌, ◌==◌, nat_lt, if◌then◌else◌, List, [], ◌∷◌, ◌++◌, length, Result, Ok, Err, refl, sym, ap, ap₂, ◌∙◌, subst}
-use Rattle.std.specs.List.{range_with_len}
+use Rattle.std.proofs.Common.{◌≡◌, ℕ, zero, suc, ◌+◌, ◌-◌, ◌*◌, ◌^◌, ◌<◌, Bool, true, false, not, ◌&&◌, ◌==◌, nat_lt, if◌then◌else◌, List, [], ◌∷◌, ◌++◌, length, Result, Ok, Err, refl, sym, ap, ap₂, ◌∙◌, subst}
+use Rattle.std.specs.List.{range_with_len, list_all}
 use Rattle.std.proofs.lemmas.List.Sums.{sum_by-cons}
 use Rattle.ffc_cert.specs.declared.entries.CertLine.{CertLine}
-use Rattle.ffc_cert.specs.declared.entries.CertLine.TheVariants.{Combine, Chain, Step, Split, Values, Close}
+use Rattle.ffc_cert.specs.declared.entries.CertLine.TheVariants.{Combine, Bits, Chain, Step, Split, Values, Close}
 use Rattle.ffc_ring.specs.Polynomial.{Terms, SamePolynomial, product}
 use Rattle.ffc_ring.proofs.PolynomialLemmas.{same_sums, same_products}
 use Rattle.ffc_uni.specs.Univariate.{Coefficients, indeterminate, product_of_roots, terms_in}
 use Rattle.ffc_uni.specs.Chains.{pair_count, digits_of}
 use Rattle.ffc_trees.specs.Normal.{normal}
 use Rattle.ffc_trees.specs.TreeLines.{Limits, Multiple, Factor, line_at, is_there, are_there, products_in, is_written_within, written_degree, is_within, are_residues, sum_of_multiples, combined, combine_line, is_in, coefficients_of, is_same, are_below, factors_over, fermat_line, chain_line, step_line, root_line, case_lines, is_root_product, split_line, values_line, last_line, closes}
+use Rattle.ffc_trees.specs.BitLines.{is_linear, variables_of, are_bits, is_written_in, is_of_bits, follows, are_choices_within, is_polynomial_within, bits_line}
 use Rattle.ffc_trees.specs.Trees.{Power, Stage, Open, Within, with_line, with_power, kept, branch_read, step_read, Broken, next_read, read_from}
 use Rattle.ffc_trees.specs.Same.{IsSameLine, AreSameLines, AreSameCases, IsSameStage}
 use Rattle.ffc_trees.proofs.NormalLemmas.{normal_same, normal_is_normal}
 use Rattle.ffc_trees.proofs.SameLemmas.{one_length, one_degree, one_is_in, one_coefficients, one_constant}
+use Rattle.ffc_trees.proofs.SameBitLemmas.{one_variables, one_linear, one_bit, one_follows}
 
 if_not : {A : Type 0} (c d : Bool) (r s : A) (e : A) → c ≡ d → r ≡ s → (if not c then e else r) ≡ (if not d then e else s)
 if_not c d r s e x y = ap₂ (λ b z. if not b then e else z) x y
@@ -56,6 +58,25 @@ module _ (p : ℕ) (positive : 0 < p) where
     other = normal_is_normal p g positive;
     same = λ m. normal_same p f m ∙ e m ∙ sym (normal_same p g m);
   }
+
+  -- the tests of a line of bits in their order
+  abbrev judged : (there choices polynomial residues bits following : Bool) → Terms → Result Terms ℕ
+  judged there choices polynomial residues bits following new =
+      if not there then Err 12 else
+      if not choices then Err 11 else
+      if not polynomial then Err 11 else
+      if not residues then Err 13 else
+      if not bits then Err 13 else
+      if not following then Err 13 else Ok new
+
+  judged-same : (there choices polynomial residues bits following : Bool) (new : Terms) → Same new new → Alike Same (judged there choices polynomial residues bits following new) (judged there choices polynomial residues bits following new)
+  judged-same false c d e f g new same = refl
+  judged-same true false d e f g new same = refl
+  judged-same true true false e f g new same = refl
+  judged-same true true true false f g new same = refl
+  judged-same true true true true false g new same = refl
+  judged-same true true true true true false new same = refl
+  judged-same true true true true true true new same = same
 
   same-line_at : (a b : List Terms) (k : ℕ) → AreSameLines p a b → Same (line_at a k) (line_at b k)
   same-line_at [] [] k are = none_same
@@ -129,6 +150,40 @@ module _ (p : ℕ) (positive : 0 < p) where
         (ap (λ n. not (nat_lt l.products n) && not (nat_lt l.degree (written_degree ms))) (products_alike ms)) three in
         alike-if_not Same (are_there a ms) (are_there b ms) 12 (if not (is_written_within l a ms) then Err 11 else if not (is_within l one) then Err 11 else if not (are_residues p ms) then Err 5 else Ok one) (if not (is_written_within l b ms) then Err 11 else if not (is_within l other) then Err 11 else if not (are_residues p ms) then Err 5 else Ok other) (all_there ms) two
 
+    all_lines_there : (ks : List ℕ) → list_all (is_there a) ks ≡ list_all (is_there b) ks
+    all_lines_there [] = refl
+    all_lines_there (k ∷ ks) = ap₂ (λ c d. c && d) (there k) (all_lines_there ks)
+
+    bits-one : (xs ks : List ℕ) → are_bits p a xs ks ≡ are_bits p b xs ks
+    bits-one [] [] = refl
+    bits-one [] (k ∷ ks) = refl
+    bits-one (x ∷ xs) [] = refl
+    bits-one (x ∷ xs) (k ∷ ks) = ap₂ (λ c d. c && d) (one_bit p (line_at a k) (line_at b k) positive (same-line_at a b k are) x) (bits-one xs ks)
+
+    of_bits-one : (k : ℕ) (ks : List ℕ) → is_of_bits p a (line_at a k) ks ≡ is_of_bits p b (line_at b k) ks
+    of_bits-one k ks =
+        let same : Same (line_at a k) (line_at b k) = same-line_at a b k are in
+        ap₂ (λ c xs. c && are_bits p a xs ks) (one_linear p (line_at a k) (line_at b k) positive same) (one_variables p (line_at a k) (line_at b k) positive same)
+        ∙ ap (λ c. is_linear (line_at b k) && c) (bits-one (variables_of (line_at b k)) ks)
+
+    bits-alike : (l : Limits) (k : ℕ) (chosen : List ℕ) (written : Terms) (ks : List ℕ) → Alike Same (bits_line l p a k chosen written ks) (bits_line l p b k chosen written ks)
+    unfolding bits_line
+    bits-alike l k chosen written ks =
+        let f : Terms = line_at a k in
+        let g : Terms = line_at b k in
+        let same : Same f g = same-line_at a b k are in
+        let new : Terms = normal p written in
+        let residues : Bool = is_written_in p chosen written in
+        let polynomial : Bool = is_polynomial_within l p written in
+        let lines_there : (is_there a k && list_all (is_there a) ks) ≡ (is_there b k && list_all (is_there b) ks) = ap₂ (λ c d. c && d) (there k) (all_lines_there ks) in
+        let choices : are_choices_within l f chosen written ≡ are_choices_within l g chosen written =
+        ap (λ n. not (nat_lt l.choices (length chosen)) && not (nat_lt l.products (2 ^ length chosen * n)) && not (nat_lt l.products (2 ^ length chosen * length written))) (one_length p f g positive same)
+        in let one = judged-same (is_there a k && list_all (is_there a) ks) (are_choices_within l f chosen written) polynomial residues (is_of_bits p a f ks) (follows p f chosen written) new (normal-same written written (λ m. refl)) in
+        subst (λ r. Alike Same (bits_line l p a k chosen written ks) r)
+        (ap₂ (λ c d. judged c d polynomial residues (is_of_bits p a f ks) (follows p f chosen written) new) lines_there choices
+        ∙ ap₂ (λ c d. judged (is_there b k && list_all (is_there b) ks) (are_choices_within l g chosen written) polynomial residues c d new) (of_bits-one k ks) (one_follows p f g positive same chosen written))
+        one
+
     chain-one : (k x steps : ℕ) → chain_line p a k x steps ≡ chain_line p b k x steps
     unfolding chain_line
     chain-one k x steps =
@@ -177,6 +232,7 @@ module _ (p : ℕ) (positive : 0 < p) where
 
       branch-alike : (l : Limits) (line : CertLine) → Alike (IsSameStage p) (branch_read l p a others line) (branch_read l p b more line)
       branch-alike l (Combine ms) = alike-kept Same (IsSameStage p) (with_line a others) (with_line b more) (λ f g is. (same-push a b f g are is, rest)) (combine_line l p a ms) (combine_line l p b ms) (combine-alike l ms)
+      branch-alike l (Bits k chosen written ks) = alike-kept Same (IsSameStage p) (with_line a others) (with_line b more) (λ f g is. (same-push a b f g are is, rest)) (bits_line l p a k chosen written ks) (bits_line l p b k chosen written ks) (bits-alike l k chosen written ks)
       branch-alike l (Chain k x steps) =
           alike-kept (λ f g. f ≡ g) (IsSameStage p) (λ f. with_power p x f a others (factors_over (digits_of p)) indeterminate) (λ f. with_power p x f b more (factors_over (digits_of p)) indeterminate)
           (λ f g e. subst (λ h. IsSameStage p (with_power p x f a others (factors_over (digits_of p)) indeterminate) (with_power p x h b more (factors_over (digits_of p)) indeterminate)) e (with_power-same x f (factors_over (digits_of p)) indeterminate))

@@ -12,3 +12,6 @@ pub mod BoundLemmas
 pub mod RuleLemmas
 pub mod PartLemmas
 pub mod ProductLemmas
+pub mod BitLemmas
+pub mod BitRuleLemmas
+pub mod SameBitLemmas

@@ -1,14 +1,15 @@
 -- A tree is read to its end exactly where it closes.
 use Rattle.std.proofs.Common.{◌≡◌, ℕ, suc, Bool, true, false, if◌then◌else◌, List, [], ◌∷◌, ◌++◌, map, Result, Ok, Err, refl, sym, ap, ◌∙◌, subst}
 use Rattle.ffc_cert.specs.declared.entries.CertLine.{CertLine}
-use Rattle.ffc_cert.specs.declared.entries.CertLine.TheVariants.{Combine, Chain, Step, Split, Values, Close}
+use Rattle.ffc_cert.specs.declared.entries.CertLine.TheVariants.{Combine, Bits, Chain, Step, Split, Values, Close}
 use Rattle.ffc_ring.specs.Polynomial.{Terms}
 use Rattle.ffc_uni.specs.Univariate.{Coefficients, indeterminate}
 use Rattle.ffc_uni.specs.Chains.{Pair, IsDivision, IsChainFrom, digits_of, last_remainder}
 use Rattle.ffc_trees.specs.TreeLines.{Limits, Factor, factors_over, times_factor, combine_line, chain_line, step_line, fermat_line, split_line, values_line, closes}
+use Rattle.ffc_trees.specs.BitLines.{bits_line}
 use Rattle.ffc_trees.specs.Trees.{Power, Stage, Open, Within, with_line, with_power, kept, branch_read, step_read, Broken, next_read, read_from, tree_read}
 use Rattle.ffc_trees.specs.Closing.{written_step, AreWritten, IsChainIn, Closes, CloseAll}
-use Rattle.ffc_trees.specs.Closing.Closes.{combine, chain, split, values, close}
+use Rattle.ffc_trees.specs.Closing.Closes.{combine, bits, chain, split, values, close}
 use Rattle.ffc_trees.specs.Closing.CloseAll.{no_cases, each}
 use Rattle.ffc_trees.proofs.RuleLemmas.{step_gives, step_to}
 use Rattle.std.proofs.lemmas.Bool.{false≢true}
@@ -117,6 +118,10 @@ module _ (l : Limits) (p : ℕ) where
       let k = kept-ok (with_line lines others) (combine_line l p lines multiples) stage h in
       let parts = uncons (lines ++ k.what ∷ []) others tree rest (subst (λ s. Reached s tree rest) (sym k.gives) reached) in
       each (combine multiples k.what k.rule parts.first) parts.later
+  branch_closes lines others (Bits sum chosen written numbers) tree rest stage h reached =
+      let k = kept-ok (with_line lines others) (bits_line l p lines sum chosen written numbers) stage h in
+      let parts = uncons (lines ++ k.what ∷ []) others tree rest (subst (λ s. Reached s tree rest) (sym k.gives) reached) in
+      each (bits sum chosen written numbers k.what k.rule parts.first) parts.later
   branch_closes lines others (Chain number x steps) tree rest stage h reached =
       let k = kept-ok (λ f. with_power p x f lines others (factors_over (digits_of p)) indeterminate) (chain_line p lines number x steps) stage h in
       let chained = with_power-reached x k.what indeterminate (factors_over (digits_of p)) lines others tree rest (subst (λ s. Reached s tree rest) (sym k.gives) reached) in
@@ -207,6 +212,9 @@ module _ (l : Limits) (p : ℕ) where
     closed_is_read lines _ rest (combine {tree = tree} multiples line h more) others at =
         let later = closed_is_read (lines ++ line ∷ []) tree rest more others (suc at) in
         record { place = later.place; read = branch_next lines others at (Combine multiples) tree (with_line lines others line) (ap (kept (with_line lines others)) h) ∙ later.read }
+    closed_is_read lines _ rest (bits {tree = tree} sum chosen written numbers line h more) others at =
+        let later = closed_is_read (lines ++ line ∷ []) tree rest more others (suc at) in
+        record { place = later.place; read = branch_next lines others at (Bits sum chosen written numbers) tree (with_line lines others line) (ap (kept (with_line lines others)) h) ∙ later.read }
     closed_is_read lines _ rest (chain {tree = tree} {after = after} k x count f steps h whole more) others at =
         let start : branch_read l p lines others (Chain k x count) ≡ Ok (with_power p x f lines others (factors_over (digits_of p)) indeterminate) =
         ap (kept (λ g. with_power p x g lines others (factors_over (digits_of p)) indeterminate)) h

@@ -1,5 +1,6 @@
 -- A tree that closes refutes that all its first lines are 0 at a point of residues.
 use Rattle.ffc_trees.proofs.RuleLemmas.{chain_from, split_from, values_from}
+use Rattle.ffc_trees.proofs.BitRuleLemmas.{bits_are_zero}
 use Rattle.std.proofs.Common.{◌≡◌, ℕ, zero, suc, ◌+◌, ◌-◌, ◌*◌, ◌%◌, ◌^◌, ◌<◌, ◌≤◌, true, List, [], ◌∷◌, ◌++◌, Ok, sym, ap, ap₂, ◌∙◌, subst, inl, inr, ⊎_elim, arith}
 use Rattle.std.proofs.Math.Nat.{zero-mod, mod-eq_of_lt, mod_self, mod-lt}
 use Rattle.std.proofs.lemmas.Bool.{cases_eq, ltb-true, false≢true}
@@ -21,7 +22,7 @@ use Rattle.ffc_uni.proofs.ChainLemmas.{zeros_of_chains}
 use Rattle.ffc_trees.specs.Laws.{AreZeroAt, IsPoint}
 use Rattle.ffc_trees.specs.TreeLines.{Limits, line_at, coefficients_of, fermat_line, root_line, case_lines, split_line, is_nonzero_constant, last_line, closes}
 use Rattle.ffc_trees.specs.Closing.{Closes, CloseAll}
-use Rattle.ffc_trees.specs.Closing.Closes.{combine, chain, split, values, close}
+use Rattle.ffc_trees.specs.Closing.Closes.{combine, bits, chain, split, values, close}
 use Rattle.ffc_trees.specs.Closing.CloseAll.{no_cases, each}
 use Rattle.ffc_trees.proofs.NormalLemmas.{poly_value-normal}
 use Rattle.ffc_trees.proofs.LineLemmas.{line_is_zero, combined_is_zero, value_of-coefficients}
@@ -113,6 +114,8 @@ module _ (p : ℕ) (point : ℕ → ℕ) where
       refutes : (lines : List Terms) (tree rest : List CertLine) → Closes l p lines tree rest → Refuted lines
       refutes lines _ _ (combine ms line h more) vanish =
           refutes (lines ++ line ∷ []) _ _ more (pushed lines line vanish (combined_is_zero l p point lines ms line h vanish))
+      refutes lines _ _ (bits sum chosen written numbers line h more) vanish =
+          refutes (lines ++ line ∷ []) _ _ more (pushed lines line vanish (bits_are_zero l p lines sum chosen written numbers line point prime below vanish h))
       refutes lines _ _ (chain k x count f steps h front more) vanish =
           let ok = chain_from p lines k x count f h in
           let none : value_of p (point x) f ≡ 0 = ap (value_of p (point x)) (sym ok.line) ∙ value_of-coefficients p point x (line_at lines k) ok.alone ∙ line_is_zero p point lines k vanish in

@@ -14,7 +14,7 @@ use Rattle.ffc_trees.specs.Rules.{IsSum, IsChainOf, IsStep, IsSplit, AreValues}
 -- ---- tests
 
 -- what is left of a test that was passed
-passed : {A : Type 0} (c : Bool) (e : ℕ) (r : Result A ℕ) (x : A) → (if not c then Err e else r) ≡ Ok x → (c ≡ true) × (r ≡ Ok x)
+pub passed : {A : Type 0} (c : Bool) (e : ℕ) (r : Result A ℕ) (x : A) → (if not c then Err e else r) ≡ Ok x → (c ≡ true) × (r ≡ Ok x)
 passed false e r x h = absurd (cc)
 passed true e r x h = (refl, h)
 
@@ -22,11 +22,11 @@ passed_not : {A : Type 0} (c : Bool) (e : ℕ) (r : Result A ℕ) (x : A) → (i
 passed_not true e r x h = absurd (cc)
 passed_not false e r x h = (refl, h)
 
-same_ok : {A : Type 0} (r : Result A ℕ) (x y : A) → r ≡ Ok x → r ≡ Ok y → x ≡ y
+pub same_ok : {A : Type 0} (r : Result A ℕ) (x y : A) → r ≡ Ok x → r ≡ Ok y → x ≡ y
 same_ok r x y g h = cc
 
 -- a test that is passed
-pass : {A : Type 0} (c : Bool) (e : A) (r : A) → c ≡ true → (if not c then e else r) ≡ r
+pub pass : {A : Type 0} (c : Bool) (e : A) (r : A) → c ≡ true → (if not c then e else r) ≡ r
 pass true e r is = refl
 pass false e r is = cond-false _ _ _ (not_from_true false is)
 
@@ -76,12 +76,12 @@ residues-to p ms are =
     list_all-from_AllPass (λ (m : Multiple). list_all (λ t. nat_lt t.0 p) m.1) ms (λ i d inside.
     list_all-from_AllPass (λ (t : ℕ × List (ℕ × ℕ)). nat_lt t.0 p) (get_or ms i d).1 (λ j e within. lt-ltb (get_or (get_or ms i d).1 j e).0 p (are i d inside j e within)))
 
-both_within : (a b c d : ℕ) → (not (nat_lt a b) && not (nat_lt c d)) ≡ true → (b ≤ a) × (d ≤ c)
+pub both_within : (a b c d : ℕ) → (not (nat_lt a b) && not (nat_lt c d)) ≡ true → (b ≤ a) × (d ≤ c)
 both_within a b c d is =
     let both = and_parts (not (nat_lt a b)) (not (nat_lt c d)) is in
     (ltb-false a b (not-true (nat_lt a b) both.0), ltb-false c d (not-true (nat_lt c d) both.1))
 
-within_both : (a b c d : ℕ) → b ≤ a → d ≤ c → (not (nat_lt a b) && not (nat_lt c d)) ≡ true
+pub within_both : (a b c d : ℕ) → b ≤ a → d ≤ c → (not (nat_lt a b) && not (nat_lt c d)) ≡ true
 within_both a b c d x y = and_from (not (nat_lt a b)) (not (nat_lt c d)) (not_from_false (nat_lt a b) (le-ltb a b x)) (not_from_false (nat_lt c d) (le-ltb c d y))
 
 -- ---- the rules

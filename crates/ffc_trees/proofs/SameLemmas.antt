@@ -98,7 +98,7 @@ module _ {A : Type 0} (op : ℕ × Monomial → A → A) (start : A) (commutes :
             (ap (op t) (taken_out p m ts is.3 (λ e. some (written-off m t ts there ∙ e))) ∙ commutes t (written ts m, m) (together (without m ts)))
       ]
 
-  one_together : (p : ℕ) (a b : Terms) → 0 < p → IsNormal p a → IsNormal p b → SamePolynomial p a b → together a ≡ together b
+  pub one_together : (p : ℕ) (a b : Terms) → 0 < p → IsNormal p a → IsNormal p b → SamePolynomial p a b → together a ≡ together b
   one_together p [] [] positive one other same = refl
   one_together p [] (t ∷ b) positive one other same =
       let none : t.0 ≡ 0 = sym (mod-eq_of_lt other.1) ∙ ap (λ n. n % p) (sym (head_written p t b other)) ∙ sym (same t.1) ∙ zero-mod p in
@@ -179,7 +179,7 @@ abbrev is_constant_term : ℕ → ℕ × Monomial → Bool
 is_constant_term p (c, []) = nat_lt 0 (c % p)
 is_constant_term p (c, f ∷ m) = false
 
-and_true : (b : Bool) → b ≡ (b && true)
+pub and_true : (b : Bool) → b ≡ (b && true)
 and_true true = refl
 and_true false = refl
 

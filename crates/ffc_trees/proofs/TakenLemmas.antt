@@ -2,14 +2,14 @@
 use Rattle.std.proofs.Common.{◌≡◌, ℕ, false, List, [], ◌∷◌, ◌++◌, map, All, Ok, refl, ap, ◌∙◌, sym, arith, append_assoc}
 use Rattle.std.proofs.lemmas.List.Elements.{All-cons, All-nil, All-append}
 use Rattle.ffc_cert.specs.declared.entries.CertLine.{CertLine}
-use Rattle.ffc_cert.specs.declared.entries.CertLine.TheVariants.{Combine, Chain, Split, Values, Close}
+use Rattle.ffc_cert.specs.declared.entries.CertLine.TheVariants.{Combine, Bits, Chain, Split, Values, Close}
 use Rattle.ffc_cert.specs.Spelling.{is_clause}
 use Rattle.ffc_ring.specs.Polynomial.{Terms}
 use Rattle.ffc_uni.specs.Chains.{Pair}
 use Rattle.ffc_trees.specs.TreeLines.{Limits}
 use Rattle.ffc_trees.specs.Trees.{tree_read}
 use Rattle.ffc_trees.specs.Closing.{written_step, Closes, CloseAll}
-use Rattle.ffc_trees.specs.Closing.Closes.{combine, chain, split, values, close}
+use Rattle.ffc_trees.specs.Closing.Closes.{combine, bits, chain, split, values, close}
 use Rattle.ffc_trees.specs.Closing.CloseAll.{no_cases, each}
 use Rattle.ffc_trees.specs.Laws.{IsTakenOff}
 use Rattle.ffc_trees.proofs.ReadLemmas.{tree_read-closes}
@@ -53,6 +53,8 @@ module _ (l : Limits) (p : ℕ) where
     closed_taken : (lines : List Terms) (tree rest : List CertLine) → Closes l p lines tree rest → IsTakenOff tree rest
     closed_taken lines _ rest (combine {tree = tree} multiples line h more) =
         one_more (Combine multiples) tree rest refl (as_none_or_more tree rest (closed_taken (lines ++ line ∷ []) tree rest more))
+    closed_taken lines _ rest (bits {tree = tree} sum chosen written numbers line h more) =
+        one_more (Bits sum chosen written numbers) tree rest refl (as_none_or_more tree rest (closed_taken (lines ++ line ∷ []) tree rest more))
     closed_taken lines _ rest (chain {tree = tree} {after = after} k x count f steps h whole more) =
         let those : AreTakenOff tree after = record { front = map written_step steps; parts = whole.front; in_tree = steps_in_tree steps } in
         one_more (Chain k x count) tree rest refl (in_sequence tree after rest those (as_none_or_more after rest (closed_taken _ after rest more)))

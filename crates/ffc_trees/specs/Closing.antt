@@ -3,11 +3,12 @@
 -- and that each branch ends with a constant other than 0.
 use Rattle.std.specs.Prelude.{◌≡◌, ℕ, ◌<◌, ◌≤◌, All, true, List, [], ◌∷◌, ◌++◌, length, map, Ok}
 use Rattle.ffc_cert.specs.declared.entries.CertLine.{CertLine}
-use Rattle.ffc_cert.specs.declared.entries.CertLine.TheVariants.{Combine, Chain, Step, Split, Values, Close}
+use Rattle.ffc_cert.specs.declared.entries.CertLine.TheVariants.{Combine, Bits, Chain, Step, Split, Values, Close}
 use Rattle.ffc_ring.specs.Polynomial.{Terms}
 use Rattle.ffc_uni.specs.Univariate.{Coefficients, indeterminate}
 use Rattle.ffc_uni.specs.Chains.{Pair, IsChain, last_remainder}
 use Rattle.ffc_trees.specs.TreeLines.{Limits, Multiple, combine_line, chain_line, fermat_line, split_line, values_line, closes}
+use Rattle.ffc_trees.specs.BitLines.{bits_line}
 
 -- a step as it is written
 abbrev pub written_step : Pair → CertLine
@@ -28,6 +29,8 @@ mutual
   pub data Closes (l : Limits) (p : ℕ) : List Terms → List CertLine → List CertLine → Type 0 where
     -- a sum of multiples is one more line
     combine : {lines : List Terms} {tree rest : List CertLine} (multiples : List Multiple) (line : Terms) → combine_line l p lines multiples ≡ Ok line → Closes l p (lines ++ line ∷ []) tree rest → Closes l p lines (Combine multiples ∷ tree) rest
+    -- a polynomial that is 0 where a sum of bits is, is one more line
+    bits : {lines : List Terms} {tree rest : List CertLine} (sum : ℕ) (chosen : List ℕ) (written : Terms) (numbers : List ℕ) (line : Terms) → bits_line l p lines sum chosen written numbers ≡ Ok line → Closes l p (lines ++ line ∷ []) tree rest → Closes l p lines (Bits sum chosen written numbers ∷ tree) rest
     -- x^p - x modulo a line is one more line
     chain : {lines : List Terms} {tree after rest : List CertLine} (k x count : ℕ) (f : Coefficients) (steps : List Pair) → chain_line p lines k x count ≡ Ok f → IsChainIn l p f steps tree after → Closes l p (lines ++ fermat_line p x (last_remainder indeterminate steps) ∷ []) after rest → Closes l p lines (Chain k x count ∷ tree) rest
     -- each root is a case, with its tree

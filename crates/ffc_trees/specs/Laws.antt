@@ -1,5 +1,6 @@
 -- The laws of polynomials of nodes and of case trees.
 use Rattle.std.specs.Prelude.{◌≡◌, ℕ, ◌<◌, ◌≤◌, true, false, List, [], ◌∷◌, ◌++◌, length, All, Ok}
+use Rattle.std.specs.Int.{IsGcd}
 use Rattle.ffc_field.specs.Orders.{IsOrder}
 use Rattle.ffc_ring.specs.Monomial.{IsMonomial}
 use Rattle.ffc_ring.specs.Polynomial.{Terms, SamePolynomial, poly_value}
@@ -16,6 +17,7 @@ use Rattle.ffc_term.specs.Measuring.{degree_at, length_at}
 use Rattle.ffc_trees.specs.Normal.{normal, degree_of, IsNormal}
 use Rattle.ffc_trees.specs.NodePolynomials.{poly_at, EachMonomial, HasVariables, IsVariableAt}
 use Rattle.ffc_trees.specs.TreeLines.{Limits}
+use Rattle.ffc_trees.specs.BitLines.{common_divisor, bits_line}
 use Rattle.ffc_trees.specs.Trees.{tree_read}
 use Rattle.ffc_trees.specs.Closing.{Closes}
 use Rattle.ffc_trees.specs.FirstLines.{Literal, clause_truth, first_lines}
@@ -58,6 +60,15 @@ AreZeroAt p point lines = All (λ f. poly_value p point f ≡ 0) lines
 -- a point of residues
 abbrev pub IsPoint : ℕ → (ℕ → ℕ) → Type 0
 IsPoint p point = (x : ℕ) → point x < p
+
+-- the polynomial of a line of bits is 0 at each point where the lines are
+abbrev pub BitLinesVanish : Type 0
+BitLinesVanish = (l : Limits) (p : ℕ) (lines : List Terms) (sum : ℕ) (chosen : List ℕ) (written : Terms) (numbers : List ℕ) (line : Terms) (point : ℕ → ℕ)
+    → IsOrder p → bits_line l p lines sum chosen written numbers ≡ Ok line → IsPoint p point → AreZeroAt p point lines → poly_value p point line ≡ 0
+
+-- Euclid's algorithm gives the greatest common divisor
+abbrev pub DivisorsAreGreatest : Type 0
+DivisorsAreGreatest = (a b : ℕ) → IsGcd a b (common_divisor a b)
 
 -- a tree that closes refutes that all its first lines are 0 at a point
 abbrev pub TreesRefute : Type 0

@@ -1,11 +1,13 @@
 pub mod Normal
 pub mod NodePolynomials
 pub mod TreeLines
+pub mod BitLines
 pub mod Trees
 pub mod Closing
 pub mod FirstLines
 pub mod Laws
 pub mod Rows
+pub mod BitRows
 pub mod Same
 pub mod Rules
 pub mod Parts

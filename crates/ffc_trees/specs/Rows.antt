@@ -146,7 +146,7 @@ pub record AreRules : Type 0 where
 -- Each limit at its last good value, and one below
 
 abbrev pub limits_of : ℕ → ℕ → ℕ → ℕ → Limits
-limits_of products degree terms coefficients = record { products = products; degree = degree; terms = terms; coefficients = coefficients }
+limits_of products degree terms coefficients = record { products = products; degree = degree; terms = terms; coefficients = coefficients; choices = 12 }
 
 -- (x + y) * (x - 1) has 4 products, the degree 2 and 4 terms
 abbrev pub four_products : List CertLine

@@ -27,9 +27,11 @@ pub record Limits : Type 0 where
   pub terms : ℕ
   -- the coefficients of a quotient or a remainder, as written
   pub coefficients : ℕ
+  -- the variables that a line of bits goes through
+  pub choices : ℕ
 
 abbrev pub limits : Limits
-limits = record { products = 4194304; degree = 1024; terms = 131072; coefficients = 1025 }
+limits = record { products = 4194304; degree = 1024; terms = 131072; coefficients = 1025; choices = 12 }
 
 -- the line of this number
 abbrev pub line_at : List Terms → ℕ → Terms

@@ -5,11 +5,12 @@
 -- at the tree's first line, and the number of the rule.
 use Rattle.std.specs.Prelude.{ℕ, suc, List, [], ◌∷◌, ◌++◌, if◌then◌else◌, Result, Ok, Err}
 use Rattle.ffc_cert.specs.declared.entries.CertLine.{CertLine}
-use Rattle.ffc_cert.specs.declared.entries.CertLine.TheVariants.{Combine, Chain, Step, Split, Values, Close}
+use Rattle.ffc_cert.specs.declared.entries.CertLine.TheVariants.{Combine, Bits, Chain, Step, Split, Values, Close}
 use Rattle.ffc_ring.specs.Polynomial.{Terms}
 use Rattle.ffc_uni.specs.Univariate.{Coefficients, indeterminate}
 use Rattle.ffc_uni.specs.Chains.{digits_of}
 use Rattle.ffc_trees.specs.TreeLines.{Limits, Factor, factors_over, combine_line, chain_line, step_line, fermat_line, split_line, values_line, closes}
+use Rattle.ffc_trees.specs.BitLines.{bits_line}
 
 -- a chain that has begun
 pub record Power : Type 0 where
@@ -47,6 +48,7 @@ kept f (Err rule) = Err rule
 -- one line of the present branch; a line of another form closes nothing
 abbrev pub branch_read : Limits → ℕ → List Terms → List (List Terms) → CertLine → Result Stage ℕ
 branch_read l p lines others (Combine multiples) = kept (with_line lines others) (combine_line l p lines multiples)
+branch_read l p lines others (Bits line chosen polynomial bits) = kept (with_line lines others) (bits_line l p lines line chosen polynomial bits)
 branch_read l p lines others (Chain k x steps) =
     kept (λ f. with_power p x f lines others (factors_over (digits_of p)) indeterminate) (chain_line p lines k x steps)
 branch_read l p lines others (Split k x zeros) = kept (λ cases. Open (cases ++ others)) (split_line p lines k x zeros)

@@ -2,8 +2,9 @@
 //! contract is the law.
 ghost use Rattle.ffc_trees.specs.Laws.{NormalIsSame, NormalIsNormal, PolynomialsKeepValues, PolynomialsStay};
 ghost use Rattle.ffc_trees.specs.Laws.{PolynomialsHaveVariables, MeasuresBound, TreesRefute, ReadTreesClose};
+ghost use Rattle.ffc_trees.specs.Laws.{BitLinesVanish, DivisorsAreGreatest};
 ghost use Rattle.ffc_trees.specs.Laws.{ClosedTreesAreRead, TreesAreTakenOff, FirstLinesVanish, LemmasAreSound};
-ghost use Rattle.ffc_trees.specs.Rules.{SumsAre, ChainsAre, StepsAre, SplitsAre, ValuesAre};
+ghost use Rattle.ffc_trees.specs.Rules.{SumsAre, BitsAre, ChainsAre, StepsAre, SplitsAre, ValuesAre};
 ghost use Rattle.ffc_trees.specs.Same.{SizesAreOne, StagesReadAlike, TreesReadAlike};
 
 /// The normal list of a polynomial is the same polynomial, with different monomials and coefficients from 1 to p - 1.
@@ -35,10 +36,17 @@ pub fn measures_bound()
 /// A line keeps its rule exactly where its parts are there, are residues, are within the limits and fit.
 pub fn rules_are_kept()
     ensures sums { SumsAre }
+    ensures bits { BitsAre }
     ensures chains { ChainsAre }
     ensures steps { StepsAre }
     ensures splits { SplitsAre }
     ensures values { ValuesAre }
+{}
+
+/// The polynomial of a line of bits is 0 wherever the lines so far are; and its divisors are greatest common divisors.
+pub fn bit_lines_vanish()
+    ensures zeros { BitLinesVanish }
+    ensures divisors { DivisorsAreGreatest }
 {}
 
 /// A tree that closes refutes that all its first lines are 0 at a point of residues.

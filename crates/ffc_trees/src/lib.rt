@@ -9,8 +9,8 @@ mod laws;
 mod rows;
 
 pub use laws::{
-    first_lines_vanish, lemmas_are_sound, measures_bound, normal_lists, polynomials_have_variables,
-    polynomials_keep_values, polynomials_stay, read_trees_close, rules_are_kept, sizes_are_one,
-    trees_are_taken_off, trees_read_alike, trees_refute,
+    bit_lines_vanish, first_lines_vanish, lemmas_are_sound, measures_bound, normal_lists,
+    polynomials_have_variables, polynomials_keep_values, polynomials_stay, read_trees_close,
+    rules_are_kept, sizes_are_one, trees_are_taken_off, trees_read_alike, trees_refute,
 };
-pub use rows::{limits, polynomials, rules, worked_trees};
+pub use rows::{bits, limits, polynomials, rules, worked_trees};
