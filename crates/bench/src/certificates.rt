@@ -26,7 +26,7 @@ fn drain(reader: &mut CertReader, count: u64) -> Result<u64, CertStop>
 fn count_of_entries(alloc: Global, pieces: Pieces) -> Result<u64, CertStop> {
     let size = pieces.bytes;
     let text = repeated(alloc, ENTRY, size)?;
-    let mut reader = CertReader::new(alloc, u64::from(u32::MAX));
+    let mut reader = CertReader::new(alloc, u64::from(u32::MAX), false);
     reader.feed(b"ffcert 2\n")?;
     let mut entries = 0;
     let mut start = 0;

@@ -27,7 +27,7 @@ enum Answer {
 fn judged(alloc: Global, check: &Check, text: &str) -> Answer
     requires { IsValid (judged_check check.now) }
 {
-    let mut reader = CertReader::new(alloc, 1);
+    let mut reader = CertReader::new(alloc, 1, false);
     if reader.feed(text.as_bytes()).is_err() {
         return Answer::None;
     }

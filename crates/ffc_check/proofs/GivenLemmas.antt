@@ -3,7 +3,7 @@ use Rattle.std.proofs.Common.{◌≡◌, ℕ, ◌<◌, ◌≤◌, ◌&&◌, nat_
 use Rattle.std.specs.List.{list_all}
 use Rattle.std.proofs.lemmas.Bool.{lt-ltb, le-ltb}
 use Rattle.ffc_cert.specs.declared.entries.CertLine.{CertLine}
-use Rattle.ffc_cert.specs.declared.entries.CertLine.TheVariants.{Assume, Scheme, Hinted, Lemma, Combine, Chain, Step, Split, Values, Close}
+use Rattle.ffc_cert.specs.declared.entries.CertLine.TheVariants.{Assume, Scheme, Hinted, Lemma, Combine, Bits, Chain, Step, Split, Values, Close}
 use Rattle.ffc_clause.specs.Clauses.{Literal, Clause, plus}
 use Rattle.ffc_clause.specs.Hints.{follows}
 use Rattle.ffc_rules.specs.Schemes.{scheme_clause}
@@ -123,6 +123,7 @@ module _ (c : NodeCheck) (clauses : List Clause) (line : ℕ) (rest : List CertL
   tree_line (Hinted lits hints) a b d e = absurd (d lits hints refl)
   tree_line (Lemma order lits) a b d e = absurd (e order lits refl)
   tree_line (Combine multiples) a b d e = refl
+  tree_line (Bits known chosen polynomial bits) a b d e = refl
   tree_line (Chain known variable steps) a b d e = refl
   tree_line (Step quotient remainder) a b d e = refl
   tree_line (Split known variable zeros) a b d e = refl

@@ -3,7 +3,7 @@ use Rattle.std.proofs.Common.{ℕ, ◌+◌, ◌≤◌, List, [], ◌∷◌, ◌+
 use Rattle.std.specs.List.{AllByRecursion, flat_map}
 use Rattle.ffc_cert.specs.declared.TheConstants.{MAX_BYTES}
 use Rattle.ffc_cert.specs.declared.entries.CertLine.{CertLine}
-use Rattle.ffc_cert.specs.declared.entries.CertLine.TheVariants.{Assume, Scheme, Hinted, Lemma, Combine, Chain, Step, Split, Values, Close}
+use Rattle.ffc_cert.specs.declared.entries.CertLine.TheVariants.{Assume, Scheme, Hinted, Lemma, Combine, Bits, Chain, Step, Split, Values, Close}
 use Rattle.ffc_cert.specs.declared.entries.Entry.TheVariants.{UnsatSteps}
 use Rattle.ffc_cert.specs.Spelling.{number, literal, counted, order_item, line_items, line_text, clauses, entry_text}
 use Rattle.ffc_clause.specs.Clauses.{Literal}
@@ -29,6 +29,7 @@ few_in (Assume k) short = tt
 few_in (Scheme v s i) short = tt
 few_in (Hinted lits hints) short = tt
 few_in (Combine multiples) short = tt
+few_in (Bits known chosen polynomial bits) short = tt
 few_in (Chain known variable steps) short = tt
 few_in (Step quotient remainder) short = tt
 few_in (Split known variable zeros) short = tt

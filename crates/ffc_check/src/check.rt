@@ -16,8 +16,9 @@ use ffc_term::Check;
 use std::alloc::Global;
 
 /// Judges an entry that begins at this line of its certificate. A refutation costs about what its text has to be read, its
-/// products, the square of the lengths that are written for each step of a chain, and once the marks up to its highest
-/// literal; an entry by cases the work of the check, and once the active list.
+/// products, the square of the lengths that are written for each step of a chain, for each choice of a line of bits the terms of
+/// its line and those that are written, and once the marks up to its highest literal; an entry by cases the work of the check, and
+/// once the active list.
 pub fn check_entry(
     alloc: Global,
     check: &Check,

@@ -53,7 +53,7 @@ impl<F: Field> CkPoly<F> {
     }
 
     /// Its terms, in strictly decreasing order of their monomials.
-    pub(crate) fn borrowed(&self) -> Result<Vec<(F, &[Power])>, AllocError>
+    pub fn borrowed(&self) -> Result<Vec<(F, &[Power])>, AllocError>
         ensures terms { IfOk result (λ v. residues F.value v.items ≡ self.now) }
         ensures sorted { IsSorted F.ORDER self.now }
     {

@@ -7,3 +7,5 @@ pub mod CaseLemmas
 pub mod WalkLemmas
 pub mod RangeLemmas
 pub mod FirstLemmas
+pub mod ExtentLemmas
+pub mod BitLemmas

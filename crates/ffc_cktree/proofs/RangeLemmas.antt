@@ -20,7 +20,7 @@ from_zero : (m : Monomial) → AllByRecursion (λ q. 0 ≤ q.0) m
 from_zero [] = tt
 from_zero (q ∷ m) = (omega arith, from_zero m)
 
-terms_from : (ts : Terms) → AllByRecursion IsTerm ts → AreTerms ts
+pub terms_from : (ts : Terms) → AllByRecursion IsTerm ts → AreTerms ts
 terms_from [] are = tt
 terms_from (t ∷ ts) are = (monomial_from 0 t.1 (from_zero t.1) are.0.monomial.counted.each are.0.monomial.increasing, terms_from ts are.1)
 

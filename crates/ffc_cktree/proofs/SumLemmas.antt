@@ -61,7 +61,7 @@ cases_bool false = inr refl
 pub within_test : (limit n : ℕ) → n ≤ limit → not (nat_lt limit n) ≡ true
 within_test limit n h = ap not (le-ltb limit n h)
 
-low_where_greatest : {X : Type 0} (f : X → ℕ) (limit s : ℕ) (xs : List X) → s ≤ limit → not (nat_lt limit (fold (λ a x. max a (f x)) s xs)) ≡ list_all (λ x. not (nat_lt limit (f x))) xs
+pub low_where_greatest : {X : Type 0} (f : X → ℕ) (limit s : ℕ) (xs : List X) → s ≤ limit → not (nat_lt limit (fold (λ a x. max a (f x)) s xs)) ≡ list_all (λ x. not (nat_lt limit (f x))) xs
 low_where_greatest f limit s [] h = within_test limit s h
 low_where_greatest f limit s (x ∷ xs) h =
     elim (cases_bool (nat_lt limit (f x))) [
@@ -73,7 +73,7 @@ low_where_greatest f limit s (x ∷ xs) h =
           ∙ sym (ap (λ b. not b && list_all (λ y. not (nat_lt limit (f y))) xs) low)
     ]
 
-same_tests : {X : Type 0} (p q : X → Bool) (xs : List X) → ((x : X) → p x ≡ q x) → list_all p xs ≡ list_all q xs
+pub same_tests : {X : Type 0} (p q : X → Bool) (xs : List X) → ((x : X) → p x ≡ q x) → list_all p xs ≡ list_all q xs
 same_tests p q [] h = refl
 same_tests p q (x ∷ xs) h = ap₂ (λ a b. a && b) (h x) (same_tests p q xs h)
 

@@ -3,3 +3,4 @@ pub mod Factors
 pub mod Identities
 pub mod Waiting
 pub mod Walking
+pub mod Extents

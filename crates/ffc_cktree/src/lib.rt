@@ -1,8 +1,10 @@
 //! The case trees of lemmas, judged line by line.
 #![tactic(auto)]
 
+mod bits;
 mod cases;
 mod chain;
+mod extent;
 mod lemma;
 mod rows;
 pub mod rules;

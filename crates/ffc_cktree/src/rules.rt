@@ -35,3 +35,6 @@ pub const LIMIT: u8 = 11;
 
 /// What is referred to is there.
 pub const REFERENCE: u8 = 12;
+
+/// A polynomial in chosen variables is 0 at each choice of bits for them that a sum of bits does not exclude.
+pub const BITS: u8 = 13;

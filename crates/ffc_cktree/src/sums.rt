@@ -15,13 +15,13 @@ use ffc_field::Field;
 use std::alloc::{AllocError, Global};
 
 /// How many products of two terms a sum may have.
-const MOST_PRODUCTS: u128 = 4_194_304;
+pub const MOST_PRODUCTS: u128 = 4_194_304;
 
 /// The greatest degree of a written term, and of a sum.
 const MOST_DEGREE: u64 = 1_024;
 
 /// How many terms a sum may have.
-const MOST_TERMS: usize = 131_072;
+pub const MOST_TERMS: usize = 131_072;
 
 /// Whether each multiple is of a line that is there.
 fn are_there<F: Field>(lines: &[CkPoly<F>], multiples: &[Multiple]) -> bool
@@ -66,7 +66,7 @@ fn is_low(powers: &[Power]) -> bool
 }
 
 /// Whether all written terms are within the limit on degrees.
-fn are_low(terms: &[Term]) -> bool
+pub fn are_low(terms: &[Term]) -> bool
     ensures { result ≡ are_low terms.now }
 {
     for term in terms {
@@ -114,7 +114,7 @@ fn all_below(order: u64, multiples: &[Multiple]) -> bool
 }
 
 /// Adds the products of written terms and a polynomial.
-fn with_multiple<F: Field>(
+pub fn with_multiple<F: Field>(
     sum: CkSum<F>,
     terms: &[Term],
     line: &CkPoly<F>,

@@ -13,12 +13,13 @@ ghost use Rattle.ffc_cktree.specs.Factors.{factors_of};
 ghost use Rattle.ffc_cktree.specs.Waiting.{branches_of, AreStacked};
 ghost use Rattle.ffc_cktree.specs.Walking.{power_of, IsShort, is_closed, stage_read, Leads, tree_stop};
 
+use crate::bits::bits;
 use crate::cases::{Case, push_cases, root_line, split, values};
 use crate::chain::{Factor, Running, begin, fermat, step};
 use crate::rules;
 use crate::stop::{BrokenLine, LineStop, TreeStop};
 use crate::sums::combine;
-use ffc_cert::{CertLine, Multiple};
+use ffc_cert::{CertLine, Multiple, Term};
 use ffc_ckpoly::CkPoly;
 use ffc_field::Field;
 use std::alloc::{AllocError, Global};
@@ -213,6 +214,32 @@ fn add_sum<F: Field>(
     Ok(next)
 }
 
+/// Adds the polynomial of a line of bits to the present branch.
+fn add_bits<F: Field>(
+    alloc: Global,
+    lines: Vec<CkPoly<F>>,
+    waiting: Vec<Case>,
+    k: u32,
+    chosen: &[u32],
+    written: &[Term],
+    numbers: &[u32],
+) -> Result<Walk<F>, LineStop>
+    requires lines { AreLines F.ORDER lines.items }
+    requires stacked { AreStacked F.ORDER (length lines.items) (reverse waiting.items) }
+    requires terms_are { AreTerms written.now }
+    ensures kept { IfOk result
+        (λ w. Leads F.ORDER
+        (branch_read limits F.ORDER lines.items (branches_of F.ORDER lines.items (reverse waiting.items))
+        (line.Bits k chosen.now written.now numbers.now)) w) }
+    ensures broken { (rule : ℕ) → result ≡ Err (LineStop.Rule rule) → branch_read limits F.ORDER lines.items
+        (branches_of F.ORDER lines.items (reverse waiting.items)) (line.Bits k chosen.now written.now numbers.now)
+        ≡ Err rule }
+{
+    let line = bits(alloc, lines.as_slice(), k, chosen, written, numbers)?;
+    let next = with_line(lines, waiting, line)?;
+    Ok(next)
+}
+
 /// One line of the present branch.
 fn read_branch<F: Field>(
     alloc: Global,
@@ -231,6 +258,15 @@ fn read_branch<F: Field>(
 {
     match line {
         CertLine::Combine(multiples) => add_sum(alloc, lines, waiting, multiples.as_slice()),
+        CertLine::Bits(k, chosen, written, numbers) => add_bits(
+            alloc,
+            lines,
+            waiting,
+            *k,
+            chosen.as_slice(),
+            written.as_slice(),
+            numbers.as_slice(),
+        ),
         CertLine::Chain(k, x, steps) => begin_chain(alloc, lines, waiting, *k, *x, *steps),
         CertLine::Split(k, x, roots) => {
             split(alloc, lines.as_slice(), *k, *x, roots.as_slice())?;

@@ -1,4 +1,4 @@
--- Trees that close are trees of the grammar, and none of their lines is a clause.
+-- Trees that close are trees of the grammar.
 use Rattle.std.proofs.Common.{◌≡◌, ℕ, Bool, true, false, List, [], ◌∷◌, ◌++◌, length, map, None, Some, refl, sym, ap, ◌∙◌, subst, arith}
 use Rattle.std.specs.List.{AllByRecursion, range_with_len}
 use Rattle.std.proofs.lemmas.Bool.{false≢true}
@@ -6,9 +6,9 @@ use Rattle.std.proofs.lemmas.List.{append-nil, length-map}
 use Rattle.std.proofs.lemmas.List.FromFn.{length-range_with_len}
 use Rattle.std.proofs.lemmas.List.Elements.{recursion_from_All}
 use Rattle.ffc_cert.specs.declared.entries.CertLine.{CertLine}
-use Rattle.ffc_cert.specs.declared.entries.CertLine.TheVariants.{Assume, Scheme, Hinted, Lemma, Combine, Chain, Step, Split, Values, Close}
+use Rattle.ffc_cert.specs.declared.entries.CertLine.TheVariants.{Assume, Scheme, Hinted, Lemma, Combine, Bits, Chain, Step, Split, Values, Close}
 use Rattle.ffc_cert.specs.Grammar.{IsTree, AreTrees, AreSteps}
-use Rattle.ffc_cert.specs.Grammar.IsTree.{combine as combine_tree, chain as chain_tree, split as split_tree, values as values_tree, close as close_tree}
+use Rattle.ffc_cert.specs.Grammar.IsTree.{combine as combine_tree, with_bits as bits_tree, chain as chain_tree, split as split_tree, values as values_tree, close as close_tree}
 use Rattle.ffc_cert.specs.Grammar.AreTrees.{no_trees, tree as first_tree}
 use Rattle.ffc_cert.specs.Grammar.AreSteps.{no_steps, step}
 use Rattle.ffc_cert.specs.Spelling.{is_clause}
@@ -18,7 +18,7 @@ use Rattle.ffc_uni.specs.Univariate.{Coefficients, indeterminate}
 use Rattle.ffc_uni.specs.Chains.{Pair, IsChainFrom, pairs_over, digits_of}
 use Rattle.ffc_trees.specs.TreeLines.{Limits, case_lines, root_line}
 use Rattle.ffc_trees.specs.Closing.{written_step, Closes, CloseAll}
-use Rattle.ffc_trees.specs.Closing.Closes.{combine, chain, split, values, close}
+use Rattle.ffc_trees.specs.Closing.Closes.{combine, bits, chain, split, values, close}
 use Rattle.ffc_trees.specs.Closing.CloseAll.{no_cases, each}
 use Rattle.ffc_trees.specs.Laws.{IsTakenOff}
 use Rattle.ffc_trees.proofs.RuleLemmas.{chain_from, split_from, values_from}
@@ -46,6 +46,7 @@ module _ (l : Limits) (p : ℕ) where
   mutual
     closed_is_tree : (lines : List Terms) (all rest : List CertLine) → Closes l p lines all rest → IsTree all rest
     closed_is_tree lines _ rest (combine {tree = later} multiples line h more) = combine_tree multiples (closed_is_tree (lines ++ line ∷ []) later rest more)
+    closed_is_tree lines _ rest (bits {tree = later} sum chosen written numbers line h more) = bits_tree sum chosen written numbers (closed_is_tree (lines ++ line ∷ []) later rest more)
     closed_is_tree lines _ rest (chain {tree = later} {after = after} k x count f steps h whole more) =
         let long : length steps ≡ count = chain_is_long p f indeterminate (digits_of p) steps whole.chain ∙ sym (chain_from p lines k x count f h).long in
         chain_tree k x count (subst (λ n. AreSteps n later after) long (subst (λ ls. AreSteps (length steps) ls after) (sym whole.front) (steps_are steps after))) (closed_is_tree _ after rest more)
@@ -64,30 +65,3 @@ module _ (l : Limits) (p : ℕ) where
 
   pub tree_by_closing : (lines : List Terms) (all rest : List CertLine) → Closes l p lines all rest → IsTree all rest
   tree_by_closing lines all rest is = closed_is_tree lines all rest is
-
-  -- ---- the lines of a tree
-
-  pub no_clause : (lines : List Terms) (all : List CertLine) → Closes l p lines (all ++ []) [] → AllByRecursion (λ line. is_clause line ≡ false) all
-  no_clause lines all is =
-      let taken : IsTakenOff (all ++ []) [] = tree_taken l p lines (all ++ []) [] (closes-tree_read l p lines (all ++ []) [] is) in
-      let same : taken.front ≡ all = sym (append-nil taken.front) ∙ sym taken.parts ∙ append-nil all in
-      subst (λ ls. AllByRecursion (λ line. is_clause line ≡ false) ls) same (recursion_from_All (λ line. is_clause line ≡ false) taken.front taken.in_tree)
-
-one_fits : (line : CertLine) → is_clause line ≡ false → LineFitsVersion 2 line
-unfolding is_clause
-one_fits (Assume k) is = tt
-one_fits (Scheme node scheme index) is = tt
-one_fits (Hinted lits hints) is = tt
-one_fits (Lemma None lits) is = absurd (false≢true (sym is))
-one_fits (Lemma (Some order) lits) is = refl
-one_fits (Combine multiples) is = tt
-one_fits (Chain line variable steps) is = tt
-one_fits (Step quotient remainder) is = tt
-one_fits (Split line variable zeros) is = tt
-one_fits (Values variable trees) is = tt
-one_fits Close is = tt
-
--- a line of a tree fits each version
-pub no_clause_fits : (lines : List CertLine) → AllByRecursion (λ line. is_clause line ≡ false) lines → AllByRecursion (LineFitsVersion 2) lines
-no_clause_fits [] all = tt
-no_clause_fits (line ∷ lines) all = (one_fits line all.0, no_clause_fits lines all.1)

@@ -5,6 +5,7 @@ pub mod Closing
 pub mod Grammar
 pub mod Lines
 pub mod OneVariable
+pub mod Plain
 pub mod Polynomials
 pub mod Readable
 pub mod Schemes

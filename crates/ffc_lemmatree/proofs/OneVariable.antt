@@ -31,6 +31,8 @@ use Rattle.ffc_lemmatree.specs.declared.endings.Ending.TheVariants as ending
 use Rattle.ffc_lemmatree.specs.Trees.{IsRefutedByTree}
 use Rattle.ffc_lemmatree.specs.Roots.{IsPolynomialOf, ArePolynomialsOf, LeadsTo, AreCases, EndsIn, IsRefutedByRoots}
 use Rattle.ffc_lemmatree.specs.Roots.LeadsTo.{nothing, next as next_step}
+use Rattle.ffc_cert.specs.WellFormed.{LineFitsVersion}
+use Rattle.ffc_lemmatree.proofs.Plain.{single_plain}
 use Rattle.ffc_lemmatree.specs.Written.{euclid_lines, last_divisor, case_numbers, ending_lines, single_tree, IsNormalStep, IsNormalEnding, IsLowStep, IsLowCase, IsLowEnding, IsLow}
 use Rattle.ffc_lemmatree.proofs.Grammar.{chain_is_long}
 use Rattle.ffc_lemmatree.proofs.Lines.{IsLineIn, IsAt}
@@ -260,6 +262,7 @@ module _ {F : Type 0} (c : NodeCheck) (p : ℕ) (reasons : List Reason) (nodes x
       lemma = is.lemma;
       closes = closes;
       ranges = All-from_recursion IsLine (single_tree p x nodes (length equations) (length disequations) start steps end) bounded.ranges;
+      plain = All-from_recursion (LineFitsVersion 2) (single_tree p x nodes (length equations) (length disequations) start steps end) (single_plain p x nodes (length equations) (length disequations) start steps end);
       short = bounded.short;
     }
 

@@ -1,5 +1,5 @@
 -- The lines of a refutation by a tree are those of an entry of version 2.
-use Rattle.std.proofs.Common.{◌≡◌, ℕ, zero, suc, ◌+◌, ◌^◌, ◌<◌, ◌≤◌, List, [], ◌∷◌, ◌++◌, length, map, Some, codes, refl, ap, ◌∙◌, arith, length-append}
+use Rattle.std.proofs.Common.{inl, ◌≡◌, ℕ, zero, suc, ◌+◌, ◌^◌, ◌<◌, ◌≤◌, List, [], ◌∷◌, ◌++◌, length, map, Some, codes, refl, ap, ◌∙◌, arith, length-append}
 use Rattle.std.specs.List.{AllByRecursion, range_with_len, flat_map}
 use Rattle.std.proofs.lemmas.List.{append-nil, length-map}
 use Rattle.std.proofs.lemmas.List.Concat.{flat_map-append}
@@ -100,5 +100,5 @@ tree_readable rs p lits tree few few_lits wide all low numbered is ranges fits s
     (reasons_are_clauses rs rest (lemma (Some p) lits (is last) (hinted [] (range_with_len 0 n) no_clauses)))
     (all_append IsLine (map line_of rs) rest (reasons_are_lines rs all)
     ((wide, record { few = omega arith; each = literals_in_range lits numbered }), all_append IsLine tree last ranges (empty_is_line n (omega arith), tt)))
-    (all_append (LineFitsVersion 2) (map line_of rs) rest (reasons_fit rs) (refl, all_append (LineFitsVersion 2) tree last fits (tt, tt)))
+    (all_append (LineFitsVersion 2) (map line_of rs) rest (reasons_fit rs) (inl refl, all_append (LineFitsVersion 2) tree last fits (tt, tt)))
     (omega arith)

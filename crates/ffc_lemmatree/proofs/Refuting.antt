@@ -29,7 +29,8 @@ use Rattle.ffc_refutation.specs.Written.{empty_by}
 use Rattle.ffc_refutation.proofs.Forced.{clauses_of, forced_contradict, forced_given, length-given, none_open, ends_with_empty, reasons_give, ends_gives}
 use Rattle.ffc_lemmatree.specs.Trees.{IsRefutedByTree}
 use Rattle.ffc_lemmatree.specs.Written.{refutation_lines}
-use Rattle.ffc_lemmatree.proofs.Grammar.{tree_by_closing, no_clause, no_clause_fits}
+use Rattle.ffc_cert.specs.WellFormed.{LineFitsVersion}
+use Rattle.ffc_lemmatree.proofs.Grammar.{tree_by_closing}
 use Rattle.ffc_lemmatree.proofs.Readable.{tree_readable}
 use Rattle.ffc_lemmatree.proofs.Schemes.{forcing_is_low}
 
@@ -75,5 +76,5 @@ module _ (c : NodeCheck) (reasons : List Reason) (p : ℕ) (lits : List Literal)
       tree_readable reasons p lits tree few few_lits (order_below p (order_good p is.lemma.order)) lines (forcing_is_low c is.forces) literals
       (λ rest. tree_by_closing tree_limits p (first_lines c.nodes p lits) (tree ++ rest) rest (is.closes rest))
       (recursion_from_All IsLine tree is.ranges)
-      (no_clause_fits tree (no_clause tree_limits p (first_lines c.nodes p lits) tree (is.closes [])))
+      (recursion_from_All (LineFitsVersion 2) tree is.plain)
       is.short

@@ -176,5 +176,5 @@ combination_readable rs p lits ss few few_lits few_terms wide all numbered each 
     (reasons_are_clauses rs rest (lemma (Some p) lits (sums_are_tree last ms (length lits) []) (hinted [] (range_with_len 0 n) no_clauses)))
     (all_append IsLine (map line_of rs) rest (reasons_are_lines rs all)
     ((wide, record { few = omega arith; each = literals_in_range lits numbered }), all_append IsLine sums last (sums_in_range ms (length lits) [] (omega arith) (omega arith) tt each) (empty_is_line n (omega arith), tt)))
-    (all_append (LineFitsVersion 2) (map line_of rs) rest (reasons_fit rs) (refl, all_append (LineFitsVersion 2) sums last (sums_fit ms (length lits) []) (tt, tt)))
+    (all_append (LineFitsVersion 2) (map line_of rs) rest (reasons_fit rs) (inl refl, all_append (LineFitsVersion 2) sums last (sums_fit ms (length lits) []) (tt, tt)))
     (omega arith) (omega arith)

@@ -1,3 +1,4 @@
+pub mod Plain
 pub mod Division
 pub mod Steps
 pub mod Adding

@@ -39,6 +39,8 @@ use Rattle.ffc_lemmatree.proofs.Polynomials.{length-product}
 use Rattle.ffc_macaulay.proofs.CountLemmas.{length-monomials, low_monomials, grows_degree, grows_variables}
 use Rattle.ffc_values.specs.declared.dividing.Known.{Known}
 use Rattle.ffc_values.specs.Values.{IsLow, AreKnown, IsRefutedByValues}
+use Rattle.ffc_cert.specs.WellFormed.{LineFitsVersion}
+use Rattle.ffc_values.proofs.Plain.{values_plain}
 use Rattle.ffc_values.specs.Written.{sums_lines, known_lines, knowns_of, inverse_of, last_summands, values_tree}
 use Rattle.ffc_values.proofs.Counts.{IsFew, bytes_are_few, variables_are_few, powers_are_few}
 use Rattle.ffc_values.proofs.Division.{IsDivisible, equality_left, disequality_left, behind}
@@ -487,5 +489,6 @@ module _ (c : NodeCheck) (reasons : List Reason) (p : ℕ) (lits : List Literal)
         lemma = is.lemma;
         closes = good.closes;
         ranges = All-from_recursion IsLine (values_tree p first xs ds line (inverse_of nodes line b) sides) good.texts.ranges;
+        plain = All-from_recursion (LineFitsVersion 2) (values_tree p first xs ds line (inverse_of nodes line b) sides) (values_plain p first xs ds line (inverse_of nodes line b) sides);
         short = good.texts.short;
       })

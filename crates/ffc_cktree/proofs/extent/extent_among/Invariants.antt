@@ -1,0 +1,15 @@
+use Rattle.std.proofs.Common.{◌≡◌, ◌+◌, ◌*◌, ◌^◌, ◌≤◌, drop}
+use Rattle.ffc_trees.specs.BitLines.{sum_above, sum_below, terms_among}
+use Rattle.ffc_ckpoly.specs.Sorted.{residues}
+use Rattle.ffc_cktree.proofs.extent.extent_among.Given as goal
+
+abbrev pub invariant-loop-term : goal.invariant-loop-term
+invariant-loop-term g l =
+    let p = g.F.Field.ORDER in
+    let value = g.F.Field.value in
+    record {
+      above : l.extent.above + sum_above p (terms_among l.xs (residues value (drop l.term-index l.terms))) ≡ sum_above p (terms_among l.xs (residues value l.terms));
+      below : l.extent.below + sum_below p (terms_among l.xs (residues value (drop l.term-index l.terms))) ≡ sum_below p (terms_among l.xs (residues value l.terms));
+      above_small : l.extent.above ≤ 2 ^ 63 * l.term-index;
+      below_small : l.extent.below ≤ 2 ^ 63 * l.term-index;
+    }
