@@ -106,5 +106,5 @@ text_front (suc n) wanted p bytes more few = elim (either (ltb (position_or_len 
       line_front wanted p bytes more lt (λ q. text_front n wanted q (after_first is_line_end bytes) more (after_shorter n bytes few lt))
 ]
 
-pub reading_front : (wanted : ℕ) (text more : List ℕ) → IsFront (reading_of wanted text) (reading_of wanted (text ++ more))
-reading_front wanted text more = text_front (length text) wanted origin text more (omega arith)
+pub reading_front : (bits : Bool) (wanted : ℕ) (text more : List ℕ) → IsFront (reading_of bits wanted text) (reading_of bits wanted (text ++ more))
+reading_front bits wanted text more = text_front (length text) wanted (origin bits) text more (omega arith)

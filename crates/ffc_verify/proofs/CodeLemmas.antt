@@ -1,5 +1,5 @@
 -- The code of a certificate that ends too early is 4, and no other fault has it.
-use Rattle.std.proofs.Common.{◌≡◌, ◌↔◌, ℕ, ◌+◌, ◌==◌, nat_lt, Bool, true, false, cond, List, [], ◌∷◌, length, take, Option, Some, None, Result, Ok, Err, refl, sym, ◌∙◌, subst, codes}
+use Rattle.std.proofs.Common.{◌≡◌, ◌↔◌, ℕ, ◌+◌, ◌==◌, nat_lt, Bool, ◌&&◌, true, false, cond, List, [], ◌∷◌, length, take, Option, Some, None, Result, Ok, Err, refl, sym, ◌∙◌, subst, codes}
 use Rattle.std.specs.Result.{IfErr}
 use Rattle.std.proofs.lemmas.Bool.{false≢true, eq-eqb}
 use Rattle.std.proofs.lemmas.Option.{none-some, same_Some}
@@ -75,7 +75,8 @@ line_other a size p x = either (is_whole (awaited_after x a)) _ _ tt tt
 
 next_other : (place : Place) (wanted : ℕ) (p : Progress) (line : List ℕ) → HasOther (next_in place wanted p line)
 unfolding HasOther next_in header_line opening_line assignment_line refutation_line
-next_other Header wanted p line = either (bytes_eq line (codes "ffcert 1")) _ _ tt (either (bytes_eq line (codes "ffcert 2")) _ _ tt refl)
+next_other Header wanted p line =
+    either (bytes_eq line (codes "ffcert 1")) _ _ tt (either (bytes_eq line (codes "ffcert 2")) _ _ tt (either (p.bits && bytes_eq line (codes "ffcert 3")) _ _ tt refl))
 next_other Between wanted p line = either (p.complete == wanted) _ _ refl (after_other (limited line p (opening_at line)) _ (limited_other line p (opening_at line)) (begun_other (length line + 1) p))
 next_other (Assignment left) wanted p line = after_other (limited line p (value_at line)) _ (limited_other line p (value_at line)) (value_other left (length line + 1) p)
 next_other (Refutation awaited) wanted p line = after_other (limited line p (line_at p.version awaited line)) _ (limited_other line p (line_at p.version awaited line)) (line_other awaited (length line + 1) p)
@@ -121,12 +122,12 @@ read_code wanted p part (next ∷ parts) = by_next (next_at wanted p part) (line
     by_next (Move q) other later = later q
     by_next (Give entry q) other later = later q
 
-end_has_its_code : (wanted : ℕ) (text : List ℕ) → HasItsCode (reading_of wanted text).end
-end_has_its_code wanted text = by_parts (slice_split is_line_end text)
+end_has_its_code : (bits : Bool) (wanted : ℕ) (text : List ℕ) → HasItsCode (reading_of bits wanted text).end
+end_has_its_code bits wanted text = by_parts (slice_split is_line_end text)
   where
-    by_parts : (parts : List (List ℕ)) → HasItsCode (read_parts wanted origin parts).end
-    by_parts [] = end_code wanted origin []
-    by_parts (part ∷ parts) = read_code wanted origin part parts
+    by_parts : (parts : List (List ℕ)) → HasItsCode (read_parts wanted (origin bits) parts).end
+    by_parts [] = end_code wanted (origin bits) []
+    by_parts (part ∷ parts) = read_code wanted (origin bits) part parts
 
 -- The judgement where the text ends here
 
@@ -164,11 +165,11 @@ unsettled checks r code h = by_broken (first_broken limits checks r.entries) ref
     by_broken (Some j) is on = absurd (broken_ends limits checks r.entries j is on)
     by_broken None is on = (is, (end_goes_on r.entries r.end code).1 on)
 
-pub not_enough_goes_on : (script front : List ℕ) → IsNotEnough script front ↔ MayGoOn (judge script front)
-not_enough_goes_on script front =
+pub not_enough_goes_on : (bits : Bool) (script front : List ℕ) → IsNotEnough bits script front ↔ MayGoOn (judge bits script front)
+not_enough_goes_on bits script front =
     let checks = checks_in script in
-    let r = reading_of (length checks) front in
-    let code = end_has_its_code (length checks) front in (
+    let r = reading_of bits (length checks) front in
+    let code = end_has_its_code bits (length checks) front in (
       (λ n. goes_on checks r code n.rules n.form),
       (λ h. let both = unsettled checks r code h in record { form = both.1; rules = both.0 }),
     )

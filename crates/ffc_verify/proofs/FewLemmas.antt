@@ -1,5 +1,5 @@
 -- A certificate gives no more entries than are wanted.
-use Rattle.std.proofs.Common.{◌≡◌, ℕ, ◌+◌, ◌==◌, ◌<◌, ◌≤◌, Bool, true, false, cond, List, [], ◌∷◌, length, take, Result, Ok, Err, refl, arith, codes}
+use Rattle.std.proofs.Common.{◌≡◌, ℕ, ◌+◌, ◌==◌, ◌<◌, ◌≤◌, Bool, ◌&&◌, true, false, cond, List, [], ◌∷◌, length, take, Result, Ok, Err, refl, arith, codes}
 use Rattle.std.proofs.lemmas.Bool.{false≢true}
 use Rattle.std.proofs.lemmas.Bool.Decides.{nat_tests}
 use Rattle.std.specs.Str.{bytes_eq}
@@ -73,7 +73,8 @@ next_leads : (place : Place) (wanted : ℕ) (p : Progress) (line : List ℕ) →
 unfolding Leads next_in header_line assignment_line refutation_line
 next_leads Header wanted p line few h =
     let named : (version : ℕ) → Fits wanted (record p { version = version; place = Between; line = p.line + 1; first_line = p.line + 1 }) = λ version. record { few = few; awaited = λ e. absurd (false≢true e) } in
-    either wanted p (bytes_eq line (codes "ffcert 1")) _ _ (refl, named 1) (either wanted p (bytes_eq line (codes "ffcert 2")) _ _ (refl, named 2) tt)
+    either wanted p (bytes_eq line (codes "ffcert 1")) _ _ (refl, named 1)
+    (either wanted p (bytes_eq line (codes "ffcert 2")) _ _ (refl, named 2) (either wanted p (p.bits && bytes_eq line (codes "ffcert 3")) _ _ (refl, named 3) tt))
 next_leads Between wanted p line few h = between_leads wanted p line (p.complete == wanted) refl few
 next_leads (Assignment left) wanted p line few h = after_leads wanted p (limited line p (value_at line)) _ (value_leads wanted p (h refl) left (length line + 1))
 next_leads (Refutation awaited) wanted p line few h = after_leads wanted p (limited line p (line_at p.version awaited line)) _ (line_leads wanted p (h refl) awaited (length line + 1))
@@ -92,13 +93,13 @@ read_few wanted p part (next ∷ parts) fits = by_next (next_at wanted p part) l
     by_next (Move q) counts later = let e = later q counts.1 in omega (arith, counts.0, e)
     by_next (Give entry q) counts later = let e = later q counts.1 in omega (arith, counts.0, e)
 
-pub entries_few : (wanted : ℕ) (text : List ℕ) → length (reading_of wanted text).entries ≤ wanted
+pub entries_few : (bits : Bool) (wanted : ℕ) (text : List ℕ) → length (reading_of bits wanted text).entries ≤ wanted
 unfolding read
-entries_few wanted text = by_parts (slice_split is_line_end text)
+entries_few bits wanted text = by_parts (slice_split is_line_end text)
   where
-    first : Fits wanted origin
+    first : Fits wanted (origin bits)
     first = record { few = omega arith; awaited = λ e. absurd (false≢true e) }
 
-    by_parts : (parts : List (List ℕ)) → length (read_parts wanted origin parts).entries ≤ wanted
+    by_parts : (parts : List (List ℕ)) → length (read_parts wanted (origin bits) parts).entries ≤ wanted
     by_parts [] = omega arith
-    by_parts (part ∷ parts) = let k = read_few wanted origin part parts first in omega arith
+    by_parts (part ∷ parts) = let k = read_few wanted (origin bits) part parts first in omega arith

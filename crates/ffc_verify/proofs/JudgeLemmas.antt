@@ -36,8 +36,8 @@ inside_next d c a b e lt f = omega arith
 all_next : (u s g d : ℕ) → u ≡ s + 1 → s ≡ g → d ≡ g + 1 → u ≡ d
 all_next u s g d a b e = omega arith
 
-abbrev pub E : ℕ → List ℕ → List Numbered
-E wanted text = (reading_of wanted text).entries
+abbrev pub E : Bool → ℕ → List ℕ → List Numbered
+E bits wanted text = (reading_of bits wanted text).entries
 
 pub no_entry : (es : List Numbered) (n : ℕ) → slice_get es n ≡ None → length es ≤ n
 no_entry [] n e = omega arith
@@ -71,61 +71,62 @@ judged_end checks r e = by_none (first_broken limits checks r.entries) (end_judg
 
 -- Of a text that went on, where the entries of the first checks break no rule.
 
-module _ (w : ℕ) (cs : List NodeCheck) (old new more : List ℕ) (grows : new ≡ old ++ more) (n : ℕ) (within : n ≤ length (E w old)) where
-  pub first_stay : take n (E w new) ≡ take n (E w old)
+module _ (v : Bool) (w : ℕ) (cs : List NodeCheck) (old new more : List ℕ) (grows : new ≡ old ++ more) (n : ℕ) (within : n ≤ length (E v w old)) where
+  pub first_stay : take n (E v w new) ≡ take n (E v w old)
   first_stay =
-      let front = reading_front w old more in
-      ap (λ t. take n (E w t)) grows ∙ ap (take n) front.entries ∙ take-append-le n (E w old) front.rest within
+      let front = reading_front v w old more in
+      ap (λ t. take n (E v w t)) grows ∙ ap (take n) front.entries ∙ take-append-le n (E v w old) front.rest within
 
-  pub given_more : (e : Numbered) → slice_get (E w new) n ≡ Some e → take (n + 1) (E w new) ≡ take n (E w old) ++ e ∷ []
-  given_more e at = entry_at (E w new) n e at ∙ ap (λ xs. xs ++ e ∷ []) first_stay
+  pub given_more : (e : Numbered) → slice_get (E v w new) n ≡ Some e → take (n + 1) (E v w new) ≡ take n (E v w old) ++ e ∷ []
+  given_more e at = entry_at (E v w new) n e at ∙ ap (λ xs. xs ++ e ∷ []) first_stay
 
-  pub within_stays : n ≤ length (E w new)
+  pub within_stays : n ≤ length (E v w new)
   within_stays =
-      let front = reading_front w old more in
-      let same : length (E w new) ≡ length (E w old ++ front.rest) = ap (λ t. length (E w t)) grows ∙ ap length front.entries in
-      grown_by n (length (E w old)) (length front.rest) (length (E w new)) within (same ∙ length-append (E w old) front.rest)
+      let front = reading_front v w old more in
+      let same : length (E v w new) ≡ length (E v w old ++ front.rest) = ap (λ t. length (E v w t)) grows ∙ ap length front.entries in
+      grown_by n (length (E v w old)) (length front.rest) (length (E v w new)) within (same ∙ length-append (E v w old) front.rest)
 
-  module _ (long : length cs ≡ n) (kept : first_broken limits cs (take n (E w old)) ≡ None) where
-    as_long : length cs ≡ length (take n (E w old))
-    as_long = long ∙ sym (length-take-le n (E w old) within)
+  module _ (long : length cs ≡ n) (kept : first_broken limits cs (take n (E v w old)) ≡ None) where
+    as_long : length cs ≡ length (take n (E v w old))
+    as_long = long ∙ sym (length-take-le n (E v w old) within)
 
-    pub rule_refused : (W rest : List ℕ) → W ≡ new ++ rest → (c : NodeCheck) (ds : List NodeCheck) (e : Numbered) (b : Broken) → slice_get (E w new) n ≡ Some e
-        → entry_fault_within limits c e.entry e.first_line ≡ Some b → judgement_of limits (cs ++ c ∷ ds) (reading_of w W) ≡ Refused e.number b.line (Rule b.rule)
+    pub rule_refused : (W rest : List ℕ) → W ≡ new ++ rest → (c : NodeCheck) (ds : List NodeCheck) (e : Numbered) (b : Broken) → slice_get (E v w new) n ≡ Some e
+        → entry_fault_within limits c e.entry e.first_line ≡ Some b → judgement_of limits (cs ++ c ∷ ds) (reading_of v w W) ≡ Refused e.number b.line (Rule b.rule)
     rule_refused W rest whole c ds e b at is =
-        let front = reading_front w new rest in
-        let fs = drop (n + 1) (E w new) ++ front.rest in
-        let all : E w W ≡ take n (E w old) ++ e ∷ fs =
-        ap (E w) whole ∙ front.entries ∙ ap (λ es. es ++ front.rest) (split_at (E w new) n e at) ∙ append_assoc (take n (E w new)) (e ∷ drop (n + 1) (E w new)) front.rest ∙ ap (λ es. es ++ e ∷ fs) first_stay in
-        judged_broken (cs ++ c ∷ ds) (reading_of w W) (Refused e.number b.line (Rule b.rule))
-        (ap (first_broken limits (cs ++ c ∷ ds)) all ∙ broken_there limits cs c ds (take n (E w old)) e fs b as_long kept is)
+        let front = reading_front v w new rest in
+        let fs = drop (n + 1) (E v w new) ++ front.rest in
+        let all : E v w W ≡ take n (E v w old) ++ e ∷ fs =
+        ap (E v w) whole ∙ front.entries ∙ ap (λ es. es ++ front.rest) (split_at (E v w new) n e at) ∙ append_assoc (take n (E v w new)) (e ∷ drop (n + 1) (E v w new)) front.rest ∙ ap (λ es. es ++ e ∷ fs) first_stay in
+        judged_broken (cs ++ c ∷ ds) (reading_of v w W) (Refused e.number b.line (Rule b.rule))
+        (ap (first_broken limits (cs ++ c ∷ ds)) all ∙ broken_there limits cs c ds (take n (E v w old)) e fs b as_long kept is)
 
-    module _ (none : slice_get (E w new) n ≡ None) where
-      all_here : E w new ≡ take n (E w old)
-      all_here = sym (take_all n (E w new) (no_entry (E w new) n none)) ∙ first_stay
+    module _ (none : slice_get (E v w new) n ≡ None) where
+      all_here : E v w new ≡ take n (E v w old)
+      all_here = sym (take_all n (E v w new) (no_entry (E v w new) n none)) ∙ first_stay
 
-      pub none_broken : (ds : List NodeCheck) → first_broken limits (cs ++ ds) (E w new) ≡ None
-      none_broken ds = ap (first_broken limits (cs ++ ds)) all_here ∙ broken_none limits cs ds (take n (E w old)) as_long kept
+      pub none_broken : (ds : List NodeCheck) → first_broken limits (cs ++ ds) (E v w new) ≡ None
+      none_broken ds = ap (first_broken limits (cs ++ ds)) all_here ∙ broken_none limits cs ds (take n (E v w old)) as_long kept
 
-      pub form_refused : (W : List ℕ) (ds : List NodeCheck) (f : CertFault) → reading_of w W ≡ reading_of w new → ((reading_of w new).end ≡ Stopped f) ⊎ ((reading_of w new).end ≡ Open f)
-          → judgement_of limits (cs ++ ds) (reading_of w W) ≡ refused_for f
+      pub form_refused : (W : List ℕ) (ds : List NodeCheck) (f : CertFault) → reading_of v w W ≡ reading_of v w new → ((reading_of v w new).end ≡ Stopped f) ⊎ ((reading_of v w new).end ≡ Open f)
+          → judgement_of limits (cs ++ ds) (reading_of v w W) ≡ refused_for f
       form_refused W ds f same end =
-          ap (judgement_of limits (cs ++ ds)) same ∙ judged_end (cs ++ ds) (reading_of w new) (none_broken ds)
-          ∙ (elim end [ inl h ↦ ap (end_judgement (E w new)) h | inr h ↦ ap (end_judgement (E w new)) h ])
+          ap (judgement_of limits (cs ++ ds)) same ∙ judged_end (cs ++ ds) (reading_of v w new) (none_broken ds)
+          ∙ (elim end [ inl h ↦ ap (end_judgement (E v w new)) h | inr h ↦ ap (end_judgement (E v w new)) h ])
 
-      pub accepted_here : (W : List ℕ) → (reading_of w new).end ≡ Complete → W ≡ new → (judgement_of limits cs (reading_of w W) ≡ Accepted (counts_of (take n (E w old)))) × (E w W ≡ take n (E w old))
+      pub accepted_here : (W : List ℕ) → (reading_of v w new).end ≡ Complete → W ≡ new → (judgement_of limits cs (reading_of v w W) ≡ Accepted (counts_of (take n (E v w old)))) × (E v w W ≡ take n (E v w old))
       accepted_here W end whole =
-          let none_left : first_broken limits cs (E w new) ≡ None = ap (λ xs. first_broken limits xs (E w new)) (sym (append-nil cs)) ∙ none_broken [] in (
-            ap (λ t. judgement_of limits cs (reading_of w t)) whole ∙ judged_end cs (reading_of w new) none_left ∙ ap (end_judgement (E w new)) end ∙ ap (λ es. Accepted (counts_of es)) all_here,
-            ap (E w) whole ∙ all_here,
+          let none_left : first_broken limits cs (E v w new) ≡ None = ap (λ xs. first_broken limits xs (E v w new)) (sym (append-nil cs)) ∙ none_broken [] in (
+            ap (λ t. judgement_of limits cs (reading_of v w t)) whole ∙ judged_end cs (reading_of v w new) none_left ∙ ap (end_judgement (E v w new)) end ∙ ap (λ es. Accepted (counts_of es)) all_here,
+            ap (E v w) whole ∙ all_here,
           )
 
 -- What is known between two checks
 
-pub record IsUnderway (script : List ℕ) (checks : ℕ) (cores : Bool) (left : Option (List ℕ)) (p : Progress) (c : Certificate) (now : Option (List ℕ)) (t : Tally) : Type 0 where
+pub record IsUnderway (script : List ℕ) (checks : ℕ) (bits cores : Bool) (left : Option (List ℕ)) (p : Progress) (c : Certificate) (now : Option (List ℕ)) (t : Tally) : Type 0 where
   pub text : p.text ≡ script
   pub over : p.over ≡ false
   pub wanted : c.wanted ≡ checks
+  pub version : c.bits ≡ bits
   pub judged : AreJudged cores (table_checks (steps_of p)) c t
   pub moves : MovesOn [] left c.text now
 
@@ -136,17 +137,18 @@ no_cores : (cores : Bool) → [] ≡ cores_text cores [] []
 no_cores true = refl
 no_cores false = refl
 
-pub underway_first : (script : List ℕ) (checks : ℕ) (cores : Bool) (left : Option (List ℕ)) (p : Progress) (c : Certificate) (t : Tally) → p ≡ record { text = script; forms = []; over = false }
-    → c ≡ record { wanted = checks; text = []; given = 0; fault = None; finished = false } → counts_in t ≡ record { sat = 0; unsat = 0; unknown = 0 } → t.sat + t.unsat + t.unknown ≡ 0 → t.cores.items ≡ []
-    → IsUnderway script checks cores left p c left t
+pub underway_first : (script : List ℕ) (checks : ℕ) (bits cores : Bool) (left : Option (List ℕ)) (p : Progress) (c : Certificate) (t : Tally) → p ≡ record { text = script; forms = []; over = false }
+    → c ≡ record { bits = bits; wanted = checks; text = []; given = 0; fault = None; finished = false } → counts_in t ≡ record { sat = 0; unsat = 0; unknown = 0 } → t.sat + t.unsat + t.unknown ≡ 0 → t.cores.items ≡ []
+    → IsUnderway script checks bits cores left p c left t
 unfolding steps_from first_broken
-underway_first script checks cores left p c t ep ec counts all lines =
-    subst (λ p. IsUnderway script checks cores left p c left t) (sym ep)
-    (subst (λ c. IsUnderway script checks cores left (record { text = script; forms = []; over = false }) c left t) (sym ec) (record {
+underway_first script checks bits cores left p c t ep ec counts all lines =
+    subst (λ p. IsUnderway script checks bits cores left p c left t) (sym ep)
+    (subst (λ c. IsUnderway script checks bits cores left (record { text = script; forms = []; over = false }) c left t) (sym ec) (record {
       text = refl;
       over = refl;
       wanted = refl;
-      judged = record { ready = record { fault = refl; unfinished = refl }; count = refl; within = nothing_le (length (E checks [])); kept = refl; all = all; counts = sym counts; lines = lines ∙ no_cores cores };
+      version = refl;
+      judged = record { ready = record { fault = refl; unfinished = refl }; count = refl; within = nothing_le (length (E bits checks [])); kept = refl; all = all; counts = sym counts; lines = lines ∙ no_cores cores };
       moves = λ rest e. (rest, e, refl);
     }))
 
@@ -194,7 +196,7 @@ module _ (cores : Bool) (P : List TableCheck) (here : TableCheck) (es : List Num
       k.lines ∙ ap (λ xs. xs ++ cores_after b.cores b.names.now (length b.check.in_force.now) e) lines ∙ ap (λ xs. cores_text cores P es ++ xs) after_is
       ∙ sym (cores_then cores P here es e long)
 
-module _ (script : List ℕ) (checks : ℕ) (cores : Bool) (left : Option (List ℕ)) (p : Progress) (c : Certificate) (now : Option (List ℕ)) (t : Tally) (h : IsUnderway script checks cores left p c now t)
+module _ (script : List ℕ) (checks : ℕ) (bits cores : Bool) (left : Option (List ℕ)) (p : Progress) (c : Certificate) (now : Option (List ℕ)) (t : Tally) (h : IsUnderway script checks bits cores left p c now t)
     (q : Progress) (g : GivesCheck p q) (d : Certificate) (grows : Grows c d) (later : Option (List ℕ)) (moves : MovesOn c.text now d.text later)
     (b : Beside) (s : IsShown b cores (check_now (known_at q))) (u : Tally) (k : IsTakenUp b c d t u) where
   abbrev P : List TableCheck
@@ -212,18 +214,21 @@ module _ (script : List ℕ) (checks : ℕ) (cores : Bool) (left : Option (List 
   wanted : d.wanted ≡ c.wanted
   wanted = ap (λ (x : Certificate). x.wanted) k.given
 
+  version : d.bits ≡ c.bits
+  version = ap (λ (x : Certificate). x.bits) k.given
+
   entries : entries_given d ≡ es ++ k.entry ∷ []
   entries =
-      ap (λ m. take m (E d.wanted d.text)) given ∙ ap (λ w. take (c.given + 1) (E w d.text)) wanted
-      ∙ given_more c.wanted [] c.text d.text grows.0 grows.1 c.given h.judged.within k.entry k.due
+      ap (λ m. take m (E d.bits d.wanted d.text)) given ∙ ap (λ w. take (c.given + 1) (E d.bits w d.text)) wanted ∙ ap (λ v. take (c.given + 1) (E v c.wanted d.text)) version
+      ∙ given_more c.bits c.wanted [] c.text d.text grows.0 grows.1 c.given h.judged.within k.entry k.due
 
   given_long : length P ≡ length es
-  given_long = sym h.judged.count ∙ sym (length-take-le c.given (E c.wanted c.text) h.judged.within)
+  given_long = sym h.judged.count ∙ sym (length-take-le c.given (E c.bits c.wanted c.text) h.judged.within)
 
-  within : d.given ≤ length (E d.wanted d.text)
+  within : d.given ≤ length (E d.bits d.wanted d.text)
   within =
-      inside_next d.given c.given (length (E c.wanted d.text)) (length (E d.wanted d.text)) given (slice_get_within (E c.wanted d.text) c.given k.entry k.due)
-      (ap (λ w. length (E w d.text)) wanted)
+      inside_next d.given c.given (length (E c.bits c.wanted d.text)) (length (E d.bits d.wanted d.text)) given (slice_get_within (E c.bits c.wanted d.text) c.given k.entry k.due)
+      (ap (λ w. length (E d.bits w d.text)) wanted ∙ ap (λ v. length (E v c.wanted d.text)) version)
 
   kept : first_broken limits (map node_check (table_checks (steps_of q))) (entries_given d) ≡ None
   kept =
@@ -249,11 +254,12 @@ module _ (script : List ℕ) (checks : ℕ) (cores : Bool) (left : Option (List 
     lines = lines;
   }
 
-  pub underway_more : IsUnderway script checks cores left q d later u
+  pub underway_more : IsUnderway script checks bits cores left q d later u
   underway_more = record {
     text = g.text ∙ h.text;
     over = g.over;
     wanted = wanted ∙ h.wanted;
+    version = version ∙ h.version;
     judged = judged;
     moves = λ rest e. let one = h.moves rest e in let two = moves one.0 one.1 in (two.0, two.1, one.2 ∙ two.2);
   }

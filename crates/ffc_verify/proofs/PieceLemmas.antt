@@ -1,5 +1,5 @@
 -- Reading a text piece by piece.
-use Rattle.std.proofs.Common.{◌≡◌, ℕ, ◌+◌, ◌≤◌, inl, inr, List, [], ◌++◌, length, take, drop, Option, Some, None, MatchOption, Result, Ok, Err, OnErr, refl, sym, ap, subst, ◌∙◌, append_assoc, append-nil, arith, length-append}
+use Rattle.std.proofs.Common.{Bool, ◌≡◌, ℕ, ◌+◌, ◌≤◌, inl, inr, List, [], ◌++◌, length, take, drop, Option, Some, None, MatchOption, Result, Ok, Err, OnErr, refl, sym, ap, subst, ◌∙◌, append_assoc, append-nil, arith, length-append}
 use Rattle.std.specs.Option.{IfSome}
 use Rattle.std.proofs.lemmas.List.{take-append-drop, take-append-le, take_all, length-take}
 use Rattle.ffc_base.specs.Outside.{MovesFront}
@@ -80,9 +80,9 @@ readable_in : (version : Option ℕ) (entry : Entry) → IsReadableIn version en
 readable_in None entry h = absurd h
 readable_in (Some version) entry h = (version, h)
 
-behind_is : (o : Option Numbered) (wanted : ℕ) (text : List ℕ) (f : CertFault) → fault_behind o wanted text ≡ Some f → (o ≡ None) × (stop_fault (reading_of wanted text).end ≡ Some f)
-behind_is None wanted text f e = (refl, e)
-behind_is (Some entry) wanted text f e = cc
+behind_is : (o : Option Numbered) (bits : Bool) (wanted : ℕ) (text : List ℕ) (f : CertFault) → fault_behind o bits wanted text ≡ Some f → (o ≡ None) × (stop_fault (reading_of bits wanted text).end ≡ Some f)
+behind_is None bits wanted text f e = (refl, e)
+behind_is (Some entry) bits wanted text f e = cc
 
 stopped_is : (end : End) (f : CertFault) → stop_fault end ≡ Some f → end ≡ Stopped f
 stopped_is Complete f e = cc
@@ -118,59 +118,63 @@ module _ (old : Certificate) (left : Option (List ℕ)) (ready : IsOpen old) (no
   no_fault = still_open.fault
 
   -- an entry is given
-  pub entry_next : (new : Certificate) (e : Numbered) → IsReadableIn (version_of now.text) e.entry → Some e ≡ due_entry now.fault now.wanted now.text now.given → new ≡ record now { given = now.given + 1 }
+  pub entry_next : (new : Certificate) (e : Numbered) → IsReadableIn (version_of now.bits now.text) e.entry → Some e ≡ due_entry now.fault now.bits now.wanted now.text now.given → new ≡ record now { given = now.given + 1 }
       → IsNext old new left (next.Entry e)
   entry_next new e readable due is =
-      let here : next_entry_of now.wanted now.text now.given ≡ Some e = ap (λ o. due_entry o now.wanted now.text now.given) (sym no_fault) ∙ sym due in
+      let here : next_entry_of now.bits now.wanted now.text now.given ≡ Some e = ap (λ o. due_entry o now.bits now.wanted now.text now.given) (sym no_fault) ∙ sym due in
       let text : new.text ≡ now.text = ap (λ c. c.text) is in
       let wanted : now.wanted ≡ old.wanted = ap (λ c. c.wanted) on.same in
+      let bits : now.bits ≡ old.bits = ap (λ (c : Certificate). c.bits) on.same in
       let given : now.given ≡ old.given = ap (λ c. c.given) on.same in (
-        ap (λ t. next_entry_of old.wanted t old.given) text ∙ ap (λ w. next_entry_of w now.text old.given) (sym wanted) ∙ ap (λ n. next_entry_of now.wanted now.text n) (sym given) ∙ here,
-        readable_in (version_of now.text) e.entry readable,
+        ap (λ t. next_entry_of old.bits old.wanted t old.given) text ∙ ap (λ w. next_entry_of old.bits w now.text old.given) (sym wanted) ∙ ap (λ b. next_entry_of b now.wanted now.text old.given) (sym bits) ∙ ap (λ n. next_entry_of now.bits now.wanted now.text n) (sym given) ∙ here,
+        readable_in (version_of now.bits now.text) e.entry readable,
         is ∙ ap (λ (c : Certificate). record c { given = c.given + 1 }) on.same ∙ ap (λ t. record old { text = t; given = old.given + 1 }) (sym text),
       )
 
   -- the text is at fault, once each of its entries was given
-  pub fault_next : (new : Certificate) (f : CertFault) → due_fault now.fault now.wanted now.text now.given ≡ Some f → new.text ≡ now.text → IsNext old new left (next.Fault f)
+  pub fault_next : (new : Certificate) (f : CertFault) → due_fault now.fault now.bits now.wanted now.text now.given ≡ Some f → new.text ≡ now.text → IsNext old new left (next.Fault f)
   fault_next new f due text =
-      let here : fault_behind (next_entry_of now.wanted now.text now.given) now.wanted now.text ≡ Some f = ap (λ o. due_fault o now.wanted now.text now.given) (sym no_fault) ∙ due in
-      let both = behind_is (next_entry_of now.wanted now.text now.given) now.wanted now.text f here in
+      let here : fault_behind (next_entry_of now.bits now.wanted now.text now.given) now.bits now.wanted now.text ≡ Some f = ap (λ o. due_fault o now.bits now.wanted now.text now.given) (sym no_fault) ∙ due in
+      let both = behind_is (next_entry_of now.bits now.wanted now.text now.given) now.bits now.wanted now.text f here in
       let wanted : now.wanted ≡ old.wanted = ap (λ c. c.wanted) on.same in
+      let bits : now.bits ≡ old.bits = ap (λ (c : Certificate). c.bits) on.same in
       let given : now.given ≡ old.given = ap (λ c. c.given) on.same in (
-        ap (λ t. next_entry_of old.wanted t old.given) text ∙ ap (λ w. next_entry_of w now.text old.given) (sym wanted) ∙ ap (λ n. next_entry_of now.wanted now.text n) (sym given) ∙ both.0,
-        inl (ap (λ t. (reading_of old.wanted t).end) text ∙ ap (λ w. (reading_of w now.text).end) (sym wanted) ∙ stopped_is (reading_of now.wanted now.text).end f both.1),
+        ap (λ t. next_entry_of old.bits old.wanted t old.given) text ∙ ap (λ w. next_entry_of old.bits w now.text old.given) (sym wanted) ∙ ap (λ b. next_entry_of b now.wanted now.text old.given) (sym bits) ∙ ap (λ n. next_entry_of now.bits now.wanted now.text n) (sym given) ∙ both.0,
+        inl (ap (λ t. (reading_of old.bits old.wanted t).end) text ∙ ap (λ w. (reading_of old.bits w now.text).end) (sym wanted) ∙ ap (λ b. (reading_of b now.wanted now.text).end) (sym bits) ∙ stopped_is (reading_of now.bits now.wanted now.text).end f both.1),
       )
 
-  pub read_here : None ≡ due_entry now.fault now.wanted now.text now.given → due_fault now.fault now.wanted now.text now.given ≡ None → IsRead now
+  pub read_here : None ≡ due_entry now.fault now.bits now.wanted now.text now.given → due_fault now.fault now.bits now.wanted now.text now.given ≡ None → IsRead now
   read_here none sound =
-      let entry : next_entry_of now.wanted now.text now.given ≡ None = ap (λ o. due_entry o now.wanted now.text now.given) (sym no_fault) ∙ sym none in
-      let end : stop_fault (reading_of now.wanted now.text).end ≡ None =
-      ap (λ o. fault_behind o now.wanted now.text) (sym entry) ∙ ap (λ o. due_fault o now.wanted now.text now.given) (sym no_fault) ∙ sound in
+      let entry : next_entry_of now.bits now.wanted now.text now.given ≡ None = ap (λ o. due_entry o now.bits now.wanted now.text now.given) (sym no_fault) ∙ sym none in
+      let end : stop_fault (reading_of now.bits now.wanted now.text).end ≡ None =
+      ap (λ o. fault_behind o now.bits now.wanted now.text) (sym entry) ∙ ap (λ o. due_fault o now.bits now.wanted now.text now.given) (sym no_fault) ∙ sound in
       read_by now.fault (entry, end)
     where
-      read_by : (o : Option CertFault) → (next_entry_of now.wanted now.text now.given ≡ None) × (stop_fault (reading_of now.wanted now.text).end ≡ None)
-          → MatchOption o ((next_entry_of now.wanted now.text now.given ≡ None) × (stop_fault (reading_of now.wanted now.text).end ≡ None)) (λ _. Unit {0})
+      read_by : (o : Option CertFault) → (next_entry_of now.bits now.wanted now.text now.given ≡ None) × (stop_fault (reading_of now.bits now.wanted now.text).end ≡ None)
+          → MatchOption o ((next_entry_of now.bits now.wanted now.text now.given ≡ None) × (stop_fault (reading_of now.bits now.wanted now.text).end ≡ None)) (λ _. Unit {0})
       read_by None h = h
       read_by (Some f) h = tt
 
   -- the text ends here
-  pub end_next : (new : Certificate) (x : NextEntry) → None ≡ due_entry now.fault now.wanted now.text now.given → EndsAs now x → new.text ≡ now.text → IsAtEnd left_now → IsNext old new left x
+  pub end_next : (new : Certificate) (x : NextEntry) → None ≡ due_entry now.fault now.bits now.wanted now.text now.given → EndsAs now x → new.text ≡ now.text → IsAtEnd left_now → IsNext old new left x
   end_next new (next.Entry e) none ends text end = absurd ends
   end_next new next.Complete none ends text end =
       let wanted : now.wanted ≡ old.wanted = ap (λ c. c.wanted) on.same in
+      let bits : now.bits ≡ old.bits = ap (λ (c : Certificate). c.bits) on.same in
       let given : now.given ≡ old.given = ap (λ c. c.given) on.same in
-      let entry : next_entry_of now.wanted now.text now.given ≡ None = ap (λ o. due_entry o now.wanted now.text now.given) (sym no_fault) ∙ sym none in (
-        ap (λ t. next_entry_of old.wanted t old.given) text ∙ ap (λ w. next_entry_of w now.text old.given) (sym wanted) ∙ ap (λ n. next_entry_of now.wanted now.text n) (sym given) ∙ entry,
-        ap (λ t. (reading_of old.wanted t).end) text ∙ ap (λ w. (reading_of w now.text).end) (sym wanted) ∙ ends,
+      let entry : next_entry_of now.bits now.wanted now.text now.given ≡ None = ap (λ o. due_entry o now.bits now.wanted now.text now.given) (sym no_fault) ∙ sym none in (
+        ap (λ t. next_entry_of old.bits old.wanted t old.given) text ∙ ap (λ w. next_entry_of old.bits w now.text old.given) (sym wanted) ∙ ap (λ b. next_entry_of b now.wanted now.text old.given) (sym bits) ∙ ap (λ n. next_entry_of now.bits now.wanted now.text n) (sym given) ∙ entry,
+        ap (λ t. (reading_of old.bits old.wanted t).end) text ∙ ap (λ w. (reading_of old.bits w now.text).end) (sym wanted) ∙ ap (λ b. (reading_of b now.wanted now.text).end) (sym bits) ∙ ends,
         subst (IsReadWhole old.text left) (sym text) (whole_at_end old.text now.text left left_now on.moves end),
       )
   end_next new (next.Fault f) none ends text end =
       let wanted : now.wanted ≡ old.wanted = ap (λ c. c.wanted) on.same in
+      let bits : now.bits ≡ old.bits = ap (λ (c : Certificate). c.bits) on.same in
       let given : now.given ≡ old.given = ap (λ c. c.given) on.same in
-      let entry : next_entry_of now.wanted now.text now.given ≡ None = ap (λ o. due_entry o now.wanted now.text now.given) (sym no_fault) ∙ sym none in (
-        ap (λ t. next_entry_of old.wanted t old.given) text ∙ ap (λ w. next_entry_of w now.text old.given) (sym wanted) ∙ ap (λ n. next_entry_of now.wanted now.text n) (sym given) ∙ entry,
+      let entry : next_entry_of now.bits now.wanted now.text now.given ≡ None = ap (λ o. due_entry o now.bits now.wanted now.text now.given) (sym no_fault) ∙ sym none in (
+        ap (λ t. next_entry_of old.bits old.wanted t old.given) text ∙ ap (λ w. next_entry_of old.bits w now.text old.given) (sym wanted) ∙ ap (λ b. next_entry_of b now.wanted now.text old.given) (sym bits) ∙ ap (λ n. next_entry_of now.bits now.wanted now.text n) (sym given) ∙ entry,
         inr (
-          ap (λ t. (reading_of old.wanted t).end) text ∙ ap (λ w. (reading_of w now.text).end) (sym wanted) ∙ ends,
+          ap (λ t. (reading_of old.bits old.wanted t).end) text ∙ ap (λ w. (reading_of old.bits w now.text).end) (sym wanted) ∙ ap (λ b. (reading_of b now.wanted now.text).end) (sym bits) ∙ ends,
           subst (IsReadWhole old.text left) (sym text) (whole_at_end old.text now.text left left_now on.moves end),
         ),
       )

@@ -21,10 +21,10 @@ status_quiet stops.ReadFault = inr (inl refl)
 status_quiet stops.CertFault = inr (inr (inl refl))
 status_quiet stops.Memory = inr (inr (inr refl))
 
-pub left_without : (stop : AnswerStop) (s : CheckStatus) (cores : Bool) (left contents out : Option (List ℕ)) → s ≡ status_at stop → IfSome left (λ bytes. IfSome contents (λ certificate. IsLeft s (due cores bytes certificate) out out))
-left_without stop s cores left contents out e =
-    subst (λ x. IfSome left (λ bytes. IfSome contents (λ certificate. IsLeft x (due cores bytes certificate) out out))) (sym e)
-    (left_same (status_at stop) cores left contents out (λ d. left_nothing (status_at stop) (status_quiet stop) out d))
+pub left_without : (stop : AnswerStop) (s : CheckStatus) (bits cores : Bool) (left contents out : Option (List ℕ)) → s ≡ status_at stop → IfSome left (λ bytes. IfSome contents (λ certificate. IsLeft s (due bits cores bytes certificate) out out))
+left_without stop s bits cores left contents out e =
+    subst (λ x. IfSome left (λ bytes. IfSome contents (λ certificate. IsLeft x (due bits cores bytes certificate) out out))) (sym e)
+    (left_same (status_at stop) bits cores left contents out (λ d. left_nothing (status_at stop) (status_quiet stop) out d))
 
 pub if_any : (left : Option (List ℕ)) (P : List ℕ → Type 0) → ((bytes : List ℕ) → P bytes) → IfSome left P
 if_any None P h = tt

@@ -19,12 +19,12 @@ piece_taken n buffer (Some bytes) new m few =
 -- Several reads
 
 -- a reader that answers nothing asks for more
-asks : (c : Certificate) → c.fault ≡ None → None ≡ due_entry c.fault c.wanted c.text c.given → due_fault c.fault c.wanted c.text c.given ≡ None → AsksForMore c.wanted c.text c.given
+asks : (c : Certificate) → c.fault ≡ None → None ≡ due_entry c.fault c.bits c.wanted c.text c.given → due_fault c.fault c.bits c.wanted c.text c.given ≡ None → AsksForMore c.bits c.wanted c.text c.given
 asks c unmet none sound =
-    let entry : next_entry_of c.wanted c.text c.given ≡ None = ap (λ o. due_entry o c.wanted c.text c.given) (sym unmet) ∙ sym none in
+    let entry : next_entry_of c.bits c.wanted c.text c.given ≡ None = ap (λ o. due_entry o c.bits c.wanted c.text c.given) (sym unmet) ∙ sym none in
     record {
       entry = entry;
-      sound = ap (λ o. fault_behind o c.wanted c.text) (sym entry) ∙ ap (λ o. due_fault o c.wanted c.text c.given) (sym unmet) ∙ sound;
+      sound = ap (λ o. fault_behind o c.bits c.wanted c.text) (sym entry) ∙ ap (λ o. due_fault o c.bits c.wanted c.text c.given) (sym unmet) ∙ sound;
     }
 
 module _ (old : Certificate) (bytes : List ℕ) (now : Certificate) (left_now : Option (List ℕ)) (on : HasReadOn old (Some bytes) now left_now) (t : TakesPieces old bytes left_now) where
@@ -36,14 +36,15 @@ module _ (old : Certificate) (bytes : List ℕ) (now : Certificate) (left_now : 
       append_cancel_right now.text (old.text ++ t.taken) t.rest
       (ap (λ r. now.text ++ r) same ∙ sym m.2 ∙ ap (λ b. old.text ++ b) t.split ∙ sym (append_assoc old.text t.taken t.rest))
 
-  asked_here : AsksForMore now.wanted now.text now.given → AsksForMore old.wanted (old.text ++ t.taken) old.given
+  asked_here : AsksForMore now.bits now.wanted now.text now.given → AsksForMore old.bits old.wanted (old.text ++ t.taken) old.given
   asked_here a =
       let wanted : now.wanted ≡ old.wanted = ap (λ (c : Certificate). c.wanted) on.same in
+      let bits : now.bits ≡ old.bits = ap (λ (c : Certificate). c.bits) on.same in
       let given : now.given ≡ old.given = ap (λ (c : Certificate). c.given) on.same in
-      subst (λ n. AsksForMore old.wanted (old.text ++ t.taken) n) given
-      (subst (λ x. AsksForMore old.wanted x now.given) fed (subst (λ w. AsksForMore w now.text now.given) wanted a))
+      subst (λ n. AsksForMore old.bits old.wanted (old.text ++ t.taken) n) given
+      (subst (λ x. AsksForMore old.bits old.wanted x now.given) fed (subst (λ b. AsksForMore b old.wanted now.text now.given) bits (subst (λ w. AsksForMore now.bits w now.text now.given) wanted a)))
 
-  one_more : (later : Option (List ℕ)) → AsksForMore now.wanted now.text now.given → (piece rest : List ℕ) → t.rest ≡ piece ++ rest → later ≡ Some rest → length piece ≤ 4096 → TakesPieces old bytes later
+  one_more : (later : Option (List ℕ)) → AsksForMore now.bits now.wanted now.text now.given → (piece rest : List ℕ) → t.rest ≡ piece ++ rest → later ≡ Some rest → length piece ≤ 4096 → TakesPieces old bytes later
   one_more later a [] rest e left few = record {
     taken = t.taken;
     rest = rest;
@@ -61,7 +62,7 @@ module _ (old : Certificate) (bytes : List ℕ) (now : Certificate) (left_now : 
 
 -- one more piece, where the reader answered nothing
 pub one_more_taken : (old : Certificate) (left : Option (List ℕ)) (now : Certificate) (left_now later : Option (List ℕ)) → IsOpen old → HasReadOn old left now left_now
-    → None ≡ due_entry now.fault now.wanted now.text now.given → due_fault now.fault now.wanted now.text now.given ≡ None
+    → None ≡ due_entry now.fault now.bits now.wanted now.text now.given → due_fault now.fault now.bits now.wanted now.text now.given ≡ None
     → IfSome left (λ bytes. TakesPieces old bytes left_now) → IfSome left_now (λ bytes. TakesPiece bytes later) → IfSome left (λ bytes. TakesPieces old bytes later)
 one_more_taken old None now left_now later ready on none sound before piece = tt
 one_more_taken old (Some bytes) now left_now later ready on none sound before piece =

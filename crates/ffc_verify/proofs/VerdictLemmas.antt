@@ -48,7 +48,7 @@ small_by s g w n e lt f few = omega arith
 smaller_by : (q p x t s : ℕ) → q ≡ p + 1 → q ≤ x → x ≤ t → t ≡ s → s ≤ 67108865 → 67108866 - q < 67108866 - p
 smaller_by q p x t s e a b f short = omega arith
 
-module _ (script : List ℕ) (checks : ℕ) (cores : Bool) (left : Option (List ℕ)) (counted : IsCounted script checks) (p : Progress) (c : Certificate) (now : Option (List ℕ)) (t : Tally) (h : IsUnderway script checks cores left p c now t) where
+module _ (script : List ℕ) (checks : ℕ) (bits cores : Bool) (left : Option (List ℕ)) (counted : IsCounted script checks) (p : Progress) (c : Certificate) (now : Option (List ℕ)) (t : Tally) (h : IsUnderway script checks bits cores left p c now t) where
   abbrev P : List TableCheck
   P = table_checks (steps_of p)
 
@@ -60,31 +60,32 @@ module _ (script : List ℕ) (checks : ℕ) (cores : Bool) (left : Option (List 
 
   -- the judgement for these checks, of a text that the reader's text begins
   abbrev JudgesAs : List TableCheck → List ℕ → Type 0
-  JudgesAs ds W = judge script W ≡ judgement_of limits (cs ++ map node_check ds) (reading_of c.wanted W)
+  JudgesAs ds W = judge bits script W ≡ judgement_of limits (cs ++ map node_check ds) (reading_of c.bits c.wanted W)
 
   judges_as : (ds : List TableCheck) → table_checks (reads script).steps ≡ P ++ ds → (W : List ℕ) → JudgesAs ds W
   judges_as ds all W =
       let size : length (map node_check (P ++ ds)) ≡ c.wanted =
       length-map (P ++ ds) node_check ∙ sym (ap length all) ∙ counted.checks ∙ sym h.wanted in
-      ap (λ xs. judgement_of limits (map node_check xs) (reading_of (length (map node_check xs)) W)) all
-      ∙ ap (λ w. judgement_of limits (map node_check (P ++ ds)) (reading_of w W)) size
-      ∙ ap (λ xs. judgement_of limits xs (reading_of c.wanted W)) (map-append node_check P ds)
+      ap (λ xs. judgement_of limits (map node_check xs) (reading_of bits (length (map node_check xs)) W)) all
+      ∙ ap (λ w. judgement_of limits (map node_check (P ++ ds)) (reading_of bits w W)) size
+      ∙ ap (λ v. judgement_of limits (map node_check (P ++ ds)) (reading_of v c.wanted W)) (sym h.version)
+      ∙ ap (λ xs. judgement_of limits xs (reading_of c.bits c.wanted W)) (map-append node_check P ds)
 
   module _ (d : Certificate) (grows : Grows c d) (W : List ℕ) (stated : left ≡ Some W) where
-    pub form_is : (ds : List TableCheck) → table_checks (reads script).steps ≡ P ++ ds → (later : Option (List ℕ)) → MovesOn c.text now d.text later → (r : Refusal) → IsFormRefused c d now r → IsVerdict cores script W (verdict.Refused r)
+    pub form_is : (ds : List TableCheck) → table_checks (reads script).steps ≡ P ++ ds → (later : Option (List ℕ)) → MovesOn c.text now d.text later → (r : Refusal) → IsFormRefused c d now r → IsVerdict bits cores script W (verdict.Refused r)
     form_is ds all later moves r (f, ends, is) =
         let one = h.moves W stated in
         let two = moves one.0 one.1 in
         let whole : W ≡ d.text ++ two.0 = one.2 ∙ two.2 in
         judges_as ds all W
-        ∙ form_refused c.wanted cs c.text d.text grows.0 grows.1 c.given h.judged.within long h.judged.kept ends.0 W (map node_check ds) f (same whole ends.1) (either ends.1)
+        ∙ form_refused c.bits c.wanted cs c.text d.text grows.0 grows.1 c.given h.judged.within long h.judged.kept ends.0 W (map node_check ds) f (same whole ends.1) (either ends.1)
         ∙ ap (λ (r : Refusal). Refused r.entry r.line (cause_of r.cause)) (sym is)
       where
-        same : W ≡ d.text ++ (moves (h.moves W stated).0 (h.moves W stated).1).0 → ((reading_of c.wanted d.text).end ≡ Stopped f) ⊎ (((reading_of c.wanted d.text).end ≡ Open f) × IsReadWhole c.text now d.text) → reading_of c.wanted W ≡ reading_of c.wanted d.text
-        same whole (inl s) = let front = reading_front c.wanted d.text (moves (h.moves W stated).0 (h.moves W stated).1).0 in ap (reading_of c.wanted) whole ∙ front.stopped f s
-        same whole (inr o) = ap (reading_of c.wanted) ((h.moves W stated).2 ∙ sym (o.1 (h.moves W stated).0 (h.moves W stated).1))
+        same : W ≡ d.text ++ (moves (h.moves W stated).0 (h.moves W stated).1).0 → ((reading_of c.bits c.wanted d.text).end ≡ Stopped f) ⊎ (((reading_of c.bits c.wanted d.text).end ≡ Open f) × IsReadWhole c.text now d.text) → reading_of c.bits c.wanted W ≡ reading_of c.bits c.wanted d.text
+        same whole (inl s) = let front = reading_front c.bits c.wanted d.text (moves (h.moves W stated).0 (h.moves W stated).1).0 in ap (reading_of c.bits c.wanted) whole ∙ front.stopped f s
+        same whole (inr o) = ap (reading_of c.bits c.wanted) ((h.moves W stated).2 ∙ sym (o.1 (h.moves W stated).0 (h.moves W stated).1))
 
-        either : ((reading_of c.wanted d.text).end ≡ Stopped f) ⊎ (((reading_of c.wanted d.text).end ≡ Open f) × IsReadWhole c.text now d.text) → ((reading_of c.wanted d.text).end ≡ Stopped f) ⊎ ((reading_of c.wanted d.text).end ≡ Open f)
+        either : ((reading_of c.bits c.wanted d.text).end ≡ Stopped f) ⊎ (((reading_of c.bits c.wanted d.text).end ≡ Open f) × IsReadWhole c.text now d.text) → ((reading_of c.bits c.wanted d.text).end ≡ Stopped f) ⊎ ((reading_of c.bits c.wanted d.text).end ≡ Open f)
         either (inl s) = inl s
         either (inr o) = inr o.0
 
@@ -94,23 +95,23 @@ module _ (script : List ℕ) (checks : ℕ) (cores : Bool) (left : Option (List 
       all_checks : table_checks (reads script).steps ≡ P ++ []
       all_checks = ap (λ b. table_checks (reads b).steps) (sym h.text) ∙ through.checks ∙ sym (append-nil P)
 
-      end_refused : (later : Option (List ℕ)) → MovesOn c.text now d.text later → (r : Refusal) → IsFormRefused c d now r → IsVerdict cores script W (verdict.Refused r)
+      end_refused : (later : Option (List ℕ)) → MovesOn c.text now d.text later → (r : Refusal) → IsFormRefused c d now r → IsVerdict bits cores script W (verdict.Refused r)
       end_refused later moves r refused = form_is [] all_checks later moves r refused
 
-      end_accepted : IsNext c d now next.Complete → IsVerdict cores script W (verdict.Accepted t)
+      end_accepted : IsNext c d now next.Complete → IsVerdict bits cores script W (verdict.Accepted t)
       end_accepted (none, end, whole) =
           let one = h.moves W stated in
           let is : W ≡ d.text = one.2 ∙ sym (whole one.0 one.1) in
-          let both = accepted_here c.wanted cs c.text d.text grows.0 grows.1 c.given h.judged.within long h.judged.kept none W end is in
+          let both = accepted_here c.bits c.wanted cs c.text d.text grows.0 grows.1 c.given h.judged.within long h.judged.kept none W end is in
           let size : length (table_checks (reads script).steps) ≡ c.wanted = counted.checks ∙ sym h.wanted in (
-            judges_as [] all_checks W ∙ ap (λ xs. judgement_of limits xs (reading_of c.wanted W)) (append-nil cs) ∙ both.0 ∙ ap Accepted h.judged.counts,
-            h.judged.lines ∙ ap (λ xs. cores_text cores xs (take c.given (E c.wanted c.text))) (sym (append-nil P) ∙ sym all_checks)
-                ∙ ap (cores_text cores (table_checks (reads script).steps)) (sym both.1 ∙ ap (λ w. E w W) (sym size)),
+            judges_as [] all_checks W ∙ ap (λ xs. judgement_of limits xs (reading_of c.bits c.wanted W)) (append-nil cs) ∙ both.0 ∙ ap Accepted h.judged.counts,
+            h.judged.lines ∙ ap (λ xs. cores_text cores xs (take c.given (E c.bits c.wanted c.text))) (sym (append-nil P) ∙ sym all_checks)
+                ∙ ap (cores_text cores (table_checks (reads script).steps)) (sym both.1 ∙ ap (λ w. E c.bits w W) (sym size) ∙ ap (λ v. E v (length (table_checks (reads script).steps)) W) h.version),
           )
 
-      pub end_verdict : (later : Option (List ℕ)) → MovesOn c.text now d.text later → (v : Verdict) → EndsAsVerdict c d now t v → IsVerdict cores script W v
+      pub end_verdict : (later : Option (List ℕ)) → MovesOn c.text now d.text later → (v : Verdict) → EndsAsVerdict c d now t v → IsVerdict bits cores script W v
       end_verdict later moves (verdict.Refused r) ends = end_refused later moves r ends
-      end_verdict later moves (verdict.Accepted u) ends = subst (λ x. IsVerdict cores script W (verdict.Accepted x)) (sym ends.0) (end_accepted ends.1)
+      end_verdict later moves (verdict.Accepted u) ends = subst (λ x. IsVerdict bits cores script W (verdict.Accepted x)) (sym ends.0) (end_accepted ends.1)
 
   pub end_given : IsThrough p → c.given ≡ c.wanted
   end_given through =
@@ -144,7 +145,7 @@ module _ (script : List ℕ) (checks : ℕ) (cores : Bool) (left : Option (List 
         smaller_by (length (table_checks (steps_of q))) (length P) (length (steps_of q)) (length q.text) (length script) (ap length g.checks ∙ length_push P here) (checks_few (steps_of q)) few s short
 
     module _ (b : Beside) (s : IsShown b cores here) (d : Certificate) (grows : Grows c d) (W : List ℕ) (stated : left ≡ Some W) (later : Option (List ℕ)) (moves : MovesOn c.text now d.text later) where
-      pub check_refused : (r : Refusal) → IsRefusedFor (shown.judged_check b.check) c d now r → IsVerdict cores script W (verdict.Refused r)
+      pub check_refused : (r : Refusal) → IsRefusedFor (shown.judged_check b.check) c d now r → IsVerdict bits cores script W (verdict.Refused r)
       check_refused r (inr form) = let l = later_checks in form_is d grows W stated (here ∷ l.0) l.1 later moves r form
       check_refused r (inl rule) =
           let l = later_checks in
@@ -152,17 +153,17 @@ module _ (script : List ℕ) (checks : ℕ) (cores : Bool) (left : Option (List 
           let two = moves one.0 one.1 in
           let is = rule.broken in
           judges_as (here ∷ l.0) l.1 W
-          ∙ rule_refused c.wanted cs c.text d.text grows.0 grows.1 c.given h.judged.within long h.judged.kept W two.0 (one.2 ∙ two.2) (node_check here) (map node_check l.0) rule.entry is.0 rule.due
+          ∙ rule_refused c.bits c.wanted cs c.text d.text grows.0 grows.1 c.given h.judged.within long h.judged.kept W two.0 (one.2 ∙ two.2) (node_check here) (map node_check l.0) rule.entry is.0 rule.due
           (ap (λ x. entry_fault_within limits x rule.entry.entry rule.entry.first_line) (sym s.nodes) ∙ is.1)
           ∙ ap (λ (r : Refusal). Refused r.entry r.line (cause_of r.cause)) (sym is.2)
 
 -- Entries that cannot come
 
 pub no_more_entries : (old new : Certificate) (left : Option (List ℕ)) (e : Numbered) → old.given ≡ old.wanted → IsNext old new left (next.Entry e) → ⊥
-no_more_entries old new left e all is = too_many old.given old.wanted (length (E old.wanted new.text)) all (slice_get_within (E old.wanted new.text) old.given e is.0) (entries_few old.wanted new.text)
+no_more_entries old new left e all is = too_many old.given old.wanted (length (E old.bits old.wanted new.text)) all (slice_get_within (E old.bits old.wanted new.text) old.given e is.0) (entries_few old.bits old.wanted new.text)
 
 pub not_complete : (old new : Certificate) (left : Option (List ℕ)) → old.given < old.wanted → IsNext old new left next.Complete → ⊥
-not_complete old new left lt is = too_few old.given old.wanted (length (E old.wanted new.text)) lt (no_entry (E old.wanted new.text) old.given is.0) (all_read old.wanted new.text is.1)
+not_complete old new left lt is = too_few old.given old.wanted (length (E old.bits old.wanted new.text)) lt (no_entry (E old.bits old.wanted new.text) old.given is.0) (all_read old.bits old.wanted new.text is.1)
 
 -- where contents are stated
 pub if_told : (left : Option (List ℕ)) (P : List ℕ → Type 0) → ((W : List ℕ) → left ≡ Some W → P W) → IfSome left P

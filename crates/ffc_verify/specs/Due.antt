@@ -41,18 +41,18 @@ abbrev pub cores_text : Bool → List TableCheck → List Numbered → List ℕ
 cores_text false checks entries = []
 cores_text true checks entries = entries_cores checks entries
 
-abbrev pub entries_for : List ℕ → List ℕ → List Numbered
-entries_for script certificate = (reading_of (length (table_checks (reads script).steps)) certificate).entries
+abbrev pub entries_for : Bool → List ℕ → List ℕ → List Numbered
+entries_for bits script certificate = (reading_of bits (length (table_checks (reads script).steps)) certificate).entries
 
 abbrev pub judgement_due : List ℕ → Judgement → Due
 judgement_due cores (judging.Accepted counts) = record { status = Accepted; text = cores ++ accepted_line counts }
 judgement_due cores (judging.Refused entry at_line cause) = record { status = Refused; text = refused_line entry at_line cause }
 
 -- by the end of the script, and then by the judgement of the certificate
-abbrev pub due_at : End → Bool → List ℕ → List ℕ → Due
-due_at (scripts.AtFault at_line column code) cores script certificate = record { status = ScriptRefused; text = fault_line at_line column code }
-due_at scripts.Done cores script certificate =
-    judgement_due (cores_text cores (table_checks (reads script).steps) (entries_for script certificate)) (judge script certificate)
+abbrev pub due_at : End → Bool → Bool → List ℕ → List ℕ → Due
+due_at (scripts.AtFault at_line column code) bits cores script certificate = record { status = ScriptRefused; text = fault_line at_line column code }
+due_at scripts.Done bits cores script certificate =
+    judgement_due (cores_text cores (table_checks (reads script).steps) (entries_for bits script certificate)) (judge bits script certificate)
 
-unfoldable pub due : Bool → List ℕ → List ℕ → Due
-due cores script certificate = due_at (reads script).end cores script certificate
+unfoldable pub due : Bool → Bool → List ℕ → List ℕ → Due
+due bits cores script certificate = due_at (reads script).end bits cores script certificate

@@ -33,23 +33,23 @@ cause_of (cause.Rule rule) = Rule rule
 
 -- the entries that a reader has given
 abbrev pub entries_given : Certificate → List Numbered
-entries_given c = take c.given (reading_of c.wanted c.text).entries
+entries_given c = take c.given (reading_of c.bits c.wanted c.text).entries
 
 -- Each of these checks has its entry, no entry breaks a rule, and the tally is of them.
 pub record AreJudged (cores : Bool) (checks : List TableCheck) (c : Certificate) (t : Tally) : Type 0 where
   pub ready : IsOpen c
   pub count : c.given ≡ length checks
-  pub within : c.given ≤ length (reading_of c.wanted c.text).entries
+  pub within : c.given ≤ length (reading_of c.bits c.wanted c.text).entries
   pub kept : first_broken limits (map judging.node_check checks) (entries_given c) ≡ None
   pub all : t.sat + t.unsat + t.unknown ≡ c.given
   pub counts : counts_of (entries_given c) ≡ counts_in t
   pub lines : t.cores.items ≡ cores_text cores checks (entries_given c)
 
 -- the verdict on a certificate for a script
-abbrev pub IsVerdict : Bool → List ℕ → List ℕ → Verdict → Type 0
-IsVerdict cores script certificate (verdict.Accepted t) =
-    (judge script certificate ≡ judging.Accepted (counts_in t)) × (t.cores.items ≡ cores_text cores (table_checks (reads script).steps) (entries_for script certificate))
-IsVerdict cores script certificate (verdict.Refused r) = judge script certificate ≡ judging.Refused r.entry r.line (cause_of r.cause)
+abbrev pub IsVerdict : Bool → Bool → List ℕ → List ℕ → Verdict → Type 0
+IsVerdict bits cores script certificate (verdict.Accepted t) =
+    (judge bits script certificate ≡ judging.Accepted (counts_in t)) × (t.cores.items ≡ cores_text cores (table_checks (reads script).steps) (entries_for bits script certificate))
+IsVerdict bits cores script certificate (verdict.Refused r) = judge bits script certificate ≡ judging.Refused r.entry r.line (cause_of r.cause)
 
 -- the lines that an entry adds
 abbrev pub cores_after : Bool → List (Option Name) → ℕ → Numbered → List ℕ
@@ -73,7 +73,7 @@ pub record TakesUp (b : Beside) (entry : Numbered) (before after : Tally) : Type
 -- The next entry was read, breaks no rule, and was taken up.
 pub record IsTakenUp (b : Beside) (old new : Certificate) (before after : Tally) : Type 0 where
   pub entry : Numbered
-  pub due : next_entry_of old.wanted new.text old.given ≡ Some entry
+  pub due : next_entry_of old.bits old.wanted new.text old.given ≡ Some entry
   pub given : new ≡ record old { text = new.text; given = old.given + 1 }
   pub takes : TakesUp b entry before after
 
@@ -84,7 +84,7 @@ IsFormRefused old new left r = (f : CertFault) × IsNext old new left (next.Faul
 -- the next entry breaks a rule of this check
 pub record IsRuleRefused (c : NodeCheck) (old new : Certificate) (r : Refusal) : Type 0 where
   pub entry : Numbered
-  pub due : next_entry_of old.wanted new.text old.given ≡ Some entry
+  pub due : next_entry_of old.bits old.wanted new.text old.given ≡ Some entry
   pub broken : IsBrokenBy c entry r
 
 abbrev pub IsRefusedFor : NodeCheck → Certificate → Certificate → Option (List ℕ) → Refusal → Type 0

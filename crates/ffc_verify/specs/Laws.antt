@@ -1,5 +1,5 @@
 -- What a front of a certificate that is not enough is to the judgement.
-use Rattle.std.specs.Prelude.{◌≡◌, ◌↔◌, ℕ, List}
+use Rattle.std.specs.Prelude.{Bool, ◌≡◌, ◌↔◌, ℕ, List}
 use Rattle.ffc_rules.specs.Judging.{Judgement, Accepted, Refused, Format, Rule, judge}
 use Rattle.ffc_verify.specs.Status.{IsNotEnough}
 
@@ -11,4 +11,4 @@ MayGoOn (Refused entry at_line (Rule rule)) = ⊥
 
 -- A front is not enough exactly where, as a whole certificate, it would be judged so.
 abbrev pub NotEnoughGoesOn : Type 0
-NotEnoughGoesOn = (script front : List ℕ) → IsNotEnough script front ↔ MayGoOn (judge script front)
+NotEnoughGoesOn = (bits : Bool) (script front : List ℕ) → IsNotEnough bits script front ↔ MayGoOn (judge bits script front)

@@ -1,5 +1,5 @@
 -- Reading a text piece by piece.
-use Rattle.std.specs.Prelude.{◌≡◌, ◌⊎◌, ℕ, ◌+◌, ◌<◌, ◌≤◌, ◌^◌, false, List, [], ◌++◌, length, Option, Some, None}
+use Rattle.std.specs.Prelude.{Bool, ◌≡◌, ◌⊎◌, ℕ, ◌+◌, ◌<◌, ◌≤◌, ◌^◌, false, List, [], ◌++◌, length, Option, Some, None}
 use Rattle.ffc_cert.specs.Certificate.{Certificate, next_entry_of}
 use Rattle.ffc_cert.specs.Reading.{Complete, Open, Stopped, reading_of, stop_fault}
 use Rattle.ffc_check.specs.Judged.{IsReadableEntry}
@@ -29,9 +29,9 @@ Grows old new = (more : List ℕ) × (new.text ≡ old.text ++ more)
 
 -- Of a text of which so many entries were given there is nothing to answer yet: the next entry is not whole, or all were given,
 -- and the text so far is not at fault.
-pub record AsksForMore (wanted : ℕ) (text : List ℕ) (given : ℕ) : Type 0 where
-  pub entry : next_entry_of wanted text given ≡ None
-  pub sound : stop_fault (reading_of wanted text).end ≡ None
+pub record AsksForMore (bits : Bool) (wanted : ℕ) (text : List ℕ) (given : ℕ) : Type 0 where
+  pub entry : next_entry_of bits wanted text given ≡ None
+  pub sound : stop_fault (reading_of bits wanted text).end ≡ None
 
 -- what one read takes of the bytes that a source has left: 4,096 of them at most
 pub record TakesPiece (bytes : List ℕ) (new : Option (List ℕ)) : Type 0 where
@@ -48,7 +48,7 @@ pub record HasLastPiece (c : Certificate) (taken : List ℕ) : Type 0 where
   pub split : taken ≡ front ++ piece
   pub some : 0 < length piece
   pub few : length piece ≤ 4096
-  pub asked : AsksForMore c.wanted (c.text ++ front) c.given
+  pub asked : AsksForMore c.bits c.wanted (c.text ++ front) c.given
 
 -- what some reads for a reader take of the bytes that a source has left: nothing, or no more than it asked for
 pub record TakesPieces (c : Certificate) (bytes : List ℕ) (new : Option (List ℕ)) : Type 0 where
@@ -61,18 +61,18 @@ pub record TakesPieces (c : Certificate) (bytes : List ℕ) (new : Option (List 
 -- The next entry, or how the text ends after those that were given, where this was left of it.
 abbrev pub IsNext : Certificate → Certificate → Option (List ℕ) → NextEntry → Type 0
 IsNext old new left (next.Entry e) =
-    (next_entry_of old.wanted new.text old.given ≡ Some e) × IsReadableEntry e.entry × (new ≡ record old { text = new.text; given = old.given + 1 })
+    (next_entry_of old.bits old.wanted new.text old.given ≡ Some e) × IsReadableEntry e.entry × (new ≡ record old { text = new.text; given = old.given + 1 })
 IsNext old new left next.Complete =
-    (next_entry_of old.wanted new.text old.given ≡ None) × ((reading_of old.wanted new.text).end ≡ Complete) × IsReadWhole old.text left new.text
+    (next_entry_of old.bits old.wanted new.text old.given ≡ None) × ((reading_of old.bits old.wanted new.text).end ≡ Complete) × IsReadWhole old.text left new.text
 IsNext old new left (next.Fault f) =
-    (next_entry_of old.wanted new.text old.given ≡ None)
-    × (((reading_of old.wanted new.text).end ≡ Stopped f) ⊎ (((reading_of old.wanted new.text).end ≡ Open f) × IsReadWhole old.text left new.text))
+    (next_entry_of old.bits old.wanted new.text old.given ≡ None)
+    × (((reading_of old.bits old.wanted new.text).end ≡ Stopped f) ⊎ (((reading_of old.bits old.wanted new.text).end ≡ Open f) × IsReadWhole old.text left new.text))
 
 -- how a text ends that is not at fault so far
 abbrev pub EndsAs : Certificate → NextEntry → Type 0
 EndsAs c (next.Entry e) = ⊥
-EndsAs c next.Complete = (reading_of c.wanted c.text).end ≡ Complete
-EndsAs c (next.Fault f) = (reading_of c.wanted c.text).end ≡ Open f
+EndsAs c next.Complete = (reading_of c.bits c.wanted c.text).end ≡ Complete
+EndsAs c (next.Fault f) = (reading_of c.bits c.wanted c.text).end ≡ Open f
 
 -- an entry that comes next begins at a line with a number of 63 bits
 abbrev pub HasLine : NextEntry → Type 0

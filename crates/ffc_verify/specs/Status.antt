@@ -1,5 +1,5 @@
 -- How a run of the checker ends: its statuses, and what each of them leaves.
-use Rattle.std.specs.Prelude.{◌≡◌, ◌⊎◌, ℕ, ◌<◌, ◌≤◌, List, [], ◌++◌, length, Option, None}
+use Rattle.std.specs.Prelude.{Bool, ◌≡◌, ◌⊎◌, ℕ, ◌<◌, ◌≤◌, List, [], ◌++◌, length, Option, None}
 use Rattle.ffc_base.specs.Outside.{Appends, AppendsPrefix}
 use Rattle.ffc_smt.specs.Scripts.{Done, AtFault, reads}
 use Rattle.ffc_smt.specs.TableChecks.{TableCheck, table_checks}
@@ -66,40 +66,40 @@ pub record TakesFront (script : List ℕ) (new : Option (List ℕ)) : Type 0 whe
 -- A front of a certificate is not enough for the judgement. A line is judged once it is whole or has too many bytes, and a byte
 -- after the entries of all checks at once: none in the front is at fault. And no entry that is whole in it breaks a rule of its
 -- check. So an entry is not whole yet, or all are, and it is not known yet whether the text ends here.
-pub record IsNotEnough (script front : List ℕ) : Type 0 where
-  pub form : stop_fault (reading_of (length (checks_in script)) front).end ≡ None
-  pub rules : first_broken limits (checks_in script) (reading_of (length (checks_in script)) front).entries ≡ None
+pub record IsNotEnough (bits : Bool) (script front : List ℕ) : Type 0 where
+  pub form : stop_fault (reading_of bits (length (checks_in script)) front).end ≡ None
+  pub rules : first_broken limits (checks_in script) (reading_of bits (length (checks_in script)) front).entries ≡ None
 
 -- without its last 4,096 bytes, or fewer, what was read is not enough
-pub record IsLastRead (script text : List ℕ) : Type 0 where
+pub record IsLastRead (bits : Bool) (script text : List ℕ) : Type 0 where
   pub front : List ℕ
   pub piece : List ℕ
   pub split : text ≡ front ++ piece
   pub some : 0 < length piece
   pub few : length piece ≤ 4096
-  pub more : IsNotEnough script front
+  pub more : IsNotEnough bits script front
 
 -- No more of a certificate was read than was needed: a front of it, which is empty, or was not enough without its last read. The
 -- rest is left.
-pub record ReadsAsNeeded (script certificate : List ℕ) (new : Option (List ℕ)) : Type 0 where
+pub record ReadsAsNeeded (bits : Bool) (script certificate : List ℕ) (new : Option (List ℕ)) : Type 0 where
   pub text : List ℕ
   pub rest : List ℕ
   pub split : certificate ≡ text ++ rest
   pub left : new ≡ Some rest
-  pub last : (text ≡ []) ⊎ IsLastRead script text
+  pub last : (text ≡ []) ⊎ IsLastRead bits script text
 
 -- What a status says of what is left of the certificate, before and after the run: where it was opened, no more of it was
 -- read than was needed.
-abbrev pub IsReadAt : CheckStatus → List ℕ → List ℕ → Option (List ℕ) → Option (List ℕ) → Type 0
-IsReadAt Accepted script certificate old new = ReadsAsNeeded script certificate new
-IsReadAt Refused script certificate old new = ReadsAsNeeded script certificate new
-IsReadAt CertFault script certificate old new = (new ≡ old) ⊎ ReadsAsNeeded script certificate new
-IsReadAt WriteFault script certificate old new = (new ≡ old) ⊎ ReadsAsNeeded script certificate new
-IsReadAt Memory script certificate old new = (new ≡ old) ⊎ ReadsAsNeeded script certificate new
-IsReadAt Usage script certificate old new = new ≡ old
-IsReadAt ScriptRefused script certificate old new = new ≡ old
-IsReadAt ReadFault script certificate old new = new ≡ old
+abbrev pub IsReadAt : CheckStatus → Bool → List ℕ → List ℕ → Option (List ℕ) → Option (List ℕ) → Type 0
+IsReadAt Accepted bits script certificate old new = ReadsAsNeeded bits script certificate new
+IsReadAt Refused bits script certificate old new = ReadsAsNeeded bits script certificate new
+IsReadAt CertFault bits script certificate old new = (new ≡ old) ⊎ ReadsAsNeeded bits script certificate new
+IsReadAt WriteFault bits script certificate old new = (new ≡ old) ⊎ ReadsAsNeeded bits script certificate new
+IsReadAt Memory bits script certificate old new = (new ≡ old) ⊎ ReadsAsNeeded bits script certificate new
+IsReadAt Usage bits script certificate old new = new ≡ old
+IsReadAt ScriptRefused bits script certificate old new = new ≡ old
+IsReadAt ReadFault bits script certificate old new = new ≡ old
 
 -- each check of the script has an entry in the certificate, and the entry is true of it
-abbrev pub AllHaveEntries : List ℕ → List ℕ → Type 0
-AllHaveEntries script certificate = (k : ℕ) (c : TableCheck) → slice_get (table_checks (reads script).steps) k ≡ Some c → HasEntry script certificate k c
+abbrev pub AllHaveEntries : Bool → List ℕ → List ℕ → Type 0
+AllHaveEntries bits script certificate = (k : ℕ) (c : TableCheck) → slice_get (table_checks (reads script).steps) k ≡ Some c → HasEntry bits script certificate k c

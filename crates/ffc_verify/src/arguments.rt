@@ -1,20 +1,23 @@
 //! The arguments of the command line.
 ghost use Rattle.std.specs.Prelude.{◌≡◌, ◌≢◌, [], codes, false, map, option_map, unwrap_or, IfOk, IsErrOf};
 ghost use Rattle.clap.specs.Words.{app_of, first_value, found_of, kind_of, new_app, rule_of};
-ghost use Rattle.ffc_verify.specs.Arguments.{AreTaken, cert_name, cert_rule, check_app, cores_rule, is_set, wants_cores, without_help};
+ghost use Rattle.ffc_verify.specs.Arguments.{AreTaken, cert_name, wants_bits, wants_cores};
+ghost use Rattle.ffc_verify.specs.Arguments.{bits_rule, cert_rule, check_app, cores_rule, is_set, without_help};
 
 use clap::error::ErrorKind;
 use clap::{Arg, ArgAction, ArgMatches, Command, Error};
 use std::alloc::{AllocError, Global};
 use thiserror::Error;
 
-/// What the arguments `CERT [--cores]` ask for.
+/// What the arguments `CERT [--cores] [--bits]` ask for.
 #[derive(Clone, Copy)]
 pub struct CheckPlan<'a> {
     /// The name of the certificate.
     pub cert: &'a str,
     /// Whether the cores are printed.
     pub cores: bool,
+    /// Whether certificates of version 3 are read.
+    pub bits: bool,
 }
 
 /// Why there is no plan.
@@ -48,6 +51,16 @@ fn cores_flag<'a>(alloc: Global) -> Arg<'a>
         .action(ArgAction::SetTrue)
 }
 
+/// The flag that asks for certificates of version 3.
+fn bits_flag<'a>(alloc: Global) -> Arg<'a>
+    ensures rule { rule_of result ≡ bits_rule }
+    ensures own { result.global ≡ false }
+{
+    Arg::new(alloc, "bits")
+        .long("bits")
+        .action(ArgAction::SetTrue)
+}
+
 /// A command without arguments and without a help flag.
 fn bare_command<'a>(alloc: Global) -> Command<'a>
     ensures { app_of result ≡ without_help (new_app (codes "ffcheck")) }
@@ -61,7 +74,8 @@ fn check_command<'a>(alloc: Global) -> Result<Command<'a>, AllocError>
 {
     bare_command(alloc)
         .arg(cert_argument(alloc))?
-        .arg(cores_flag(alloc))
+        .arg(cores_flag(alloc))?
+        .arg(bits_flag(alloc))
 }
 
 /// Whether a flag was given.
@@ -89,10 +103,12 @@ fn plan_of<'a>(matches: &ArgMatches<'a>) -> CheckPlan<'a>
     ensures cert { result.cert.now ≡ unwrap_or (first_value (found_of matches.now) (codes "cert")) [] }
     ensures cores { result.cores ≡ unwrap_or (option_map is_set (first_value (found_of matches.now) (codes "cores")))
         false }
+    ensures bits { result.bits ≡ unwrap_or (option_map is_set (first_value (found_of matches.now) (codes "bits"))) false }
 {
     CheckPlan {
         cert: text_or_empty(matches.get_str("cert")),
         cores: has_flag(matches, "cores"),
+        bits: has_flag(matches, "bits"),
     }
 }
 
@@ -113,6 +129,7 @@ impl<'a> CheckPlan<'a> {
         ensures taken { IfOk result (λ plan. AreTaken (map (λ w. w.now) words.entry.now)) }
         ensures cert { IfOk result (λ plan. plan.cert.now ≡ cert_name (map (λ w. w.now) words.entry.now)) }
         ensures cores { IfOk result (λ plan. plan.cores ≡ wants_cores (map (λ w. w.now) words.entry.now)) }
+        ensures bits { IfOk result (λ plan. plan.bits ≡ wants_bits (map (λ w. w.now) words.entry.now)) }
         ensures usage { IsErrOf result PlanStop.Usage → ¬ (AreTaken (map (λ w. w.now) words.entry.now)) }
     {
         let command = match check_command(alloc) {

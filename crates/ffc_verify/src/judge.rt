@@ -201,21 +201,22 @@ pub(crate) fn judge<C: Source>(
     alloc: Global,
     script: &[u8],
     checks: u64,
+    bits: bool,
     cores: bool,
     cert: &mut C,
 ) -> Result<Verdict, Stop>
     requires short { length script.now ≤ 67108865 }
     requires counted { IsCounted script.now checks }
     ensures ok { IfOk result
-        (λ verdict. IfSome (C.left cert.old) (λ certificate. IsVerdict cores script.now certificate verdict)) }
-    ensures read { IfSome (C.left cert.old) (λ certificate. ReadsAsNeeded script.now certificate (C.left cert.new)) }
+        (λ verdict. IfSome (C.left cert.old) (λ certificate. IsVerdict bits cores script.now certificate verdict)) }
+    ensures read { IfSome (C.left cert.old) (λ certificate. ReadsAsNeeded bits script.now certificate (C.left cert.new)) }
     ensures later { C.faults cert.old ≤ C.faults cert.new }
     ensures cause { IsErrOf result Stop.Failed → Rose (C.faults cert.old) (C.faults cert.new) }
 {
     let Ok(mut reader) = script_reader(alloc, script) else {
         return Err(Stop::Memory);
     };
-    let mut entries = CertReader::new(alloc, checks);
+    let mut entries = CertReader::new(alloc, checks, bits);
     let mut tally = Tally {
         sat: 0,
         unsat: 0,

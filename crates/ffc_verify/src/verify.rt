@@ -2,7 +2,7 @@
 ghost use Rattle.std.specs.Prelude.{◌≡◌, ◌⊎◌, ◌≤◌, length, map, IfErr, IfOk, IfSome, IsErrOf};
 ghost use Rattle.ffc_base.specs.Outside.{Rose};
 ghost use Rattle.ffc_smt.specs.Scripts.{Done, reads};
-ghost use Rattle.ffc_verify.specs.Arguments.{AreTaken, cert_name, wants_cores};
+ghost use Rattle.ffc_verify.specs.Arguments.{AreTaken, cert_name, wants_bits, wants_cores};
 ghost use Rattle.ffc_verify.specs.Due.{due};
 ghost use Rattle.ffc_verify.specs.Status.{AllHaveEntries, IsLeft, IsReadAt, SaysOfScript, TakesFront, code_of};
 ghost use Rattle.ffc_verify.specs.Ending.{EndsWith, IsEndedAs, due_of, status_at, status_of, verdict_due};
@@ -161,12 +161,12 @@ fn certificate_answer<C: NamedSource>(
     requires short { length script.now ≤ 67108865 }
     requires counted { IsCounted script.now checks }
     ensures ok { IfOk result (λ answer. IfSome (C.contents cert.old plan.now.cert.now) (λ certificate. due_of answer
-        ≡ due plan.now.cores script.now certificate)) }
+        ≡ due plan.now.bits plan.now.cores script.now certificate)) }
     ensures ending { IfOk result (λ answer. IsEndedAs answer (reads script.now).end) }
     ensures read { IfOk result (λ answer. IfSome (C.contents cert.old plan.now.cert.now) (λ certificate.
-        IsReadAt (status_of answer.ending) script.now certificate (C.left cert.old) (C.left cert.new))) }
+        IsReadAt (status_of answer.ending) plan.now.bits script.now certificate (C.left cert.old) (C.left cert.new))) }
     ensures stopped { IfErr result (λ stop. IfSome (C.contents cert.old plan.now.cert.now) (λ certificate.
-        IsReadAt (status_at stop) script.now certificate (C.left cert.old) (C.left cert.new))) }
+        IsReadAt (status_at stop) plan.now.bits script.now certificate (C.left cert.old) (C.left cert.new))) }
     ensures cause { IsErrOf result AnswerStop.CertFault → Rose (C.faults cert.old) (C.faults cert.new) }
     ensures only { IsErrOf result AnswerStop.ReadFault → ⊥ }
 {
@@ -175,7 +175,7 @@ fn certificate_answer<C: NamedSource>(
         Err(WriteStop::Failed) => return Err(AnswerStop::CertFault),
         Err(WriteStop::Memory) => return Err(AnswerStop::Memory),
     }
-    match judge(alloc, script, checks, plan.cores, cert) {
+    match judge(alloc, script, checks, plan.bits, plan.cores, cert) {
         Ok(verdict) => verdict_answer(alloc, verdict),
         Err(Stop::Failed) => Err(AnswerStop::CertFault),
         Err(Stop::Memory) => Err(AnswerStop::Memory),
@@ -191,17 +191,18 @@ fn find_answer<S: Source, C: NamedSource>(
 ) -> Result<Answer, AnswerStop>
     ensures ok { IfOk result
         (λ answer. IfSome (S.left script.old) (λ bytes. IfSome (C.contents cert.old plan.now.cert.now)
-        (λ certificate. due_of answer ≡ due plan.now.cores bytes certificate))) }
+        (λ certificate. due_of answer ≡ due plan.now.bits plan.now.cores bytes certificate))) }
     ensures ending { IfOk result (λ answer. IfSome (S.left script.old) (λ bytes. IsEndedAs answer (reads bytes).end)) }
     ensures opened { IsErrOf result AnswerStop.CertFault → IfSome (S.left script.old) (λ bytes. (reads bytes).end
         ≡ Done) }
     ensures taken { IfSome (S.left script.old) (λ bytes. TakesFront bytes (S.left script.new)) }
     ensures read { IfOk result
         (λ answer. IfSome (S.left script.old) (λ bytes. IfSome (C.contents cert.old plan.now.cert.now)
-        (λ certificate. IsReadAt (status_of answer.ending) bytes certificate (C.left cert.old) (C.left cert.new)))) }
+        (λ certificate. IsReadAt (status_of answer.ending) plan.now.bits bytes certificate (C.left cert.old)
+        (C.left cert.new)))) }
     ensures stopped { IfErr result
         (λ stop. IfSome (S.left script.old) (λ bytes. IfSome (C.contents cert.old plan.now.cert.now)
-        (λ certificate. IsReadAt (status_at stop) bytes certificate (C.left cert.old) (C.left cert.new)))) }
+        (λ certificate. IsReadAt (status_at stop) plan.now.bits bytes certificate (C.left cert.old) (C.left cert.new)))) }
     ensures unread { IsErrOf result AnswerStop.ReadFault → cert.new ≡ cert.old }
     ensures unopened { IfOk result (λ answer. answer.ending ≡ Ending.ScriptRefused → cert.new ≡ cert.old) }
     ensures read_fault { IsErrOf result AnswerStop.ReadFault → Rose (S.faults script.old) (S.faults script.new) }
@@ -255,12 +256,12 @@ fn run_plan<S: Source, C: NamedSource, O: Sink>(
 ) -> CheckStatus
     ensures usage { result ≡ CheckStatus.Usage → ⊥ }
     ensures left { IfSome (S.left script.old) (λ bytes. IfSome (C.contents cert.old plan.now.cert.now) (λ certificate.
-        IsLeft result (due plan.now.cores bytes certificate) (O.holds out.old) (O.holds out.new))) }
+        IsLeft result (due plan.now.bits plan.now.cores bytes certificate) (O.holds out.old) (O.holds out.new))) }
     ensures script { IfSome (S.left script.old) (λ bytes. SaysOfScript result bytes (O.holds out.old)
         (O.holds out.new)) }
     ensures taken { IfSome (S.left script.old) (λ bytes. TakesFront bytes (S.left script.new)) }
     ensures read { IfSome (S.left script.old) (λ bytes. IfSome (C.contents cert.old plan.now.cert.now) (λ certificate.
-        IsReadAt result bytes certificate (C.left cert.old) (C.left cert.new))) }
+        IsReadAt result plan.now.bits bytes certificate (C.left cert.old) (C.left cert.new))) }
     ensures unread { result ≡ CheckStatus.ReadFault → (out.new ≡ out.old) × (cert.new ≡ cert.old) }
     ensures unanswered { result ≡ CheckStatus.CertFault → out.new ≡ out.old }
     ensures unopened { result ≡ CheckStatus.ScriptRefused → cert.new ≡ cert.old }
@@ -277,9 +278,9 @@ fn run_plan<S: Source, C: NamedSource, O: Sink>(
 
 /// Judges a certificate for a script, and says on `out` how it was judged.
 ///
-/// The arguments are the program's name, the certificate's name and perhaps `--cores`. The script is read whole, at most
-/// 67,108,865 bytes of it, and walked twice: to its end, and beside the entries of the certificate, of which one at a time
-/// is judged. What is written is one write.
+/// The arguments are the program's name, the certificate's name and perhaps `--cores` and `--bits`, with which certificates
+/// of version 3 are read too. The script is read whole, at most 67,108,865 bytes of it, and walked twice: to its end, and
+/// beside the entries of the certificate, of which one at a time is judged. What is written is one write.
 ///
 /// # Errors
 ///
@@ -300,8 +301,8 @@ pub fn check_main<'a, S: Source, C: NamedSource, O: Sink>(
     // The status and the text in the output are those that are due for the script and the certificate.
     ensures left { IfSome (S.left script.old)
         (λ bytes. IfSome (C.contents cert.old (cert_name (map (λ w. w.now) words.now))) (λ certificate.
-        IsLeft result (due (wants_cores (map (λ w. w.now) words.now)) bytes certificate) (O.holds out.old)
-        (O.holds out.new))) }
+        IsLeft result (due (wants_bits (map (λ w. w.now) words.now)) (wants_cores (map (λ w. w.now) words.now)) bytes
+        certificate) (O.holds out.old) (O.holds out.new))) }
     ensures script { IfSome (S.left script.old) (λ bytes. SaysOfScript result bytes (O.holds out.old)
         (O.holds out.new)) }
 
@@ -312,7 +313,7 @@ pub fn check_main<'a, S: Source, C: NamedSource, O: Sink>(
     // enough.
     ensures read { IfSome (S.left script.old)
         (λ bytes. IfSome (C.contents cert.old (cert_name (map (λ w. w.now) words.now))) (λ certificate.
-        IsReadAt result bytes certificate (C.left cert.old) (C.left cert.new))) }
+        IsReadAt result (wants_bits (map (λ w. w.now) words.now)) bytes certificate (C.left cert.old) (C.left cert.new))) }
 
     // What a run did not reach is as it was.
     ensures unread { result ≡ CheckStatus.ReadFault → (out.new ≡ out.old) × (cert.new ≡ cert.old) }
@@ -322,7 +323,7 @@ pub fn check_main<'a, S: Source, C: NamedSource, O: Sink>(
     // At `Accepted` every check of the script has an entry that is true of it.
     ensures accepted_means { result ≡ CheckStatus.Accepted → IfSome (S.left script.old)
         (λ bytes. IfSome (C.contents cert.old (cert_name (map (λ w. w.now) words.now)))
-        (λ certificate. AllHaveEntries bytes certificate)) }
+        (λ certificate. AllHaveEntries (wants_bits (map (λ w. w.now) words.now)) bytes certificate)) }
     ensures read_fault { result ≡ CheckStatus.ReadFault → Rose (S.faults script.old) (S.faults script.new) }
     ensures cert_fault { result ≡ CheckStatus.CertFault → Rose (C.faults cert.old) (C.faults cert.new) }
     ensures write_fault { result ≡ CheckStatus.WriteFault → Rose (O.faults out.old) (O.faults out.new) }

@@ -95,7 +95,7 @@ fn end<R: Eprint>(rt: &R, status: CheckStatus) -> ExitCode
     ensures { exit_status result ≡ code_of status }
 {
     let line = match status {
-        CheckStatus::Usage => Some("usage: ffcheck CERT [--cores]"),
+        CheckStatus::Usage => Some("usage: ffcheck CERT [--cores] [--bits]"),
         CheckStatus::Memory => Some("ffcheck: out of memory"),
         _ => None,
     };

@@ -37,9 +37,9 @@ struct Taken {
 }
 
 impl OpenReader {
-    fn new(alloc: Global) -> OpenReader {
+    fn new(alloc: Global, bits: bool) -> OpenReader {
         OpenReader {
-            reader: CertReader::new(alloc, 1),
+            reader: CertReader::new(alloc, 1, bits),
         }
     }
 
@@ -71,7 +71,7 @@ impl OpenReader {
 
 /// The text of an entry in a version.
 fn write_in(alloc: Global, version: u8, entry: &Entry) -> Result<Written, AllocError>
-    requires version { (version ≡ 1) ⊎ (version ≡ 2) }
+    requires version { (version ≡ 1) ⊎ ((version ≡ 2) ⊎ (version ≡ 3)) }
     requires fits { FitsVersion version entry.now }
 {
     let mut text = Vec::new(alloc);
@@ -87,6 +87,7 @@ fn write_again(alloc: Global, version: Option<u8>, entry: &Entry) -> Result<Writ
     match version {
         Some(1) => write_in(alloc, 1, entry),
         Some(2) => write_in(alloc, 2, entry),
+        Some(3) => write_in(alloc, 3, entry),
         _ => Ok(Written {
             length: 0,
             text: Vec::new(alloc),
@@ -106,10 +107,16 @@ fn take_piece(
     reader.take_entry(alloc, taken)
 }
 
-/// Reads a text of one entry in pieces.
-fn read(alloc: Global, text: &[u8], cut: Cut, taken: &mut Taken) -> Result<(), CertStop> {
+/// Reads a text of one entry in pieces, of version 3 only with bits.
+fn read(
+    alloc: Global,
+    bits: bool,
+    text: &[u8],
+    cut: Cut,
+    taken: &mut Taken,
+) -> Result<(), CertStop> {
     let (front, back) = text.split_at(cut.first.min(text.len()));
-    let mut reader = OpenReader::new(alloc);
+    let mut reader = OpenReader::new(alloc, bits);
     take_piece(alloc, &mut reader, front, taken)?;
     for piece in back.chunks(cut.later.max(1)) {
         take_piece(alloc, &mut reader, piece, taken)?;
@@ -122,6 +129,14 @@ fn read(alloc: Global, text: &[u8], cut: Cut, taken: &mut Taken) -> Result<(), C
 pub(crate) enum Shown {
     Written,
     Parts,
+}
+
+/// How a text is read and shown.
+#[derive(Clone, Copy)]
+pub(crate) struct Manner {
+    /// Whether version 3 is read.
+    pub(crate) bits: bool,
+    pub(crate) shown: Shown,
 }
 
 /// The length of an entry's text, and the text where it is not this one.
@@ -155,23 +170,23 @@ fn after_header(text: &[u8]) -> &[u8] {
 }
 
 /// What is read of a text of one entry in pieces: the entry or the fault.
-fn found(alloc: Global, text: &[u8], cut: Cut, shown: Shown, taken: &mut Taken) -> Finding {
-    match read(alloc, text, cut, taken) {
+fn found(alloc: Global, text: &[u8], cut: Cut, manner: Manner, taken: &mut Taken) -> Finding {
+    match read(alloc, manner.bits, text, cut, taken) {
         Err(stop) => format!(in alloc; "{stop}"),
         Ok(()) => match &taken.entry {
-            Some(given) => described(alloc, given, after_header(text), shown),
+            Some(given) => described(alloc, given, after_header(text), manner.shown),
             None => say(alloc, "no entry"),
         },
     }
 }
 
 /// What is read of a text of one entry in pieces, after the version that its first line names.
-pub(crate) fn entry(alloc: Global, text: &[u8], cut: Cut, shown: Shown) -> Finding {
+pub(crate) fn entry(alloc: Global, text: &[u8], cut: Cut, manner: Manner) -> Finding {
     let mut taken = Taken {
         version: None,
         entry: None,
     };
-    let found = found(alloc, text, cut, shown, &mut taken)?;
+    let found = found(alloc, text, cut, manner, &mut taken)?;
     match taken.version {
         Some(version) => format!(in alloc; "version {version}, {found}"),
         None => format!(in alloc; "no version, {found}"),

@@ -9,7 +9,7 @@ use std::alloc::Global;
 pub(crate) fn entry_of(alloc: Global, text: &[u8]) -> Option<Entry>
     ensures { IfSome result IsReadableEntry }
 {
-    let mut reader = CertReader::new(alloc, 1);
+    let mut reader = CertReader::new(alloc, 1, true);
     if reader.feed(text).is_err() {
         return None;
     }

@@ -1,5 +1,5 @@
 //! Texts that are read in pieces of several kinds.
-use crate::certificates::{Shown, entry};
+use crate::certificates::{Manner, Shown, entry};
 use crate::commands::{Finding, MALFORMED, say};
 use crate::lexing::{fault, tokens};
 use crate::pieces::{Cut, Pieces, cuts};
@@ -11,16 +11,41 @@ pub(crate) enum ReadCommand {
     Fault,
     Tokens,
     EachHigh,
-    Read,
-    Show,
+    Certificate(Manner),
 }
 
-pub(crate) const READ_COMMANDS: [(&str, ReadCommand); 5] = [
+pub(crate) const READ_COMMANDS: [(&str, ReadCommand); 7] = [
     ("fault", ReadCommand::Fault),
     ("tokens", ReadCommand::Tokens),
     ("fault-each", ReadCommand::EachHigh),
-    ("read", ReadCommand::Read),
-    ("show", ReadCommand::Show),
+    (
+        "read",
+        ReadCommand::Certificate(Manner {
+            bits: false,
+            shown: Shown::Written,
+        }),
+    ),
+    (
+        "show",
+        ReadCommand::Certificate(Manner {
+            bits: false,
+            shown: Shown::Parts,
+        }),
+    ),
+    (
+        "read-bits",
+        ReadCommand::Certificate(Manner {
+            bits: true,
+            shown: Shown::Written,
+        }),
+    ),
+    (
+        "show-bits",
+        ReadCommand::Certificate(Manner {
+            bits: true,
+            shown: Shown::Parts,
+        }),
+    ),
 ];
 
 /// Findings one after another, of which one that is as the one before it is left out.
@@ -53,8 +78,7 @@ fn found(alloc: Global, command: ReadCommand, text: &[u8], cut: Cut) -> Finding 
     match command {
         ReadCommand::Fault | ReadCommand::EachHigh => fault(alloc, text, cut),
         ReadCommand::Tokens => tokens(alloc, text, cut),
-        ReadCommand::Read => entry(alloc, text, cut, Shown::Written),
-        ReadCommand::Show => entry(alloc, text, cut, Shown::Parts),
+        ReadCommand::Certificate(manner) => entry(alloc, text, cut, manner),
     }
 }
 

@@ -11,6 +11,7 @@ returns-in-Ok-judge-clause-ok g c =
     let left = g.C.Source.left c.open_named.new.self in
     let script = c.args.script.now in
     let cores = c.args.plan.now.cores in
+    let bits = c.args.plan.now.bits in
     let v = c.in-Ok-judge.verdict in
-    ok_by c.verdict_answer.result (λ a. due_of a ≡ verdict_due v) (λ a. IfSome contents (λ certificate. due_of a ≡ due cores script certificate)) c.verdict_answer.ensures.ok
-    (λ a e. opened_due cores script contents left v a c.requires.counted.done c.in-Ok.ensures.opened c.in-Ok-judge.ensures.ok e)
+    ok_by c.verdict_answer.result (λ a. due_of a ≡ verdict_due v) (λ a. IfSome contents (λ certificate. due_of a ≡ due bits cores script certificate)) c.verdict_answer.ensures.ok
+    (λ a e. opened_due bits cores script contents left v a c.requires.counted.done c.in-Ok.ensures.opened c.in-Ok-judge.ensures.ok e)

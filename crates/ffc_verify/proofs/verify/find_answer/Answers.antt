@@ -20,10 +20,11 @@ returns-in-Ok-count_checks-clause-ok g c =
     let left = g.S.Source.left c.args.script.now in
     let text = c.as_slice-in-Ok-count_checks.result.now in
     let cores = c.args.plan.now.cores in
+    let bits = c.args.plan.now.bits in
     let is = subst (λ t. IfSome left (λ bytes. t ≡ take 67108865 bytes)) (sym c.as_slice-in-Ok-count_checks.ensures.value) c.in-Ok.ensures.ok in
-    ok_by c.certificate_answer.result (λ a. IfSome contents (λ certificate. due_of a ≡ due cores text certificate))
-    (λ a. IfSome left (λ bytes. IfSome contents (λ certificate. due_of a ≡ due cores bytes certificate))) c.certificate_answer.ensures.ok
-    (λ a h. read_due cores text left contents a is h)
+    ok_by c.certificate_answer.result (λ a. IfSome contents (λ certificate. due_of a ≡ due bits cores text certificate))
+    (λ a. IfSome left (λ bytes. IfSome contents (λ certificate. due_of a ≡ due bits cores bytes certificate))) c.certificate_answer.ensures.ok
+    (λ a h. read_due bits cores text left contents a is h)
 
 pub returns-in-Ok-count_checks-clause-ending : goal.returns-in-Ok-count_checks-clause-ending
 returns-in-Ok-count_checks-clause-ending g c =
@@ -46,12 +47,13 @@ returns-in-Fault-clause-ok g c =
     let left = g.S.Source.left c.args.script.now in
     let text = c.as_slice.result.now in
     let cores = c.args.plan.now.cores in
+    let bits = c.args.plan.now.bits in
     let f = c.in-Fault.fault in
     let is = subst (λ t. IfSome left (λ bytes. t ≡ take 67108865 bytes)) (sym c.as_slice.ensures.value) c.in-Ok.ensures.ok in
     let end : (reads text).end ≡ AtFault f.line f.column f.code = subst (IsFaultOf text) c.in-Fault.is c.in-Err.ensures.stop in
     ok_by c.fault_answer.result (λ a. due_of a ≡ record { status = status.ScriptRefused; text = fault_line f.line f.column f.code })
-    (λ a. IfSome left (λ bytes. IfSome contents (λ certificate. due_of a ≡ due cores bytes certificate))) c.fault_answer.ensures.ok
-    (λ a e. read_due cores text left contents a is (fault_due cores text contents a f.line f.column f.code e end))
+    (λ a. IfSome left (λ bytes. IfSome contents (λ certificate. due_of a ≡ due bits cores bytes certificate))) c.fault_answer.ensures.ok
+    (λ a e. read_due bits cores text left contents a is (fault_due bits cores text contents a f.line f.column f.code e end))
 
 pub returns-in-Fault-clause-ending : goal.returns-in-Fault-clause-ending
 returns-in-Fault-clause-ending g c =
@@ -79,9 +81,9 @@ returns-in-Ok-count_checks-clause-read g c =
     let old = g.C.Source.left c.args.cert.now in
     let new = g.C.Source.left c.certificate_answer.new.cert in
     let is = subst (λ t. IfSome left (λ bytes. t ≡ take 67108865 bytes)) (sym c.as_slice-in-Ok-count_checks.ensures.value) c.in-Ok.ensures.ok in
-    ok_by c.certificate_answer.result (λ a. IfSome contents (λ certificate. IsReadAt (status_of a.ending) text certificate old new))
-    (λ a. IfSome left (λ bytes. IfSome contents (λ certificate. IsReadAt (status_of a.ending) bytes certificate old new))) c.certificate_answer.ensures.read
-    (λ a h. script_read (status_of a.ending) text left contents old new is h)
+    ok_by c.certificate_answer.result (λ a. IfSome contents (λ certificate. IsReadAt (status_of a.ending) c.args.plan.now.bits text certificate old new))
+    (λ a. IfSome left (λ bytes. IfSome contents (λ certificate. IsReadAt (status_of a.ending) c.args.plan.now.bits bytes certificate old new))) c.certificate_answer.ensures.read
+    (λ a h. script_read (status_of a.ending) c.args.plan.now.bits text left contents old new is h)
 
 pub returns-in-Ok-count_checks-clause-stopped : goal.returns-in-Ok-count_checks-clause-stopped
 returns-in-Ok-count_checks-clause-stopped g c =
@@ -91,6 +93,6 @@ returns-in-Ok-count_checks-clause-stopped g c =
     let old = g.C.Source.left c.args.cert.now in
     let new = g.C.Source.left c.certificate_answer.new.cert in
     let is = subst (λ t. IfSome left (λ bytes. t ≡ take 67108865 bytes)) (sym c.as_slice-in-Ok-count_checks.ensures.value) c.in-Ok.ensures.ok in
-    IfErr-weaker c.certificate_answer.result (λ stop. IfSome contents (λ certificate. IsReadAt (status_at stop) text certificate old new))
-    (λ stop. IfSome left (λ bytes. IfSome contents (λ certificate. IsReadAt (status_at stop) bytes certificate old new)))
-    (λ stop h. script_read (status_at stop) text left contents old new is h) c.certificate_answer.ensures.stopped
+    IfErr-weaker c.certificate_answer.result (λ stop. IfSome contents (λ certificate. IsReadAt (status_at stop) c.args.plan.now.bits text certificate old new))
+    (λ stop. IfSome left (λ bytes. IfSome contents (λ certificate. IsReadAt (status_at stop) c.args.plan.now.bits bytes certificate old new)))
+    (λ stop h. script_read (status_at stop) c.args.plan.now.bits text left contents old new is h) c.certificate_answer.ensures.stopped

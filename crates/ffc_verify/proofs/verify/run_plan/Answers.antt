@@ -8,7 +8,7 @@ returns-in-Err-clause-usage g c = λ e. (which_stop c.in-Err.stop c.status_witho
 
 pub returns-in-Err-clause-left : goal.returns-in-Err-clause-left
 returns-in-Err-clause-left g c =
-    left_without c.in-Err.stop c.status_without.result c.args.plan.now.cores (g.S.Source.left c.args.script.now) (g.C.NamedSource.contents c.args.cert.now c.args.plan.now.cert.now) (g.O.Sink.holds c.args.out.now)
+    left_without c.in-Err.stop c.status_without.result c.args.plan.now.bits c.args.plan.now.cores (g.S.Source.left c.args.script.now) (g.C.NamedSource.contents c.args.cert.now c.args.plan.now.cert.now) (g.O.Sink.holds c.args.out.now)
     c.status_without.ensures
 
 pub returns-in-Err-clause-script : goal.returns-in-Err-clause-script
@@ -29,7 +29,7 @@ returns-clause-usage g c = λ e. (which_answer c.in-Ok.answer c.write_answer.res
 
 pub returns-clause-left : goal.returns-clause-left
 returns-clause-left g c =
-    left_due c.args.plan.now.cores (g.S.Source.left c.args.script.now) (g.C.NamedSource.contents c.args.cert.now c.args.plan.now.cert.now) c.in-Ok.answer c.write_answer.result (g.O.Sink.holds c.args.out.now)
+    left_due c.args.plan.now.bits c.args.plan.now.cores (g.S.Source.left c.args.script.now) (g.C.NamedSource.contents c.args.cert.now c.args.plan.now.cert.now) c.in-Ok.answer c.write_answer.result (g.O.Sink.holds c.args.out.now)
     (g.O.Sink.holds c.write_answer.new.out) c.in-Ok.ensures.ok c.write_answer.ensures.left
 
 pub returns-clause-script : goal.returns-clause-script

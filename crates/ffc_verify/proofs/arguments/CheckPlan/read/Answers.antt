@@ -15,3 +15,8 @@ pub returns-in-Ok-try_get_matches_from-clause-cores : goal.returns-in-Ok-try_get
 returns-in-Ok-try_get_matches_from-clause-cores c =
     let words = map (λ (w : Bor (List ℕ)). w.now) c.args.words.now in
     c.plan_of.ensures.cores ∙ ap (λ o. unwrap_or (option_map is_set o) false) (first_is c.in-Ok-try_get_matches_from.matches (app_of c.in-Ok.command) words c.in-Ok.ensures c.in-Ok-try_get_matches_from.ensures.matches (codes "cores"))
+
+pub returns-in-Ok-try_get_matches_from-clause-bits : goal.returns-in-Ok-try_get_matches_from-clause-bits
+returns-in-Ok-try_get_matches_from-clause-bits c =
+    let words = map (λ (w : Bor (List ℕ)). w.now) c.args.words.now in
+    c.plan_of.ensures.bits ∙ ap (λ o. unwrap_or (option_map is_set o) false) (first_is c.in-Ok-try_get_matches_from.matches (app_of c.in-Ok.command) words c.in-Ok.ensures c.in-Ok-try_get_matches_from.ensures.matches (codes "bits"))
