@@ -2,7 +2,7 @@
 use Rattle.std.proofs.Common.{◌≡◌, ℕ, ◌+◌, ◌<◌, ◌≤◌, List, [], ◌∷◌, ◌++◌, length, get_or, take, sym, ap, ◌∙◌, subst, arith}
 use Rattle.std.specs.List.{AllByRecursion}
 use Rattle.std.proofs.Math.Seq.{take-length}
-use Rattle.ffc_cert.specs.Ranges.{IsPower, VariablesIncrease}
+use Rattle.ffc_cert.specs.Ranges.{Increase, IsNarrow, IsPower, VariablesIncrease}
 use Rattle.ffc_uni.proofs.Rows.{taken_at}
 
 pub each_last : {A : Type 0} (P : A → Type 0) (xs : List A) (x : A) → AllByRecursion P xs → P x → AllByRecursion P (xs ++ x ∷ [])
@@ -41,3 +41,28 @@ more_powers least xs i x h at are power above =
 
 pub powers_whole : (least : ℕ) (xs : List (ℕ × ℕ)) (i : ℕ) → i ≡ length xs → ArePowers least (take i xs) → ArePowers least xs
 powers_whole least xs i end are = subst (ArePowers least) (ap (λ n. take n xs) end ∙ take-length xs) are
+
+numbers_last : (xs : List ℕ) (x : ℕ) → Increase xs → AllByRecursion (λ y. y < x) xs → Increase (xs ++ x ∷ [])
+numbers_last [] x all below = (tt, tt)
+numbers_last (y ∷ xs) x all below = (each_last (λ z. y < z) xs x all.0 below.0, numbers_last xs x all.1 below.1)
+
+-- variables from the lowest, all below a number
+pub record AreBelow (least : ℕ) (variables : List ℕ) : Type 0 where
+  pub each : AllByRecursion IsNarrow variables
+  pub increasing : Increase variables
+  pub below : AllByRecursion (λ y. y < least) variables
+
+pub none_below : (least : ℕ) → AreBelow least []
+none_below least = record { each = tt; increasing = tt; below = tt }
+
+pub one_more_below : (least : ℕ) (xs : List ℕ) (i : ℕ) (x : ℕ) → i < length xs → x ≡ get_or xs i x → AreBelow least (take i xs) → IsNarrow x → least ≤ x → AreBelow (x + 1) (take (i + 1) xs)
+one_more_below least xs i x h at are narrow above =
+    let below : AllByRecursion (λ (y : ℕ). y < x) (take i xs) = each_weaker (λ y. y < least) (λ y. y < x) (λ y lower. omega (arith, lower, above)) (take i xs) are.below in
+    subst (AreBelow (x + 1)) (sym (taken_at xs i x h at)) (record {
+      each = each_last IsNarrow (take i xs) x are.each narrow;
+      increasing = numbers_last (take i xs) x are.increasing below;
+      below = each_last (λ y. y < x + 1) (take i xs) x (each_weaker (λ y. y < x) (λ y. y < x + 1) (λ y lower. omega (arith, lower)) (take i xs) below) (omega arith);
+    })
+
+pub whole_below : (least : ℕ) (xs : List ℕ) (i : ℕ) → i ≡ length xs → AreBelow least (take i xs) → AreBelow least xs
+whole_below least xs i end are = subst (AreBelow least) (ap (λ n. take n xs) end ∙ take-length xs) are

@@ -1,8 +1,10 @@
 //! Writing the lines of a stack into a tree, each as the sum of its parts.
+use crate::needed::Needed;
 use crate::sums::write_sum;
 use crate::tree::Tree;
 use crate::written::{scaled_line, terms_of};
 use ffc_basis::{Line, LineId};
+use ffc_bits::{Derived, Reason, Source, Step, StepId};
 use ffc_cert::{CertLine, Multiple};
 use ffc_field::Field;
 use ffc_mono::MonoOrder;
@@ -24,62 +26,81 @@ pub fn multiples_of<F: Field, O: MonoOrder>(
     Ok(multiples)
 }
 
-/// Marks the lines of these parts.
-fn mark_parts<F: Field, O: MonoOrder>(needed: &mut [bool], parts: &[(LineId, Poly<F, O>)]) {
-    for part in parts {
-        if let Some(mark) = needed.get_mut(part.0 as usize) {
-            *mark = true;
-        }
-    }
-}
-
-/// A mark for each line: whether it is among these targets.
-fn marks_of(alloc: Global, count: usize, targets: &[LineId]) -> Result<Vec<bool>, AllocError> {
-    let mut needed = Vec::new(alloc);
-    needed.resize(count, false)?;
-    for target in targets {
-        if let Some(mark) = needed.get_mut(*target as usize) {
-            *mark = true;
-        }
-    }
-    Ok(needed)
-}
-
-/// A mark for each line: whether it is one of these targets, or a part of one leads to it by lines without numbers.
-fn needed_for<F: Field, O: MonoOrder>(
+/// Writes a derived line, whose reason's lines have numbers. One that has none gets a number that no line has, with which no
+/// tree is accepted.
+fn write_step<F: Field, O: MonoOrder>(
     alloc: Global,
-    tree: &Tree,
-    lines: &[Line<F, O>],
-    targets: &[LineId],
-) -> Result<Vec<bool>, AllocError> {
-    let mut needed = marks_of(alloc, lines.len(), targets)?;
-    for i in (0..lines.len()).rev() {
-        if is_marked(&needed, i) && tree.number_of(i as LineId).is_none() {
-            mark_parts(&mut needed, &lines[i].parts);
+    tree: &mut Tree,
+    number: StepId,
+    step: &Step<F, O>,
+) -> Result<(), AllocError> {
+    match &step.reason {
+        Reason::Sum(parts) => {
+            let mut multiples = Vec::new(alloc);
+            for part in parts {
+                let line = tree.number_at(part.0).unwrap_or(u32::MAX);
+                multiples.push((line, terms_of(alloc, &part.1)?))?;
+            }
+            write_sum(alloc, tree, multiples, None)?;
+        }
+        Reason::Bits {
+            line,
+            chosen,
+            poly,
+            bits,
+        } => {
+            let line = tree.number_at(*line).unwrap_or(u32::MAX);
+            let mut variables = Vec::new(alloc);
+            let mut numbers = Vec::new(alloc);
+            for bit in bits {
+                variables.push(bit.0)?;
+                numbers.push(tree.number_at(bit.1).unwrap_or(u32::MAX))?;
+            }
+            let terms = terms_of(alloc, poly)?;
+            tree.write_bits(line, chosen.clone()?, terms, variables, numbers)?;
         }
     }
-    Ok(needed)
+    tree.note_step(number, step.line)
 }
 
-/// Whether there is a mark at this place.
-fn is_marked(marks: &[bool], place: usize) -> bool {
-    match marks.get(place) {
-        Some(mark) => *mark,
-        None => false,
+/// Writes the derived lines that are needed, from a number on, up to those that were derived where the stack had so many lines.
+/// Answers the number of the next one.
+fn write_steps<F: Field, O: MonoOrder>(
+    alloc: Global,
+    tree: &mut Tree,
+    derived: &Derived<F, O>,
+    needed: &Needed,
+    first: StepId,
+    since: usize,
+) -> Result<StepId, AllocError> {
+    let mut next = first;
+    for (number, step) in derived.steps().iter().enumerate().skip(first) {
+        if step.since > since {
+            break;
+        }
+        let source = Source::Step(number);
+        if needed.has(source) && tree.number_at(source).is_none() {
+            write_step(alloc, tree, number, step)?;
+        }
+        next = number.saturating_add(1);
     }
+    Ok(next)
 }
 
-/// Writes these lines of the stack, and before them those that they are sums of, unless they are on the branch.
+/// Writes these lines of the stack, and before them those that they are sums of or follow from, unless they are on the branch.
 pub fn write_lines<F: Field, O: MonoOrder>(
     alloc: Global,
     tree: &mut Tree,
     lines: &[Line<F, O>],
+    derived: &Derived<F, O>,
     targets: &[LineId],
 ) -> Result<(), AllocError> {
-    let needed = needed_for(alloc, tree, lines, targets)?;
+    let needed = Needed::of(alloc, Some(tree), lines, derived, targets)?;
+    let mut next = 0;
     for (i, line) in lines.iter().enumerate() {
+        next = write_steps(alloc, tree, derived, &needed, next, i)?;
         let id = i as LineId;
-        if is_marked(&needed, i) && tree.number_of(id).is_none() {
+        if needed.has(Source::Line(id)) && tree.number_of(id).is_none() {
             let multiples = multiples_of(alloc, tree, &line.parts)?;
             write_sum(alloc, tree, multiples, Some(id))?;
         }
@@ -92,9 +113,10 @@ pub fn write_close<F: Field, O: MonoOrder>(
     alloc: Global,
     tree: &mut Tree,
     lines: &[Line<F, O>],
+    derived: &Derived<F, O>,
     constant: LineId,
 ) -> Result<(), AllocError> {
-    write_lines(alloc, tree, lines, &[constant])?;
+    write_lines(alloc, tree, lines, derived, &[constant])?;
     if !tree.ends_with(constant) {
         if let Some(number) = tree.number_of(constant) {
             let mut multiples = Vec::new(alloc);

@@ -1,7 +1,7 @@
 //! Whether lines of a tree have the ranges that a certificate can have.
 ghost use Rattle.std.specs.Prelude.{◌<◌, ◌^◌, length, IsTrue};
 ghost use Rattle.std.specs.List.{AllByRecursion};
-ghost use Rattle.ffc_cert.specs.Ranges.{IsNarrow, IsWide, IsPower, IsMonomial, IsCounted, IsTerm, IsMultiple, IsLine};
+ghost use Rattle.ffc_cert.specs.Ranges.{IsNarrow, IsWide, IsPower, IsMonomial, IsCounted, IsTerm, IsMultiple, AreVariables, IsLine};
 
 use ffc_cert::{CertLine, Multiple, Power, Term};
 
@@ -85,12 +85,44 @@ fn are_numbers(numbers: &[u64]) -> bool
     is_counted(numbers.len())
 }
 
+/// Whether variables increase strictly.
+fn are_variables(variables: &[u32]) -> bool
+    ensures { IsTrue result → AreVariables variables.now }
+{
+    let mut least = 0u64;
+    for variable in variables {
+        if u64::from(*variable) < least || !is_narrow(*variable) {
+            return false;
+        }
+        least = u64::from(*variable) + 1;
+    }
+    is_counted(variables.len())
+}
+
+/// Whether a list of numbers of 32 bits is short enough.
+fn are_narrow(numbers: &[u32]) -> bool
+    ensures { IsTrue result → IsCounted IsNarrow numbers.now }
+{
+    for number in numbers {
+        if !is_narrow(*number) {
+            return false;
+        }
+    }
+    is_counted(numbers.len())
+}
+
 /// Whether a line of a tree has the ranges that a certificate can have. A line of another form has not.
 fn is_line(line: &CertLine) -> bool
     ensures { IsTrue result → IsLine line.now }
 {
     match line {
         CertLine::Combine(multiples) => are_multiples(multiples.as_slice()),
+        CertLine::Bits(line, chosen, polynomial, bits) => {
+            is_narrow(*line)
+                && are_variables(chosen.as_slice())
+                && are_terms(polynomial.as_slice())
+                && are_narrow(bits.as_slice())
+        }
         CertLine::Step(quotient, remainder) => {
             are_numbers(quotient.as_slice()) && are_numbers(remainder.as_slice())
         }

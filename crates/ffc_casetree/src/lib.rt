@@ -10,6 +10,7 @@
 mod checked;
 mod emitting;
 mod fitting;
+mod needed;
 mod sums;
 mod tree;
 mod written;
@@ -17,6 +18,7 @@ mod written;
 pub use checked::first_line;
 pub use emitting::{multiples_of, write_close, write_lines};
 pub use fitting::are_lines;
+pub use needed::generators_of;
 pub use sums::write_sum;
 pub use tree::Tree;
 pub use written::{residues, scaled_line, terms_in};

@@ -15,7 +15,7 @@ use Rattle.ffc_search.specs.Finding.{OnClosed}
 -- what holds of a tree that is found holds of it by another name
 pub on_closed : {F : Type 0} (found : Found F) (P Q : List CertLine → Type 0) → ((tree : List CertLine) → P tree → Q tree) → OnClosed found P → OnClosed found Q
 on_closed (Values values) P Q f h = tt
-on_closed (Closed tree) P Q f h = f tree.items h
+on_closed (Closed tree sums) P Q f h = f tree.items h
 
 -- the generators of lines, one after another
 

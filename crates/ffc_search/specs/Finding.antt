@@ -22,12 +22,12 @@ pub record IsCommonZero (p : ℕ) (gens : List Terms) (vars values : List ℕ) :
 -- what holds of values that are found
 abbrev pub OnValues : {F : Type 0} → Found F → (List ℕ → Type 0) → Type 0
 OnValues (Values values) P = P values
-OnValues (Closed tree) P = Unit {0}
+OnValues (Closed tree sums) P = Unit {0}
 
 -- what holds of a tree that is found
 abbrev pub OnClosed : {F : Type 0} → Found F → (List CertLine → Type 0) → Type 0
 OnClosed (Values values) P = Unit {0}
-OnClosed (Closed tree) P = P tree.items
+OnClosed (Closed tree sums) P = P tree.items
 
 -- whether a line has no parts
 abbrev pub is_generator : Parts → Bool

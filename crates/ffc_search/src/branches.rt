@@ -7,9 +7,11 @@ use crate::points::less_root;
 use crate::weights::Weights;
 use ffc_base::{Meter, SearchStop};
 use ffc_basis::{LineId, Progress};
-use ffc_casetree::Tree;
+use ffc_bits::{Derived, Reasoning};
+use ffc_casetree::{Tree, generators_of};
 use ffc_field::Field;
 use ffc_mono::MonoOrder;
+use ffc_poly::Poly;
 use ffc_stack::BasisStack;
 use std::alloc::{AllocError, Global};
 
@@ -29,11 +31,28 @@ pub struct Branching<F: Field> {
     proving: bool,
 }
 
-/// Where the search is: the cases that are open, the outermost first, and the tree that is written.
+/// A level of the stack above those that were there before.
 #[derive(Drop)]
-pub struct Walk<F: Field> {
+enum Level<F: Field> {
+    Case(Branching<F>),
+    /// What equations of bits force. So many lines were derived before.
+    Consequences(usize),
+}
+
+/// Levels that are left, and of those with consequences how many lines were derived before, if there are any.
+#[derive(Clone, Copy)]
+pub struct Left {
+    levels: usize,
+    derived: Option<usize>,
+}
+
+/// Where the search is: the levels that are open, the outermost first, and the tree that is written.
+pub struct Walk<F: Field, O: MonoOrder> {
     pub tree: Tree,
-    waiting: Vec<Branching<F>>,
+    pub derived: Derived<F, O>,
+    /// What is known of bits, where they are reasoned about.
+    pub reasoning: Option<Reasoning>,
+    waiting: Vec<Level<F>>,
     /// Whether each branch so far was closed, so that the tree is written on.
     pub proving: bool,
     /// How many units a branch is completed with.
@@ -41,6 +60,21 @@ pub struct Walk<F: Field> {
     /// How many lines of the tree there are before all cases.
     len: usize,
     pub weights: Weights,
+}
+
+impl<F: Field, O: MonoOrder> Drop for Walk<F, O> {
+    fn drop(self) {
+        let Walk {
+            tree: _,
+            derived: _,
+            reasoning: _,
+            waiting: _,
+            proving: _,
+            share: _,
+            len: _,
+            weights: _,
+        } = self;
+    }
 }
 
 /// Pops a level, where it is the second one or a later one above so many.
@@ -61,12 +95,24 @@ pub fn pop_to<F: Field, O: MonoOrder>(stack: &mut BasisStack<F, O>, floor: u64)
     }
 }
 
-impl<F: Field> Walk<F> {
+impl<F: Field> Level<F> {
+    /// Whether it is a case of which the line is among these.
+    fn is_case_of(&self, generators: &[LineId]) -> bool {
+        match self {
+            Level::Case(branching) => generators.contains(&branching.line),
+            Level::Consequences(_) => false,
+        }
+    }
+}
+
+impl<F: Field, O: MonoOrder> Walk<F, O> {
     /// The walk with no case.
     pub fn begin(alloc: Global, tree: Tree, share: u64, weights: Weights) -> Self {
         Walk {
             len: tree.len(),
             tree,
+            derived: Derived::new(alloc),
+            reasoning: None,
             waiting: Vec::new(alloc),
             proving: true,
             share,
@@ -74,34 +120,43 @@ impl<F: Field> Walk<F> {
         }
     }
 
-    /// Adds to the weights of the cases on which a closed branch rests, and leaves the innermost cases on which it does not
-    /// rest. Their levels, so many, are still on the stack.
-    fn leave_unneeded(&mut self, generators: &[LineId]) -> Result<usize, AllocError> {
-        for branching in self.waiting.as_slice() {
-            if generators.contains(&branching.line) {
-                self.weights.add(branching.variable)?;
+    /// Adds to the weights of the cases on which a closed branch rests, and leaves the innermost levels but for such cases. They
+    /// are still on the stack.
+    fn leave_unneeded(&mut self, generators: &[LineId]) -> Result<Left, AllocError> {
+        for level in self.waiting.as_slice() {
+            if let Level::Case(branching) = level {
+                if generators.contains(&branching.line) {
+                    self.weights.add(branching.variable)?;
+                }
             }
         }
         let count = self.waiting.len();
-        while let Some(branching) = self.waiting.last() {
-            if generators.contains(&branching.line) {
+        let mut derived = None;
+        while let Some(level) = self.waiting.last() {
+            if level.is_case_of(generators) {
                 break;
+            }
+            if let Level::Consequences(before) = level {
+                derived = Some(*before);
             }
             self.waiting.pop();
         }
-        let left = count.saturating_sub(self.waiting.len());
-        if left > 0 {
+        let levels = count.saturating_sub(self.waiting.len());
+        if levels > 0 {
             self.go_back();
         }
-        Ok(left)
+        Ok(Left { levels, derived })
     }
 
     /// Goes back in the tree to where the innermost case was opened.
     fn go_back(&mut self) {
-        let (len, written, proving) = match self.waiting.last() {
-            Some(case) => (case.len.saturating_add(1), case.written, case.proving),
-            None => (self.len, 0, true),
-        };
+        let mut last = (self.len, 0, true);
+        for level in self.waiting.as_slice() {
+            if let Level::Case(case) = level {
+                last = (case.len.saturating_add(1), case.written, case.proving);
+            }
+        }
+        let (len, written, proving) = last;
         self.tree.cut(len);
         self.tree.take_back(written);
         self.proving = proving;
@@ -111,6 +166,8 @@ impl<F: Field> Walk<F> {
     pub fn into_parts(self) -> (Tree, Weights) {
         let Walk {
             tree,
+            derived: _,
+            reasoning: _,
             waiting: _,
             proving: _,
             share: _,
@@ -125,7 +182,7 @@ impl<F: Field> Walk<F> {
 fn open_case<F: Field, O: MonoOrder>(
     alloc: Global,
     stack: &mut BasisStack<F, O>,
-    walk: &mut Walk<F>,
+    walk: &mut Walk<F, O>,
     mut branching: Branching<F>,
     meter: &mut Meter,
 ) -> Result<Progress, SearchStop>
@@ -143,7 +200,7 @@ fn open_case<F: Field, O: MonoOrder>(
         walk.tree.place(Some(branching.line))?;
     }
     branching.opened += 1;
-    walk.waiting.push(branching)?;
+    walk.waiting.push(Level::Case(branching))?;
     Ok(stack.push_within(&[poly], walk.share, meter)?)
 }
 
@@ -151,52 +208,75 @@ fn open_case<F: Field, O: MonoOrder>(
 pub fn next_case<F: Field, O: MonoOrder>(
     alloc: Global,
     stack: &mut BasisStack<F, O>,
-    walk: &mut Walk<F>,
+    walk: &mut Walk<F, O>,
     floor: u64,
     meter: &mut Meter,
 ) -> Result<Option<Progress>, SearchStop>
     ensures above { StaysAbove floor stack.old stack.new }
     ensures metered { Metered SearchStop.Spent result meter.old meter.new }
 {
-    while let Some(branching) = walk.waiting.pop() {
+    while let Some(level) = walk.waiting.pop() {
         pop_above(stack, floor);
-        if branching.opened < branching.values.len() {
-            return Ok(Some(open_case(alloc, stack, walk, branching, meter)?));
+        match level {
+            Level::Consequences(before) => walk.derived.cut(before, stack.lines().len() as LineId),
+            Level::Case(branching) => {
+                if branching.opened < branching.values.len() {
+                    return Ok(Some(open_case(alloc, stack, walk, branching, meter)?));
+                }
+            }
         }
     }
     Ok(None)
 }
 
-/// Leaves the cases on which a branch that is closed by these lines does not rest. Says how many levels of the stack these are.
+/// Leaves the cases on which a branch that is closed by these lines does not rest. Says which levels of the stack these are.
 pub fn leave_unneeded<F: Field, O: MonoOrder>(
     alloc: Global,
     stack: &BasisStack<F, O>,
-    walk: &mut Walk<F>,
+    walk: &mut Walk<F, O>,
     lines: &[LineId],
-) -> Result<usize, AllocError> {
-    let mut generators = Vec::new(alloc);
-    for line in lines {
-        for generator in stack.generators_of(*line)? {
-            generators.push(generator)?;
-        }
-    }
+) -> Result<Left, AllocError> {
+    let generators = generators_of(alloc, stack.lines(), &walk.derived, lines)?;
     walk.leave_unneeded(generators.as_slice())
 }
 
-/// Pops so many levels, down to the first one above so many.
-pub fn pop_times<F: Field, O: MonoOrder>(stack: &mut BasisStack<F, O>, count: usize, floor: u64)
+/// Pops the levels that were left, down to the first one above so many.
+pub fn pop_left<F: Field, O: MonoOrder>(
+    stack: &mut BasisStack<F, O>,
+    walk: &mut Walk<F, O>,
+    left: Left,
+    floor: u64,
+)
     ensures { StaysAbove floor stack.old stack.new }
 {
-    for _ in 0..count {
+    for _ in 0..left.levels {
         pop_above(stack, floor);
     }
+    if let Some(before) = left.derived {
+        walk.derived.cut(before, stack.lines().len() as LineId);
+    }
+}
+
+/// Adds a level with derived lines, after so many.
+pub fn push_consequences<F: Field, O: MonoOrder>(
+    stack: &mut BasisStack<F, O>,
+    walk: &mut Walk<F, O>,
+    before: usize,
+    polys: &[Poly<F, O>],
+    meter: &mut Meter,
+) -> Result<Progress, SearchStop>
+    ensures above { (floor : ℕ) → StaysAbove floor stack.old stack.new }
+    ensures metered { Metered SearchStop.Spent result meter.old meter.new }
+{
+    walk.waiting.push(Level::Consequences(before))?;
+    Ok(stack.push_within(polys, walk.share, meter)?)
 }
 
 /// Goes on by cases: those of these values of a variable. With no value the present branch is left.
 pub fn branch_by<F: Field, O: MonoOrder>(
     alloc: Global,
     stack: &mut BasisStack<F, O>,
-    walk: &mut Walk<F>,
+    walk: &mut Walk<F, O>,
     variable: u32,
     values: Vec<F>,
     floor: u64,

@@ -4,6 +4,7 @@
 
 mod accepting;
 mod answers;
+mod bits;
 mod branches;
 mod choosing;
 mod effort;

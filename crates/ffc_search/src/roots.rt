@@ -1,6 +1,7 @@
 //! Writing cases by the roots of a polynomial in one variable.
 use crate::choosing::{Candidate, lines_of};
 use ffc_basis::{Line, LineId};
+use ffc_bits::Derived;
 use ffc_casetree::{Tree, multiples_of, residues, scaled_line, terms_in, write_lines, write_sum};
 use ffc_cert::CertLine;
 use ffc_field::Field;
@@ -32,9 +33,10 @@ fn write_candidate<F: Field, O: MonoOrder>(
     alloc: Global,
     tree: &mut Tree,
     lines: &[Line<F, O>],
+    derived: &Derived<F, O>,
     candidate: &Candidate<F, O>,
 ) -> Result<u32, AllocError> {
-    write_lines(alloc, tree, lines, &lines_of(alloc, candidate)?)?;
+    write_lines(alloc, tree, lines, derived, &lines_of(alloc, candidate)?)?;
     let number = tree.number_of(candidate.line).unwrap_or(u32::MAX);
     if candidate.parts.is_empty() {
         return Ok(number);
@@ -109,10 +111,11 @@ pub fn write_split<F: Field, O: MonoOrder>(
     alloc: Global,
     tree: &mut Tree,
     lines: &[Line<F, O>],
+    derived: &Derived<F, O>,
     candidate: &Candidate<F, O>,
     roots: &Roots<F>,
 ) -> Result<(), AllocError> {
-    let number = write_candidate(alloc, tree, lines, candidate)?;
+    let number = write_candidate(alloc, tree, lines, derived, candidate)?;
     let x = candidate.variable;
     let product = write_product(alloc, tree, number, x, &candidate.poly, roots)?;
     let zeros = roots.zeros.as_slice();

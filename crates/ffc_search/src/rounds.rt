@@ -4,7 +4,8 @@ ghost use Rattle.ffc_base.specs.Metering.{Metered};
 ghost use Rattle.ffc_base.specs.Metering.{Takes};
 ghost use Rattle.ffc_search.specs.Above.{StaysAbove};
 
-use crate::branches::{Walk, branch_by, leave_unneeded, next_case, pop_times};
+use crate::bits::{by_bits, candidate_of_bit};
+use crate::branches::{Walk, branch_by, leave_unneeded, next_case, pop_left};
 use crate::choosing::{Candidate, best_candidate, lines_of};
 use crate::effort::Effort;
 use crate::points::zero_at_hand;
@@ -13,6 +14,7 @@ use crate::survey::{Linear, earliest, linear_lines, most_used};
 use crate::weights::Weights;
 use ffc_base::{Meter, SearchStop, Unit};
 use ffc_basis::{Completion, Progress};
+use ffc_bits::Reasoning;
 use ffc_casetree::{Tree, write_close};
 use ffc_cert::CertLine;
 use ffc_field::Field;
@@ -29,8 +31,8 @@ const MOST_VALUES: u64 = 17;
 pub enum Outcome<F: Field> {
     /// A common zero.
     Values(Vec<F>),
-    /// A tree whose branches are all closed.
-    Closed(Vec<CertLine>),
+    /// A tree whose branches are all closed, and for each line of bits in it the variables that its last numbers are for.
+    Closed(Vec<CertLine>, Vec<Vec<u32>>),
     /// A branch was given up; with more effort it may not be.
     GivenUp,
     /// A branch has neither a zero at hand nor a further choice.
@@ -45,11 +47,12 @@ enum Turn<F: Field> {
     Over,
 }
 
-/// What a round has to keep to: its effort, and the levels below it.
+/// What a round has to keep to: its effort, the levels below it, and whether bits are reasoned about.
 #[derive(Clone, Copy)]
-struct Task {
-    effort: Effort,
-    floor: u64,
+pub struct Task {
+    pub effort: Effort,
+    pub floor: u64,
+    pub bits: bool,
 }
 
 /// Where a round ends, and whether it was cut short.
@@ -61,6 +64,14 @@ struct Limits {
     deadline: Option<u64>,
     /// Whether more effort may help.
     reached: bool,
+}
+
+impl Limits {
+    /// Leaves out of the round's units what was taken since so many were. What follows without a choice is no part of them.
+    fn allow(&mut self, before: u64, meter: &Meter) {
+        let taken = meter.spent().saturating_sub(before);
+        self.end = self.end.saturating_add(taken);
+    }
 }
 
 /// A turn that goes on with a case, if there is one.
@@ -75,7 +86,7 @@ fn turn_of<F: Field>(next: Option<Progress>) -> Turn<F> {
 fn by_roots<F: Field, O: MonoOrder>(
     alloc: Global,
     stack: &mut BasisStack<F, O>,
-    walk: &mut Walk<F>,
+    walk: &mut Walk<F, O>,
     candidate: &Candidate<F, O>,
     floor: u64,
     meter: &mut Meter,
@@ -91,13 +102,27 @@ fn by_roots<F: Field, O: MonoOrder>(
         let lines = lines_of(alloc, candidate)?;
         let left = leave_unneeded(alloc, stack, walk, lines.as_slice())?;
         if walk.proving {
-            write_split(alloc, &mut walk.tree, stack.lines(), candidate, &found)?;
+            write_split(
+                alloc,
+                &mut walk.tree,
+                stack.lines(),
+                &walk.derived,
+                candidate,
+                &found,
+            )?;
         }
-        pop_times(stack, left, floor);
+        pop_left(stack, walk, left, floor);
         return Ok(turn_of(next_case(alloc, stack, walk, floor, meter)?));
     }
     if walk.proving {
-        write_split(alloc, &mut walk.tree, stack.lines(), candidate, &found)?;
+        write_split(
+            alloc,
+            &mut walk.tree,
+            stack.lines(),
+            &walk.derived,
+            candidate,
+            &found,
+        )?;
     }
     let mut values = Vec::new(alloc);
     values.extend_from_slice(found.zeros.as_slice())?;
@@ -116,7 +141,7 @@ fn first_elements<F: Field>(alloc: Global, count: u64) -> Result<Vec<F>, AllocEr
 
 /// How many values of a variable are tried, and whether these are all.
 fn values_to_try<F: Field, O: MonoOrder>(
-    walk: &mut Walk<F>,
+    walk: &mut Walk<F, O>,
     limits: &mut Limits,
     x: u32,
     effort: Effort,
@@ -146,7 +171,7 @@ fn values_to_try<F: Field, O: MonoOrder>(
 fn by_values<F: Field, O: MonoOrder>(
     alloc: Global,
     stack: &mut BasisStack<F, O>,
-    walk: &mut Walk<F>,
+    walk: &mut Walk<F, O>,
     limits: &mut Limits,
     linear: &Linear,
     task: Task,
@@ -174,7 +199,7 @@ fn by_values<F: Field, O: MonoOrder>(
 fn advance<F: Field, O: MonoOrder>(
     alloc: Global,
     stack: &mut BasisStack<F, O>,
-    walk: &mut Walk<F>,
+    walk: &mut Walk<F, O>,
     limits: &mut Limits,
     vars: &[u32],
     task: Task,
@@ -184,7 +209,21 @@ fn advance<F: Field, O: MonoOrder>(
     ensures above { StaysAbove task.floor stack.old stack.new }
     ensures metered { Metered SearchStop.Spent result meter.old meter.new }
 {
+    let before = meter.spent();
+    let said = by_bits(alloc, stack, walk, meter)?;
+    if let Some(progress) = said.progress {
+        limits.allow(before, meter);
+        return Ok(Turn::On(progress));
+    }
     let linear = linear_lines(alloc, stack.lines())?;
+    if let Some(x) = said.heaviest {
+        if let Some(values) = zero_at_hand(alloc, stack.lines(), vars, &linear)? {
+            return Ok(Turn::Values(values));
+        }
+        if let Some(candidate) = candidate_of_bit(alloc, stack.lines(), x)? {
+            return by_roots(alloc, stack, walk, &candidate, task.floor, meter);
+        }
+    }
     if let Some(candidate) = best_candidate(alloc, stack, &linear, &walk.weights, meter)? {
         return by_roots(alloc, stack, walk, &candidate, task.floor, meter);
     }
@@ -201,7 +240,7 @@ fn advance<F: Field, O: MonoOrder>(
 fn take_turn<F: Field, O: MonoOrder>(
     alloc: Global,
     stack: &mut BasisStack<F, O>,
-    walk: &mut Walk<F>,
+    walk: &mut Walk<F, O>,
     limits: &mut Limits,
     vars: &[u32],
     task: Task,
@@ -215,9 +254,9 @@ fn take_turn<F: Field, O: MonoOrder>(
         Progress::Done(Completion::Constant(line)) => {
             let left = leave_unneeded(alloc, stack, walk, &[line])?;
             if walk.proving {
-                write_close(alloc, &mut walk.tree, stack.lines(), line)?;
+                write_close(alloc, &mut walk.tree, stack.lines(), &walk.derived, line)?;
             }
-            pop_times(stack, left, task.floor);
+            pop_left(stack, walk, left, task.floor);
             Ok(turn_of(next_case(alloc, stack, walk, task.floor, meter)?))
         }
         Progress::Done(_) => advance(alloc, stack, walk, limits, vars, task, false, meter),
@@ -229,7 +268,7 @@ fn take_turn<F: Field, O: MonoOrder>(
 fn take_turns<F: Field, O: MonoOrder>(
     alloc: Global,
     stack: &mut BasisStack<F, O>,
-    walk: &mut Walk<F>,
+    walk: &mut Walk<F, O>,
     limits: &mut Limits,
     vars: &[u32],
     task: Task,
@@ -257,20 +296,22 @@ fn take_turns<F: Field, O: MonoOrder>(
 
 /// What a round comes to.
 fn outcome_of<F: Field>(
+    alloc: Global,
     values: Option<Vec<F>>,
     proving: bool,
     reached: bool,
     tree: Tree,
-) -> Outcome<F> {
-    if let Some(values) = values {
+) -> Result<Outcome<F>, AllocError> {
+    Ok(if let Some(values) = values {
         Outcome::Values(values)
     } else if proving {
-        Outcome::Closed(tree.into_lines())
+        let (lines, sums) = tree.into_lines(alloc)?;
+        Outcome::Closed(lines, sums)
     } else if reached {
         Outcome::GivenUp
     } else {
         Outcome::Stuck
-    }
+    })
 }
 
 /// One round, on levels above those that are there, with weights that it learns from and adds to.
@@ -278,15 +319,14 @@ pub fn round<F: Field, O: MonoOrder>(
     alloc: Global,
     stack: &mut BasisStack<F, O>,
     vars: &[u32],
-    effort: Effort,
+    task: Task,
     weights: Weights,
-    floor: u64,
     meter: &mut Meter,
 ) -> Result<(Outcome<F>, Weights), SearchStop>
-    ensures above { StaysAbove floor stack.old stack.new }
+    ensures above { StaysAbove task.floor stack.old stack.new }
     ensures metered { Metered SearchStop.Spent result meter.old meter.new }
 {
-    let task = Task { effort, floor };
+    let effort = task.effort;
     let tree = Tree::begin(alloc, stack.lines())?;
     let mut walk = Walk::begin(alloc, tree, effort.in_branch(), weights);
     let mut limits = Limits {
@@ -294,8 +334,14 @@ pub fn round<F: Field, O: MonoOrder>(
         deadline: None,
         reached: false,
     };
+    let before = meter.spent();
     let no_generators = Vec::new(alloc);
     let progress = stack.push_within(no_generators.as_slice(), effort.at_root(), meter)?;
+    if task.bits {
+        let reasoning = Reasoning::begin(alloc, stack.lines(), &mut walk.derived)?;
+        walk.reasoning = Some(reasoning);
+        limits.allow(before, meter);
+    }
     let values = take_turns(
         alloc,
         stack,
@@ -308,5 +354,6 @@ pub fn round<F: Field, O: MonoOrder>(
     )?;
     let proving = walk.proving;
     let (tree, weights) = walk.into_parts();
-    Ok((outcome_of(values, proving, limits.reached, tree), weights))
+    let outcome = outcome_of(alloc, values, proving, limits.reached, tree)?;
+    Ok((outcome, weights))
 }

@@ -13,7 +13,7 @@ use crate::answers::Found;
 use crate::branches::pop_to;
 use crate::effort::Effort;
 use crate::points::is_zero;
-use crate::rounds::{Outcome, round};
+use crate::rounds::{Outcome, Task, round};
 use crate::weights::Weights;
 use ffc_base::{Meter, SearchStop, Unit};
 use ffc_basis::Line;
@@ -29,6 +29,7 @@ fn attempt<F: Field, O: MonoOrder>(
     alloc: Global,
     stack: &mut BasisStack<F, O>,
     vars: &[u32],
+    bits: bool,
     floor: u64,
     meter: &mut Meter,
 ) -> Result<Found<F>, SearchStop>
@@ -39,11 +40,22 @@ fn attempt<F: Field, O: MonoOrder>(
     let mut weights = Weights::new(alloc);
     loop {
         meter.take(Unit::Trial)?;
-        let (outcome, learned) = round(alloc, stack, vars, effort, weights, floor, meter)?;
+        let (outcome, learned) = round(
+            alloc,
+            stack,
+            vars,
+            Task {
+                effort,
+                floor,
+                bits,
+            },
+            weights,
+            meter,
+        )?;
         weights = learned;
         match outcome {
             Outcome::Values(values) => return Ok(Found::Values(Elements::new(values))),
-            Outcome::Closed(lines) => return Ok(Found::Closed(lines)),
+            Outcome::Closed(lines, sums) => return Ok(Found::Closed(lines, sums)),
             Outcome::GivenUp => effort = effort.next(),
             Outcome::Stuck => return Err(SearchStop::GaveUp),
         }
@@ -66,12 +78,13 @@ fn is_right<F: Field, O: MonoOrder>(
 {
     match found {
         Found::Values(values) => is_zero(alloc, lines, vars, values.as_slice()),
-        Found::Closed(tree) => is_accepted(alloc, lines, tree.as_slice()),
+        Found::Closed(tree, _) => is_accepted(alloc, lines, tree.as_slice()),
     }
 }
 
 /// A common zero of the generators, as values of these variables, or a case tree from them that closes. What is found is
-/// tested before it is answered. Afterwards the stack is as before.
+/// tested before it is answered. Afterwards the stack is as before. Where it is asked for, bits are reasoned about as integers,
+/// and a tree may have lines of bits.
 ///
 /// # Errors
 ///
@@ -81,6 +94,7 @@ pub fn search<F: Field, O: MonoOrder>(
     alloc: Global,
     stack: &mut BasisStack<F, O>,
     vars: &[u32],
+    bits: bool,
     meter: &mut Meter,
 ) -> Result<Found<F>, SearchStop>
     ensures values { IfOk result
@@ -94,7 +108,7 @@ pub fn search<F: Field, O: MonoOrder>(
 {
     read_trees_close();
     let base = stack.depth();
-    let outcome = attempt(alloc, stack, vars, base, meter);
+    let outcome = attempt(alloc, stack, vars, bits, base, meter);
     pop_to(stack, base);
     let found = outcome?;
     if !is_right(alloc, stack.lines(), vars, &found)? {

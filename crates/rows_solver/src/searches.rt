@@ -16,7 +16,7 @@ fn ask<F: Field, O: MonoOrder>(
     vars: &[u32],
     meter: &mut Meter,
 ) -> Result<Found<F>, SearchStop> {
-    search(alloc, stack, vars, meter)
+    search(alloc, stack, vars, false, meter)
 }
 
 /// Writes what a search found.
@@ -26,7 +26,7 @@ fn write_found<F: Field>(page: &mut Page, found: &Result<Found<F>, SearchStop>) 
             page.say("values ");
             write_elements(page, values.as_slice());
         }
-        Ok(Found::Closed(_)) => page.say("closed"),
+        Ok(Found::Closed(_, _)) => page.say("closed"),
         Err(stop) => page.show(stop),
     }
 }

@@ -1,5 +1,5 @@
 use Rattle.ffc_search.proofs.AboveLemmas.{stays_both}
-use Rattle.ffc_search.proofs.branches.pop_times.Goals as goal
+use Rattle.ffc_search.proofs.branches.pop_left.Goals as goal
 
 pub loop-preserved : goal.loop-preserved
 loop-preserved g c =

@@ -1,0 +1,5 @@
+use Rattle.ffc_base.specs.Metering.{Takes}
+use Rattle.ffc_bits.proofs.system.System.combine.Given as goal
+
+abbrev pub invariant-loop : goal.invariant-loop
+invariant-loop g l = Takes l.fn.meter l.meter

@@ -1,0 +1,54 @@
+//! What is known of single bits, by lines that replace them.
+ghost use Rattle.std.specs.Prelude.{◌≡◌, IsErrOf};
+
+use crate::derived::Source;
+use crate::polynomials::linear;
+use ffc_base::SearchStop;
+use ffc_field::Field;
+use ffc_mono::MonoOrder;
+use ffc_poly::Poly;
+use std::alloc::Global;
+
+/// What a bit is.
+#[derive(Clone, Copy)]
+pub enum Known {
+    Value(bool),
+    /// The same as this bit.
+    Same(u32),
+    /// The other value than this bit.
+    Opposite(u32),
+}
+
+/// A line that replaces a bit: the polynomial that says what the bit is, times a factor.
+#[derive(Clone, Copy)]
+pub struct Rule<F: Field> {
+    pub known: Known,
+    pub source: Source,
+    pub factor: F,
+}
+
+impl Known {
+    /// The polynomial that says so of a bit.
+    pub fn poly<F: Field, O: MonoOrder>(
+        self,
+        alloc: Global,
+        x: u32,
+    ) -> Result<Poly<F, O>, SearchStop>
+        ensures unmetered { ¬ (IsErrOf result SearchStop.Spent) }
+    {
+        let one = F::of(1);
+        let minus = one.neg();
+        let mut parts = Vec::new(alloc);
+        parts.push((one, Some(x)))?;
+        match self {
+            Known::Value(false) => {}
+            Known::Value(true) => parts.push((minus, None))?,
+            Known::Same(y) => parts.push((minus, Some(y)))?,
+            Known::Opposite(y) => {
+                parts.push((one, Some(y)))?;
+                parts.push((minus, None))?;
+            }
+        }
+        linear(alloc, parts)
+    }
+}
