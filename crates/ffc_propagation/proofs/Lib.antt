@@ -1,3 +1,4 @@
+mod IndexLemmas
 pub mod CountLemmas
 pub mod RowLemmas
 pub mod TrailLemmas

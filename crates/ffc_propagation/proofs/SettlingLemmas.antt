@@ -9,7 +9,7 @@ use Rattle.ffc_clause.specs.Clauses.{Literal, Clause, minus, negated, same_liter
 use Rattle.ffc_clause.specs.Marks.{place_of}
 use Rattle.ffc_encode.specs.declared.clauses.NodeClause.{NodeClause}
 use Rattle.ffc_propagation.specs.Counts.{IsCounted}
-use Rattle.ffc_propagation.specs.Rows.{rows_of, row_at, clause_at, AreRows}
+use Rattle.ffc_propagation.specs.Rows.{row_at, clause_at, AreRows}
 use Rattle.ffc_propagation.specs.Settling.{clauses_of, IsOpened, HasState, IsSettling, IsSettledAt, IsSettled}
 use Rattle.ffc_propagation.specs.Trails.{IsWithin, is_true_at, is_open_at, HasOneOpen, IsTrail, IsGrown, IsTaken}
 use Rattle.ffc_propagation.specs.declared.occurrences.Occurrences.{Occurrences}
@@ -76,17 +76,17 @@ module _ (clauses : List Clause) (looked : ℕ) (t : Trail) (o : Occurrences) (s
     literal = get_or t.literals.items looked (minus 0)
 
     abbrev row : List ℕ
-    row = row_at (rows_of o.rows.items) (place_of (negated literal))
+    row = row_at o.rows (place_of (negated literal))
 
     known_more : (m : Literal) → is_among (take (looked + 1) t.literals.items) m ≡ (known m || same_literal m literal)
     known_more m = ap (λ ls. is_among ls m) (take_more t.literals.items looked (minus 0) more) ∙ among_push (take looked t.literals.items) literal m
 
     row_count : (k : ℕ) → k < length clauses → count_by (λ j. j == k) row ≡ cond (is_among (clause_at clauses k) (negated literal)) 1 0
-    row_count k inside = row_counts clauses (rows_of o.rows.items) s.rows (negated literal) k inside
+    row_count k inside = row_counts clauses o.rows s.rows (negated literal) k inside
 
     row_past : (k : ℕ) → length clauses ≤ k → count_by (λ j. j == k) row ≡ 0
     row_past k past =
-        none_before clauses k row (All-weaker (λ j. j < length clauses) (λ j. j < k) (λ j less. omega arith) row (row_within clauses (rows_of o.rows.items) s.rows (negated literal)))
+        none_before clauses k row (All-weaker (λ j. j < length clauses) (λ j. j < k) (λ j less. omega arith) row (row_within clauses o.rows s.rows (negated literal)))
 
     pub lower_enough : (k : ℕ) → count_by (λ j. j == k) row ≤ slice_index_or o.counts.items k 0
     lower_enough k =
@@ -105,9 +105,9 @@ module _ (clauses : List Clause) (looked : ℕ) (t : Trail) (o : Occurrences) (s
         trail = s.trail;
         within = s.within;
         upto = omega arith;
-        wide = ap (λ rows. length rows.items) same_rows ∙ s.wide;
+        wide = ap (λ (rows : List (List ℕ)). length rows) same_rows ∙ s.wide;
         long = long ∙ s.long;
-        rows = subst (λ rows. AreRows clauses (length clauses) [] (rows_of rows.items)) (sym same_rows) s.rows;
+        rows = subst (λ rows. AreRows clauses (length clauses) [] rows) (sym same_rows) s.rows;
         counted = λ k inside.
             count_known known (clause_at clauses k) (slice_index_or o.counts.items k 0) (s.counted k inside) (is_among (take (looked + 1) t.literals.items)) literal known_more (s.trail.new looked more)
             (slice_index_or new.counts.items k 0) (ap (λ n. slice_index_or new.counts.items k 0 + n) (sym (row_count k inside)) ∙ counts k);

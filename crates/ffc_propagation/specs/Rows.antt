@@ -1,6 +1,6 @@
 -- For each literal the clauses that have it, in increasing order of their numbers.
 use Rattle.std.specs.Global.{Global}
-use Rattle.std.specs.Prelude.{◌≡◌, ℕ, ◌-◌, ◌<◌, ◌==◌, Bool, false, Vec, List, [], ◌∷◌, ◌++◌, length, map, filter, slice_get, slice_index_or, Option, Some, None, if◌then◌else◌}
+use Rattle.std.specs.Prelude.{◌≡◌, ℕ, zero, suc, ◌-◌, ◌<◌, ◌≤◌, ◌==◌, Bool, false, Vec, List, [], ◌∷◌, ◌++◌, length, map, filter, slice_get, slice_index_or, Option, Some, None, if◌then◌else◌}
 use Rattle.std.specs.List.{range_with_len}
 use Rattle.ffc_clause.specs.Clauses.{Literal, Clause, is_among}
 use Rattle.ffc_clause.specs.Marks.{place_of}
@@ -8,6 +8,20 @@ use Rattle.ffc_propagation.specs.Counts.{IsCounted}
 
 abbrev pub rows_of : List (Vec ℕ Global) → List (List ℕ)
 rows_of rows = map (λ row. row.items) rows
+
+-- the list of a number, where 0 is the empty one
+abbrev pub list_at : List (List ℕ) → ℕ → List ℕ
+list_at lists zero = []
+list_at lists (suc k) = slice_index_or lists k []
+
+-- the rows that have these lists by number
+abbrev pub rows_in : List (List ℕ) → List ℕ → List (List ℕ)
+rows_in lists index = map (list_at lists) index
+
+-- numbers of lists, of which there are so many: no two rows have one list that is not the empty one
+pub record IsIndex (count : ℕ) (index : List ℕ) : Type 0 where
+  pub within : (p : ℕ) → slice_index_or index p 0 ≤ count
+  pub apart : (p q : ℕ) → p < length index → q < length index → 0 < slice_index_or index p 0 → slice_index_or index p 0 ≡ slice_index_or index q 0 → p ≡ q
 
 abbrev pub row_at : List (List ℕ) → ℕ → List ℕ
 row_at rows place = slice_index_or rows place []

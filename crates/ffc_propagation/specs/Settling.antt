@@ -3,7 +3,7 @@ use Rattle.std.specs.Prelude.{◌≡◌, ℕ, ◌*◌, ◌<◌, ◌≤◌, ◌�
 use Rattle.ffc_clause.specs.Clauses.{Literal, Clause, is_among}
 use Rattle.ffc_encode.specs.declared.clauses.NodeClause.{NodeClause}
 use Rattle.ffc_propagation.specs.Counts.{IsCounted}
-use Rattle.ffc_propagation.specs.Rows.{rows_of, clause_at, AreRows}
+use Rattle.ffc_propagation.specs.Rows.{clause_at, AreRows}
 use Rattle.ffc_propagation.specs.Trails.{IsWithin, IsTrail, IsGrown, IsEnded, is_satisfied}
 use Rattle.ffc_propagation.specs.declared.occurrences.Occurrences.{Occurrences}
 use Rattle.ffc_propagation.specs.declared.trail.Trail.{Trail}
@@ -17,9 +17,9 @@ AreCounted known clauses counts = (k : ℕ) → k < length clauses → IsCounted
 
 -- the rows and counts of clauses while nothing is known
 pub record IsOpened (nodes : ℕ) (clauses : List Clause) (o : Occurrences) : Type 0 where
-  pub wide : length o.rows.items ≡ 2 * nodes
+  pub wide : length o.rows ≡ 2 * nodes
   pub long : length o.counts.items ≡ length clauses
-  pub rows : AreRows clauses (length clauses) [] (rows_of o.rows.items)
+  pub rows : AreRows clauses (length clauses) [] o.rows
   pub counted : AreCounted (λ m. false) clauses o.counts.items
 
 -- the same while the first literals of a trail were looked at
@@ -27,9 +27,9 @@ pub record IsSettling (clauses : List Clause) (looked : ℕ) (t : Trail) (o : Oc
   pub trail : IsTrail t
   pub within : All (IsWithin (length t.marks.items)) clauses
   pub upto : looked ≤ length t.literals.items
-  pub wide : length o.rows.items ≡ 2 * length t.marks.items
+  pub wide : length o.rows ≡ 2 * length t.marks.items
   pub long : length o.counts.items ≡ length clauses
-  pub rows : AreRows clauses (length clauses) [] (rows_of o.rows.items)
+  pub rows : AreRows clauses (length clauses) [] o.rows
   pub counted : AreCounted (is_among (take looked t.literals.items)) clauses o.counts.items
 
 -- a literal of the clause is forced, or two different ones have negations that were not looked at

@@ -4,6 +4,7 @@
 pub mod laws;
 mod occurrences;
 mod propagation;
+mod rows;
 mod settling;
 mod trail;
 

@@ -1,13 +1,14 @@
 //! Which clauses have which literals, and how many different literals of each clause are not known to be false.
-ghost use Rattle.std.specs.Prelude.{◌≡◌, ℕ, ◌+◌, ◌*◌, ◌<◌, ◌≤◌, ◌==◌, not, nat_lt, false, List, [], ◌∷◌, ◌++◌, length, replicate};
-ghost use Rattle.std.specs.Prelude.{count_by, slice_set, slice_index_or, All, IfOk, OnOk, if◌then◌else◌};
+ghost use Rattle.std.specs.Prelude.{◌≡◌, ℕ, ◌+◌, ◌<◌, ◌≤◌, ◌==◌, nat_lt, false, List, [], length, count_by};
+ghost use Rattle.std.specs.Prelude.{slice_index_or, All, IfOk, OnOk};
 ghost use Rattle.ffc_clause.specs.Clauses.{Clause, negated};
 ghost use Rattle.ffc_clause.specs.Marks.{place_of};
 ghost use Rattle.ffc_propagation.specs.Counts.{IsCounted};
-ghost use Rattle.ffc_propagation.specs.Rows.{rows_of, row_at, ends_with, AreRows};
+ghost use Rattle.ffc_propagation.specs.Rows.{row_at, AreRows};
 ghost use Rattle.ffc_propagation.specs.Settling.{clauses_of, IsOpened};
 ghost use Rattle.ffc_propagation.specs.Trails.{IsWithin};
 
+use crate::rows::Rows;
 use ffc_cert::Literal;
 use ffc_encode::NodeClause;
 use std::alloc::{AllocError, Global};
@@ -26,52 +27,18 @@ fn place(literal: Literal) -> usize
     2 * literal.1 as usize + usize::from(literal.0)
 }
 
-/// Empty rows for the literals of the nodes below a number.
-fn no_rows(alloc: Global, nodes: u32) -> Result<Vec<Vec<u32>>, AllocError>
-    ensures { IfOk result (λ rows. rows_of rows.items ≡ replicate (2 * nodes) []) }
-{
-    let mut rows = Vec::new(alloc);
-    for _ in 0..2 * nodes as usize {
-        rows.push(Vec::new(alloc))?;
-    }
-    Ok(rows)
-}
-
-/// Whether the last number of a row is this one.
-fn ends_with(row: &[u32], clause: u32) -> bool
-    ensures { result ≡ ends_with row.now clause }
-{
-    match row.last() {
-        Some(last) => *last == clause,
-        None => false,
-    }
-}
-
-/// Appends a clause to the row of a place, unless it is the last one there. Whether it was appended.
-fn append(rows: &mut [Vec<u32>], place: usize, clause: u32) -> Result<bool, AllocError>
-    requires { place < length rows.old }
-    ensures added { IfOk result (λ added. added ≡ not (ends_with (row_at (rows_of rows.old) place) clause)) }
-    ensures rows { IfOk result (λ added. rows_of rows.new ≡ (if added then slice_set (rows_of rows.old) place
-        (row_at (rows_of rows.old) place ++ clause ∷ []) else rows_of rows.old)) }
-{
-    if ends_with(rows[place].as_slice(), clause) {
-        return Ok(false);
-    }
-    rows[place].push(clause)?;
-    Ok(true)
-}
-
 /// Appends a clause to the row of each of its literals. How many different ones it has.
-fn append_all(rows: &mut [Vec<u32>], clause: u32, literals: &[Literal]) -> Result<usize, AllocError>
+fn append_all(rows: &mut Rows, clause: u32, literals: &[Literal]) -> Result<usize, AllocError>
     requires { All (λ l. place_of l < length rows.old) literals.now }
-    ensures rows { (clauses : List Clause) → AreRows clauses clause [] (rows_of rows.old)
-        → OnOk result (AreRows clauses clause literals.now (rows_of rows.new)) }
-    ensures counted { (clauses : List Clause) → AreRows clauses clause [] (rows_of rows.old)
+    ensures rows { (clauses : List Clause) → AreRows clauses clause [] rows.old
+        → OnOk result (AreRows clauses clause literals.now rows.new) }
+    ensures counted { (clauses : List Clause) → AreRows clauses clause [] rows.old
         → IfOk result (IsCounted (λ m. false) literals.now) }
+    ensures long { OnOk result (length rows.new ≡ length rows.old) }
 {
     let mut count = 0;
     for literal in literals {
-        if append(rows, place(*literal), clause)? {
+        if rows.append(place(*literal), clause)? {
             count += 1;
         }
     }
@@ -93,7 +60,7 @@ fn lower(counts: &mut [usize], row: &[u32])
 /// known.
 #[derive(Drop)]
 pub(crate) struct Occurrences {
-    rows: Vec<Vec<u32>>,
+    rows: Rows,
     counts: Vec<usize>,
 }
 
@@ -108,13 +75,13 @@ impl Occurrences {
         requires { All (IsWithin nodes) (clauses_of clauses.now) }
         ensures { IfOk result (IsOpened nodes (clauses_of clauses.now)) }
     {
-        let mut rows = no_rows(alloc, nodes)?;
+        let mut rows = Rows::none(alloc, nodes)?;
         let mut counts = Vec::new(alloc);
         for (number, clause) in clauses.iter().enumerate() {
             let Ok(number) = u32::try_from(number) else {
                 return Err(AllocError);
             };
-            let count = append_all(rows.as_mut_slice(), number, clause.lits.as_slice())?;
+            let count = append_all(&mut rows, number, clause.lits.as_slice())?;
             counts.push(count)?;
         }
         Ok(Occurrences { rows, counts })
@@ -122,10 +89,10 @@ impl Occurrences {
 
     /// The clauses that have a literal.
     pub(crate) fn row(&self, literal: Literal) -> &[u32]
-        requires { place_of literal < length self.now.rows.items }
-        ensures { result.now ≡ row_at (rows_of self.now.rows.items) (place_of literal) }
+        requires { place_of literal < length self.now.rows }
+        ensures { result.now ≡ row_at self.now.rows (place_of literal) }
     {
-        self.rows[place(literal)].as_slice()
+        self.rows.row(place(literal))
     }
 
     /// Whether the negations of all literals of a clause but one are known.
@@ -138,18 +105,15 @@ impl Occurrences {
 
     /// Counts one less at each clause that has this literal, whose negation is known from now on.
     pub(crate) fn lower(&mut self, literal: Literal)
-        requires within { place_of literal < length self.old.rows.items }
-        requires enough { (k : ℕ) → count_by (λ j. j == k) (row_at (rows_of self.old.rows.items) (place_of literal))
+        requires within { place_of literal < length self.old.rows }
+        requires enough { (k : ℕ) → count_by (λ j. j == k) (row_at self.old.rows (place_of literal))
             ≤ slice_index_or self.old.counts.items k 0 }
         ensures rows { self.new.rows ≡ self.old.rows }
         ensures long { length self.new.counts.items ≡ length self.old.counts.items }
         ensures counts { (k : ℕ) → slice_index_or self.new.counts.items k 0
-            + count_by (λ j. j == k) (row_at (rows_of self.old.rows.items) (place_of literal))
+            + count_by (λ j. j == k) (row_at self.old.rows (place_of literal))
             ≡ slice_index_or self.old.counts.items k 0 }
     {
-        lower(
-            self.counts.as_mut_slice(),
-            self.rows[place(literal)].as_slice(),
-        );
+        lower(self.counts.as_mut_slice(), self.rows.row(place(literal)));
     }
 }

@@ -18,9 +18,10 @@ use Rattle.ffc_term.specs.Measuring.{value_count}
 use Rattle.ffc_rules.specs.Assignments.{number_of_constant, value_of_number, digits}
 use Rattle.ffc_rules.proofs.AssignmentLemmas.{AreDifferent, node_at-is, same_number, number_below}
 use Rattle.ffc_rules.proofs.CaseLemmas.{AreApart, named_each, named_apart}
-use Rattle.ffc_check.specs.Assigning.{with_value}
+use Rattle.ffc_check.specs.Assigning.{with_value, with_values}
 use Rattle.ffc_check.proofs.AssignLemmas.{value_count-positive}
 use Rattle.ffc_trials.specs.Counting.{number_for, number_given, GivesNumbers, HasDigits, advanced}
+use Rattle.ffc_trials.specs.Enumerating.{with_zeros}
 
 -- Values as numbers
 
@@ -192,6 +193,27 @@ module _ (ns : List Node) (formed : IsWellFormed ns) where
             subst (HasDigits ns ids (with_value ns values (id, d + 1))) (sym sums.1) (digits_keep values id (d + 1) ids (k / c) are.0 are.1 differ.0 has.1),
           )
 
+-- Before the first assignment
+
+module _ (ns : List Node) (formed : IsWellFormed ns) where
+  -- a constant that is not among these keeps its value where these get 0
+  zeros_keep : (ids : List ℕ) (values : List Value) (other : ℕ) → AllByRecursion (IsConstantAt ns) ids → IsConstantAt ns other → AllByRecursion (λ y. other ≢ y) ids
+      → number_given ns (with_values ns values (with_zeros ids)) other ≡ number_given ns values other
+  zeros_keep [] values other are of differ = refl
+  zeros_keep (id ∷ ids) values other are of differ =
+      zeros_keep ids (with_value ns values (id, 0)) other are.1 of differ.1 ∙ keeps ns formed values id other 0 are.0 of (λ e. differ.0 (sym e))
+
+  -- constants that all got 0 have the digits of the first assignment
+  pub zero_digits : (ids : List ℕ) (values : List Value) → AllByRecursion (IsConstantAt ns) ids → AreDistinct ids → length values ≡ length ns
+      → HasDigits ns ids (with_values ns values (with_zeros ids)) 0
+  zero_digits [] values are differ long = tt
+  zero_digits (id ∷ ids) values are differ long =
+      let c = value_count (node_at ns id) in
+      let zeroed = with_value ns values (id, 0) in
+      let here : number_given ns (with_values ns zeroed (with_zeros ids)) id ≡ 0 =
+      zeros_keep ids zeroed id are.1 are.0 differ.0 ∙ gets ns formed values id 0 are.0 long (count_positive ns formed id are.0) in
+      (here ∙ sym (zero-mod c), subst (HasDigits ns ids (with_values ns zeroed (with_zeros ids))) (sym (zero-div c)) (zero_digits ids zeroed are.1 differ.1 (length-set values (number_of_constant (node_at ns id)) (value_of_number (node_at ns id) 0) ∙ long)))
+
 -- Steps of the code
 
 pub given_number : (ns : List Node) (values : List Value) (id r : ℕ) (n : Node) → IsNodeAt ns id n → r ≡ number_for n (value_in values (number_of_constant n)) → r ≡ number_given ns values id
@@ -221,17 +243,3 @@ module _ (ns : List Node) (ids : List ℕ) (i : ℕ) (inside : i < length ids) (
       let x = get_or ids i 0 in
       set ∙ ap (λ b. with_value ns values (x, cond b 0 (number_given ns values x + 1))) e
       ∙ subst (λ b. cond b (advanced ns (drop (i + 1) ids) (with_value ns values (x, 0))) (with_value ns values (x, number_given ns values x + 1)) ≡ all) e here
-
--- Where all values are false, constants have the digits of 0.
-pub first_digits : (ns : List Node) (formed : IsWellFormed ns) (ids : List ℕ) (count : ℕ) → AllByRecursion (IsConstantAt ns) ids → HasDigits ns ids (replicate count (value.Bool false)) 0
-first_digits ns formed [] count are = tt
-first_digits ns formed (id ∷ ids) count are =
-    let c = value_count (node_at ns id) in
-    let blank = replicate count (value.Bool false) in
-    let here : number_given ns blank id ≡ 0 = ap (number_for (node_at ns id)) (all_false count (number_of_constant (node_at ns id))) ∙ number_for-false (node_at ns id) in
-    (here ∙ sym (zero-mod c), subst (HasDigits ns ids blank) (sym (zero-div c)) (first_digits ns formed ids count are.1))
-  where
-    all_false : (n k : ℕ) → value_in (replicate n (value.Bool false)) k ≡ value.Bool false
-    all_false zero k = refl
-    all_false (suc n) zero = refl
-    all_false (suc n) (suc k) = all_false n k

@@ -1,9 +1,9 @@
 -- Going through the assignments of a check.
-use Rattle.std.proofs.Common.{◌≡◌, ℕ, ◌+◌, ◌<◌, false, length, replicate, All, Contains, sym, ap, ◌∙◌, subst}
-use Rattle.std.proofs.lemmas.List.{length-replicate}
+use Rattle.std.proofs.Common.{◌≡◌, ℕ, ◌+◌, ◌<◌, false, List, [], ◌∷◌, length, All, Contains, sym, ap, ◌∙◌, subst}
+use Rattle.std.specs.List.{AllByRecursion}
 use Rattle.std.proofs.lemmas.List.Elements.{All-from_recursion}
 use Rattle.std.proofs.lemmas.Option.{slice_get_within}
-use Rattle.ffc_term.specs.declared.value.Value.TheVariants as value
+use Rattle.ffc_term.specs.declared.value.Value.{Value}
 use Rattle.ffc_term.specs.Nodes.{IsConstantAt}
 use Rattle.ffc_term.specs.Checks.{AreNodesOf, AreConstantsOf}
 use Rattle.ffc_term.proofs.RootLemmas.{roots_among}
@@ -13,13 +13,15 @@ use Rattle.ffc_rules.specs.Entries.{NodeCheck}
 use Rattle.ffc_rules.specs.Laws.{IsValid}
 use Rattle.ffc_rules.proofs.ConeLemmas.{cone_nodes}
 use Rattle.ffc_rules.proofs.CaseLemmas.{constants_of, increasing_apart}
+use Rattle.ffc_check.specs.Assigning.{with_values}
+use Rattle.ffc_check.proofs.AssignLemmas.{length-with_values}
 use Rattle.ffc_check.proofs.CaseLemmas.{within, constants_each, no_model_yet, no_model_next}
 use Rattle.ffc_trials.specs.declared.cone.Cone.{Cone}
 use Rattle.ffc_trials.specs.declared.enumerate.Enumeration.{Enumeration}
 use Rattle.ffc_trials.specs.Counting.{HasDigits, advanced}
 use Rattle.ffc_trials.specs.Enumerating.{IsReached, with_zeros}
 use Rattle.ffc_trials.specs.Parts.{IsConeOf}
-use Rattle.ffc_trials.proofs.CountingLemmas.{AreDistinct-apart, length-advanced, advanced_digits, first_digits}
+use Rattle.ffc_trials.proofs.CountingLemmas.{AreDistinct-apart, length-advanced, advanced_digits, zero_digits}
 use Rattle.ffc_trials.proofs.ModelLemmas.{digits_true}
 
 module _ (c : NodeCheck) (valid : IsValid c) where
@@ -40,18 +42,30 @@ module _ (c : NodeCheck) (valid : IsValid c) where
     pub constants_within : All (λ id. id < length c.nodes) parts.constants.items
     constants_within k d inside = let (n, at, is) = constants_all k d inside in slice_get_within c.nodes _ n at
 
-  -- before the first assignment
-  pub first_reached : (e : Enumeration) (count : ℕ) → count ≡ length c.nodes → e.values.items ≡ replicate count (value.Bool false) → e.out.items ≡ replicate count (value.Bool false)
+  -- each constant of the check beside 0 is a constant
+  pub zeros_constant : All (λ (p : ℕ × ℕ). IsConstantAt c.nodes p.0) (with_zeros (cone_constants c.nodes c.in_force))
+  zeros_constant =
+      All-from_recursion (λ (p : ℕ × ℕ). IsConstantAt c.nodes p.0) (with_zeros (cone_constants c.nodes c.in_force))
+      (zeros_each (cone_constants c.nodes c.in_force) (constants_each c.nodes c.in_force (cone_constants c.nodes c.in_force) valid.table (within c valid) constants_own))
+    where
+      zeros_each : (ids : List ℕ) → AllByRecursion (IsConstantAt c.nodes) ids → AllByRecursion (λ (p : ℕ × ℕ). IsConstantAt c.nodes p.0) (with_zeros ids)
+      zeros_each [] all = tt
+      zeros_each (id ∷ ids) all = (all.0, zeros_each ids all.1)
+
+  -- before the first assignment, whatever the values were before the check's constants got 0
+  pub first_reached : (e : Enumeration) (before : List Value) → length before ≡ length c.nodes
+      → e.values.items ≡ with_values c.nodes before (with_zeros (cone_constants c.nodes c.in_force)) → length e.out.items ≡ length c.nodes
       → e.pairs.items ≡ with_zeros c.declared → IsReached c 0 e
-  first_reached e count long values out pairs =
+  first_reached e before long values out pairs =
       let constants = cone_constants c.nodes c.in_force in
-      let blank = length-replicate count (value.Bool false) in
+      let formed = valid.table.well_formed in
       record {
-        values = ap length values ∙ blank ∙ long;
-        out = ap length out ∙ blank ∙ long;
+        values = ap length values ∙ length-with_values c.nodes before (with_zeros constants) ∙ long;
+        out = out;
         pairs = pairs;
         digits = subst (λ vs. HasDigits c.nodes constants vs 0) (sym values)
-            (first_digits c.nodes valid.table.well_formed constants count (constants_each c.nodes c.in_force constants valid.table (within c valid) constants_own));
+            (zero_digits c.nodes formed constants before (constants_each c.nodes c.in_force constants valid.table (within c valid) constants_own)
+            (AreDistinct-apart c.nodes constants (increasing_apart constants constants_own.increasing)) long);
         none = no_model_yet c.nodes c.in_force;
       }
 

@@ -7,3 +7,4 @@ pub mod AnywhereLemmas
 pub mod ReadableLemmas
 pub mod KnownLemmas
 pub mod FieldLemmas
+pub mod VersionLemmas

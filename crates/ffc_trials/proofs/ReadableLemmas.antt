@@ -4,8 +4,8 @@ use Rattle.std.specs.List.{AllByRecursion}
 use Rattle.std.proofs.lemmas.List.{drop_more}
 use Rattle.std.proofs.lemmas.Bool.Decides.{nat_tests}
 use Rattle.ffc_cert.specs.declared.entries.CertLine.{CertLine}
-use Rattle.ffc_cert.specs.declared.entries.CertLine.TheVariants.{Assume, Scheme, Hinted, Lemma, Combine, Chain, Step, Split, Values, Close}
-use Rattle.ffc_cert.specs.Ranges.{VariablesIncrease}
+use Rattle.ffc_cert.specs.declared.entries.CertLine.TheVariants.{Assume, Scheme, Hinted, Lemma, Combine, Bits, Chain, Step, Split, Values, Close}
+use Rattle.ffc_cert.specs.Ranges.{VariablesIncrease, Increase}
 use Rattle.ffc_cert.specs.Reading.{awaited_after, is_whole}
 use Rattle.ffc_cert.specs.Spelling.{is_clause}
 use Rattle.ffc_cert.proofs.GrammarLemmas.{awaiting, Completes, AreCounted, clauses_shape}
@@ -31,6 +31,19 @@ all_above least bound (p ∷ powers) below from = (let first = from.0 in omega a
 pub increase : (least : ℕ) (powers : List (ℕ × ℕ)) → IncreaseFrom least powers → VariablesIncrease powers
 increase least [] from = tt
 increase least (p ∷ powers) from = (all_above (p.0 + 1) p.0 powers (omega arith) from.1, increase (p.0 + 1) powers from.1)
+
+-- the same of numbers
+abbrev pub NumbersFrom : ℕ → List ℕ → Type 0
+NumbersFrom least [] = Unit {0}
+NumbersFrom least (x ∷ xs) = (least ≤ x) × NumbersFrom (x + 1) xs
+
+numbers_above : (least bound : ℕ) (xs : List ℕ) → bound < least → NumbersFrom least xs → AllByRecursion (λ y. bound < y) xs
+numbers_above least bound [] below from = tt
+numbers_above least bound (x ∷ xs) below from = (let first = from.0 in omega arith, numbers_above (x + 1) bound xs (let first = from.0 in omega arith) from.1)
+
+pub numbers_increase : (least : ℕ) (xs : List ℕ) → NumbersFrom least xs → Increase xs
+numbers_increase least [] from = tt
+numbers_increase least (x ∷ xs) from = (numbers_above (x + 1) x xs (omega arith) from.1, numbers_increase (x + 1) xs from.1)
 
 -- Lines in their order
 
@@ -122,6 +135,9 @@ leads o next (Lemma order lits) n rest e h =
     let a = after_clause o next 1 e in
     (clause_awaited n o.trees o.steps, ((a.no_steps, a.no_trees), moved n (n + 1 - 1) next.trees 1 next.steps 0 rest (omega arith) (omega arith) (omega arith) h))
 leads o next (Combine multiples) n rest e h =
+    let a = after_tree o next 1 0 e in
+    (tree_awaited n o.trees o.steps a.some_trees, ((a.no_steps, a.some_trees), moved n n next.trees o.trees next.steps o.steps rest refl (omega arith) (omega arith) h))
+leads o next (Bits line chosen polynomial bits) n rest e h =
     let a = after_tree o next 1 0 e in
     (tree_awaited n o.trees o.steps a.some_trees, ((a.no_steps, a.some_trees), moved n n next.trees o.trees next.steps o.steps rest refl (omega arith) (omega arith) h))
 leads o next (Chain line variable steps) n rest e h =

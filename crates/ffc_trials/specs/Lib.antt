@@ -1,3 +1,4 @@
+pub mod Versions
 pub mod Stops
 pub mod Counting
 pub mod Enumerating

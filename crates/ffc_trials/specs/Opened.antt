@@ -2,7 +2,7 @@
 -- before them steps of a chain.
 use Rattle.std.specs.Prelude.{ℕ, ◌+◌, ◌-◌, ◌==◌, ◌&&◌, nat_lt, length, Option, Some, None, if◌then◌else◌}
 use Rattle.ffc_cert.specs.declared.entries.CertLine.{CertLine}
-use Rattle.ffc_cert.specs.declared.entries.CertLine.TheVariants.{Assume, Scheme, Hinted, Lemma, Combine, Chain, Step, Split, Values, Close}
+use Rattle.ffc_cert.specs.declared.entries.CertLine.TheVariants.{Assume, Scheme, Hinted, Lemma, Combine, Bits, Chain, Step, Split, Values, Close}
 use Rattle.ffc_trials.specs.declared.readable.Open.{Open}
 
 -- after a clause that calls for so many trees: nothing may be to come before it
@@ -24,6 +24,7 @@ opened o (Scheme node scheme index) = opened_by_clause o 0
 opened o (Hinted lits hints) = opened_by_clause o 0
 opened o (Lemma order lits) = opened_by_clause o 1
 opened o (Combine multiples) = opened_by_tree o 1 0
+opened o (Bits line chosen polynomial bits) = opened_by_tree o 1 0
 opened o (Chain line variable steps) = opened_by_tree o 1 steps
 opened o (Step quotient remainder) = opened_by_step o
 opened o (Split line variable zeros) = opened_by_tree o (length zeros) 0

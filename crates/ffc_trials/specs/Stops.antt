@@ -1,5 +1,5 @@
 -- What it means that a check is not decided, and which checks are.
-use Rattle.std.specs.Prelude.{◌≡◌, ℕ, ◌+◌, ◌≤◌, ◌⊎◌, true, false, List}
+use Rattle.std.specs.Prelude.{◌≡◌, ℕ, ◌+◌, ◌≤◌, ◌⊎◌, Bool, true, false, List}
 use Rattle.ffc_cert.specs.declared.entries.Cause.{Cause}
 use Rattle.ffc_cert.specs.declared.entries.Entry.{Entry}
 use Rattle.ffc_cert.specs.declared.entries.Entry.TheVariants.{Sat, UnsatCases, UnsatSteps, Unknown}
@@ -8,6 +8,7 @@ use Rattle.ffc_cert.specs.declared.entries.Cause.TheVariants.{Degree, Terms, Ste
 use Rattle.ffc_rules.specs.Cones.{span, work}
 use Rattle.ffc_rules.specs.Causes.{is_small, is_cause_within, passes_degree, passes_length}
 use Rattle.ffc_rules.specs.Entries.{NodeCheck, limits, EntryOk}
+use Rattle.ffc_trials.specs.Versions.{written_version}
 use Rattle.ffc_trials.specs.declared.stop.DecideStop.{DecideStop}
 use Rattle.ffc_trials.specs.declared.stop.DecideStop.TheVariants as stops
 
@@ -57,7 +58,13 @@ IsVerdict UnsatCases = Unit {0}
 IsVerdict (UnsatSteps lines) = Unit {0}
 IsVerdict (Unknown cause) = ⊥
 
--- an entry that may be given for a check
+-- an entry that may be given for a check, in a certificate with lines of bits or without them
+pub record IsGivenIn (bits : Bool) (c : NodeCheck) (entry : Entry) : Type 0 where
+  pub readable : IsReadable (written_version bits) entry
+  pub right : EntryOk c entry
+  pub verdict : IsVerdict entry
+
+-- one without lines of bits, which may be given in both
 pub record IsGiven (c : NodeCheck) (entry : Entry) : Type 0 where
   pub readable : IsReadable 2 entry
   pub right : EntryOk c entry

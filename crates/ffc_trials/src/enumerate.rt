@@ -11,11 +11,51 @@ ghost use Rattle.ffc_trials.specs.Stops.{AreModelValues};
 
 use crate::cone::Cone;
 use crate::counting::{advance, list_numbers};
+use crate::known::give_known;
 use ffc_base::{Meter, Unit};
 use ffc_cert::Sequence;
-use ffc_term::{Assignment, Check, NodeId, Value};
+use ffc_term::{Assignment, Check, Node, NodeId, NodeTable, Value};
 use std::alloc::{AllocError, Global};
 use std::mem;
+
+/// Room for the values of constants and of nodes, which one check after another uses: so it is made once for each node of a table.
+#[derive(Drop)]
+pub struct Room {
+    values: Vec<Value>,
+    out: Vec<Value>,
+}
+
+/// The number of a node that is a constant, counted over all constants.
+fn number_of(table: &NodeTable, id: NodeId) -> Option<u32> {
+    if id >= table.len() {
+        return None;
+    }
+    match table.node(id) {
+        Node::BoolConst(number) | Node::FieldConst(number, _) => Some(*number),
+        _ => None,
+    }
+}
+
+impl Room {
+    /// No room yet. It takes no memory.
+    pub fn new(alloc: Global) -> Room {
+        Room {
+            values: Vec::new(alloc),
+            out: Vec::new(alloc),
+        }
+    }
+
+    /// Makes the constants of a check false or 0 again, so that no later check has values of this one.
+    fn forget(&mut self, check: &Check, cone: &Cone) {
+        for id in cone.constants.as_slice() {
+            if let Some(number) = number_of(check.table, *id) {
+                if let Some(value) = self.values.get_mut(number as usize) {
+                    *value = Value::Bool(false);
+                }
+            }
+        }
+    }
+}
 
 /// Where the assignments of a check were gone through to, with all memory that this takes.
 #[derive(Drop)]
@@ -44,17 +84,31 @@ pub fn with_zeros(alloc: Global, ids: &[NodeId]) -> Result<Vec<(u32, u64)>, Allo
 }
 
 impl Enumeration {
-    /// Before the first assignment.
-    pub fn new(alloc: Global, check: &Check, cone: &Cone) -> Result<Enumeration, AllocError>
+    /// Before the first assignment. It takes the room; where memory is out, that is lost. It costs the check's constants, and what
+    /// the table has more nodes than the room was made for.
+    pub fn new(
+        alloc: Global,
+        room: &mut Room,
+        check: &Check,
+        cone: &Cone,
+    ) -> Result<Enumeration, AllocError>
         requires valid { IsValid (judged_check check.now) }
         requires cone { IsConeOf (judged_check check.now) cone.now }
         ensures { IfOk result (IsReached (judged_check check.now) 0) }
     {
         let count = check.table.len() as usize;
+        let Room {
+            mut values,
+            mut out,
+        } = mem::replace(room, Room::new(alloc));
+        values.resize(count, Value::Bool(false))?;
+        out.resize(count, Value::Bool(false))?;
+        let zeros = with_zeros(alloc, cone.constants.as_slice())?;
+        give_known(check.table, zeros.as_slice(), values.as_mut_slice());
         Ok(Enumeration {
             alloc,
-            values: all_false(alloc, count)?,
-            out: all_false(alloc, count)?,
+            values,
+            out,
             pairs: with_zeros(alloc, check.declared)?,
         })
     }
@@ -109,18 +163,28 @@ impl Enumeration {
         false
     }
 
-    /// What the model that was found gives the declared constants.
-    pub fn into_values(self, check: &Check) -> Sequence<(u32, u64)>
+    /// Gives the room back.
+    pub fn into_room(self, check: &Check, cone: &Cone, room: &mut Room) {
+        let Enumeration { values, out, .. } = self;
+        *room = Room { values, out };
+        room.forget(check, cone);
+    }
+
+    /// What the model that was found gives the declared constants. It gives the room back.
+    pub fn into_values(self, check: &Check, cone: &Cone, room: &mut Room) -> Sequence<(u32, u64)>
         requires valid { IsValid (judged_check check.now) }
         requires found { IsModelFound (judged_check check.now) self }
         ensures { AreModelValues (judged_check check.now) result }
     {
         let Enumeration {
             values,
+            out,
             mut pairs,
             ..
         } = self;
         list_numbers(check.table, values.as_slice(), pairs.as_mut_slice());
+        *room = Room { values, out };
+        room.forget(check, cone);
         Sequence::from_vec(pairs)
     }
 }

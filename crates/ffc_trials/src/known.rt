@@ -14,7 +14,7 @@ use ffc_term::{Check, NodeId, NodeTable, Value};
 use std::alloc::{AllocError, Global};
 
 /// Gives each of these constants its value, one after another.
-fn give_known(table: &NodeTable, known: &[(NodeId, u64)], values: &mut [Value])
+pub(crate) fn give_known(table: &NodeTable, known: &[(NodeId, u64)], values: &mut [Value])
     requires constants { All (λ p. IsConstantAt table.now p.0) known.now }
     requires long { length values.old ≡ length table.now }
     ensures { values.new ≡ with_values table.now values.old known.now }

@@ -19,7 +19,7 @@ mod stop;
 mod testing;
 
 pub use cone::Cone;
-pub use enumerate::Enumeration;
+pub use enumerate::{Enumeration, Room};
 pub use field::{field_of, field_order};
 pub use known::completed_model;
 pub use limits::{check_limits, first_count, small_span};

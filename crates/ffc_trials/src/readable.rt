@@ -1,16 +1,16 @@
-//! Whether an entry is one that a certificate of version 2 may have.
-ghost use Rattle.std.specs.Prelude.{◌≡◌, IsTrue, IfSome};
+//! Whether an entry is one that a certificate of version 2 may have, or of version 3, which has lines of bits too.
+ghost use Rattle.std.specs.Prelude.{◌≡◌, ◌⊎◌, IsTrue, IfSome};
 ghost use Rattle.ffc_cert.specs.Ranges.{IsNarrow, IsWide, IsLiteral, IsPower, VariablesIncrease, IsTerm, IsMultiple};
+ghost use Rattle.ffc_cert.specs.Ranges.{AreVariables, Increase};
 ghost use Rattle.ffc_cert.specs.Ranges.{IsCounted, IsValue, IsLine, IsCause};
+ghost use Rattle.ffc_cert.specs.declared.entries.CertLine.TheVariants.{Bits};
 ghost use Rattle.ffc_cert.specs.WellFormed.{FitsVersion, IsReadable, IsWellFormed, IsRefutation, LineFitsVersion};
 ghost use Rattle.ffc_trials.specs.Opened.{opened, opened_by_clause, opened_by_step, opened_by_tree};
+ghost use Rattle.ffc_trials.specs.Versions.{written_version};
 
 use ffc_cert::{
     Cause, CertLine, Entry, Literal, MAX_BYTES, Multiple, Power, Sequence, Term, text_len,
 };
-
-/// The version of a certificate's text.
-const VERSION: u8 = 2;
 
 /// The most items that a list may have, and the most clauses of a refutation.
 const MOST_ITEMS: u64 = 4_294_967_295;
@@ -118,10 +118,58 @@ impl<T: Ranged> Ranged for Sequence<T> {
     }
 }
 
-/// Whether the numbers of a line are in range, and a lemma names its order.
-fn is_line(line: &CertLine) -> bool
+/// Whether numbers increase strictly.
+fn increase(numbers: &[u32]) -> bool
+    ensures { IsTrue result → Increase numbers.now }
+{
+    let mut least = 0u64;
+    for number in numbers {
+        let number = u64::from(*number);
+        if number < least {
+            return false;
+        }
+        least = number + 1;
+    }
+    true
+}
+
+/// Whether these are variables in range that increase strictly.
+fn are_variables(variables: &Sequence<u32>) -> bool
+    ensures { IsTrue result → AreVariables variables.now }
+{
+    variables.is_in_range() && increase(variables.as_slice())
+}
+
+/// Whether the parts of a line of bits are in range.
+fn is_bits(
+    line: u32,
+    chosen: &Sequence<u32>,
+    polynomial: &Sequence<Term>,
+    lines: &Sequence<u32>,
+) -> bool
+    ensures { IsTrue result → IsLine (Bits line chosen.now polynomial.now lines.now) }
+{
+    if !are_variables(chosen) {
+        return false;
+    }
+    if !polynomial.is_in_range() {
+        return false;
+    }
+    lines.is_in_range()
+}
+
+/// The version that is written, with lines of bits or without them.
+fn version_for(bits: bool) -> u8
+    ensures version { result ≡ written_version bits }
+    ensures known { (result ≡ 1) ⊎ ((result ≡ 2) ⊎ (result ≡ 3)) }
+{
+    if bits { 3 } else { 2 }
+}
+
+/// Whether the numbers of a line are in range, a lemma names its order, and lines of bits are only where they may be.
+fn is_line(line: &CertLine, bits: bool) -> bool
     ensures ranges { IsTrue result → IsLine line.now }
-    ensures fits { IsTrue result → LineFitsVersion 2 line.now }
+    ensures fits { IsTrue result → LineFitsVersion (written_version bits) line.now }
 {
     match line {
         CertLine::Assume(number) => number.is_in_range(),
@@ -134,6 +182,9 @@ fn is_line(line: &CertLine) -> bool
             Some(order) => order.is_in_range() && lits.is_in_range(),
         },
         CertLine::Combine(multiples) => multiples.is_in_range(),
+        CertLine::Bits(line, chosen, polynomial, lines) => {
+            bits && is_bits(*line, chosen, polynomial, lines)
+        }
         CertLine::Chain(line, variable, steps) => {
             line.is_in_range() && variable.is_in_range() && steps.is_in_range()
         }
@@ -211,7 +262,7 @@ impl Open {
                 self.after_clause(0)
             }
             CertLine::Lemma { .. } => self.after_clause(1),
-            CertLine::Combine(_) => self.after_tree(1, 0),
+            CertLine::Combine(_) | CertLine::Bits(_, _, _, _) => self.after_tree(1, 0),
             CertLine::Chain(_, _, steps) => self.after_tree(1, u64::from(*steps)),
             CertLine::Step(_, _) => self.after_step(),
             CertLine::Split(_, _, zeros) => self.after_tree(zeros.as_slice().len() as u64, 0),
@@ -222,13 +273,13 @@ impl Open {
 }
 
 /// Whether these lines are clauses in their order, each lemma with its tree, and all numbers in range.
-fn is_refutation(lines: &[CertLine]) -> bool
-    ensures { IsTrue result → IsRefutation 2 lines.now }
+fn is_refutation(lines: &[CertLine], bits: bool) -> bool
+    ensures { IsTrue result → IsRefutation (written_version bits) lines.now }
 {
     let mut open = Open::NONE;
     let mut clauses = 0u64;
     for line in lines {
-        if !is_line(line) {
+        if !is_line(line, bits) {
             return false;
         }
         let Some(next) = open.after(line) else {
@@ -261,25 +312,26 @@ fn is_cause(cause: &Cause) -> bool
 }
 
 /// Whether an entry is well formed.
-fn is_well_formed(entry: &Entry) -> bool
-    ensures well_formed { IsTrue result → IsWellFormed 2 entry.now }
-    ensures fits { IsTrue result → FitsVersion 2 entry.now }
+fn is_well_formed(entry: &Entry, bits: bool) -> bool
+    ensures well_formed { IsTrue result → IsWellFormed (written_version bits) entry.now }
+    ensures fits { IsTrue result → FitsVersion (written_version bits) entry.now }
 {
     match entry {
         Entry::Sat(values) => values.is_in_range(),
         Entry::UnsatCases => true,
-        Entry::UnsatSteps(lines) => is_refutation(lines.as_slice()),
+        Entry::UnsatSteps(lines) => is_refutation(lines.as_slice(), bits),
         Entry::Unknown(cause) => is_cause(cause),
     }
 }
 
-/// Whether an entry is well formed and its text not too long. It costs about what its text has to be written, and takes no
+/// Whether an entry is well formed, in version 2 or with `bits` in version 3, and its text not too long. It costs about what
+/// its text has to be written, and takes no
 /// memory.
-pub fn is_readable(entry: &Entry) -> bool
-    ensures { IsTrue result → IsReadable 2 entry.now }
+pub fn is_readable(entry: &Entry, bits: bool) -> bool
+    ensures { IsTrue result → IsReadable (written_version bits) entry.now }
 {
-    if !is_well_formed(entry) {
+    if !is_well_formed(entry, bits) {
         return false;
     }
-    text_len(VERSION, entry) <= MAX_BYTES
+    text_len(version_for(bits), entry) <= MAX_BYTES
 }

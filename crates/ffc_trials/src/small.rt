@@ -6,7 +6,7 @@ ghost use Rattle.ffc_trials.specs.Parts.{IsConeOf};
 ghost use Rattle.ffc_trials.specs.Stops.{IsGiven, IsSmallSpan};
 
 use crate::cone::Cone;
-use crate::enumerate::Enumeration;
+use crate::enumerate::{Enumeration, Room};
 use crate::stop::DecideStop;
 use ffc_base::Meter;
 use ffc_cert::Entry;
@@ -16,6 +16,7 @@ use std::alloc::Global;
 /// Decides a check that is small within the budget of `steps` by going through all `span` assignments of its constants.
 pub fn decide_small(
     alloc: Global,
+    room: &mut Room,
     check: &Check,
     cone: &Cone,
     span: u64,
@@ -28,9 +29,11 @@ pub fn decide_small(
     ensures only { IfErr result (λ stop. stop ≡ DecideStop.Memory) }
 {
     let mut trials = Meter::new(steps);
-    let mut enumeration = Enumeration::new(alloc, check, cone)?;
+    let mut enumeration = Enumeration::new(alloc, room, check, cone)?;
     if enumeration.go_on(check, cone, span, &mut trials) {
-        return Ok(Entry::Sat(enumeration.into_values(check)));
+        let values = enumeration.into_values(check, cone, room);
+        return Ok(Entry::Sat(values));
     }
+    enumeration.into_room(check, cone, room);
     Ok(Entry::UnsatCases)
 }

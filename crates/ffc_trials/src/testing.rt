@@ -4,7 +4,8 @@ ghost use Rattle.ffc_cert.specs.WellFormed.{IsReadable};
 ghost use Rattle.ffc_rules.specs.Entries.{EntryOk};
 ghost use Rattle.ffc_rules.specs.Laws.{IsValid};
 ghost use Rattle.ffc_check.specs.Judged.{judged_check};
-ghost use Rattle.ffc_trials.specs.Stops.{IsGiven, IsVerdict};
+ghost use Rattle.ffc_trials.specs.Stops.{IsGivenIn, IsVerdict};
+ghost use Rattle.ffc_trials.specs.Versions.{written_version};
 
 use crate::readable::is_readable;
 use crate::stop::DecideStop;
@@ -26,10 +27,10 @@ fn is_verdict(entry: &Entry) -> bool
     }
 }
 
-/// Whether the checker accepts an entry.
-fn is_accepted(alloc: Global, check: &Check, entry: &Entry) -> Result<bool, DecideStop>
+/// Whether the checker accepts an entry, which may have lines of bits or may not.
+fn is_accepted(alloc: Global, check: &Check, entry: &Entry, bits: bool) -> Result<bool, DecideStop>
     requires valid { IsValid (judged_check check.now) }
-    requires readable { IsReadable 2 entry.now }
+    requires readable { IsReadable (written_version bits) entry.now }
     ensures accepted { IfOk result (λ accepted. IsTrue accepted → EntryOk (judged_check check.now) entry.now) }
     ensures only { IfErr result (λ stop. stop ≡ DecideStop.Memory) }
 {
@@ -40,19 +41,25 @@ fn is_accepted(alloc: Global, check: &Check, entry: &Entry) -> Result<bool, Deci
     }
 }
 
-/// The entry, where it may be given: it says whether the check has a model, is readable, and the checker accepts it.
-pub fn tested(alloc: Global, check: &Check, entry: Entry) -> Result<Option<Entry>, DecideStop>
+/// The entry, where it may be given: it says whether the check has a model, is readable in version 2, or with `bits` in version 3,
+/// and the checker accepts it.
+pub fn tested(
+    alloc: Global,
+    check: &Check,
+    entry: Entry,
+    bits: bool,
+) -> Result<Option<Entry>, DecideStop>
     requires valid { IsValid (judged_check check.now) }
-    ensures given { IfOk result (λ found. IfSome found (IsGiven (judged_check check.now))) }
+    ensures given { IfOk result (λ found. IfSome found (IsGivenIn bits (judged_check check.now))) }
     ensures only { IfErr result (λ stop. stop ≡ DecideStop.Memory) }
 {
     if !is_verdict(&entry) {
         return Ok(None);
     }
-    if !is_readable(&entry) {
+    if !is_readable(&entry, bits) {
         return Ok(None);
     }
-    if !is_accepted(alloc, check, &entry)? {
+    if !is_accepted(alloc, check, &entry, bits)? {
         return Ok(None);
     }
     Ok(Some(entry))

@@ -7,6 +7,7 @@ use Rattle.ffc_cert.specs.Spelling.{is_clause}
 use Rattle.ffc_cert.specs.Ranges.{IsLine}
 use Rattle.ffc_cert.specs.WellFormed.{LineFitsVersion}
 use Rattle.ffc_trials.specs.Opened.{opened}
+use Rattle.ffc_trials.specs.Versions.{written_version}
 use Rattle.ffc_trials.proofs.ReadableLemmas.{ReadSoFar, one_more, one_clause, no_clause, read_all}
 use Rattle.ffc_trials.proofs.readable.is_refutation.Goals as goal
 use Rattle.ffc_trials.proofs.readable.is_refutation.Goals.{then-is_clause, else-is_clause}
@@ -29,7 +30,7 @@ loop-line-preserved c =
             (no_clause c.loop-line.open next lines i c.loop-line.clauses x inside after so_far.order (sym kind ∙ w.if-is_clause.false))
       ];
       ranges = one_more IsLine lines i x inside (subst IsLine c.line-item.is (c.if-not-is_line.ensures.ranges refl)) so_far.ranges;
-      fits = one_more (LineFitsVersion 2) lines i x inside (subst (LineFitsVersion 2) c.line-item.is (c.if-not-is_line.ensures.fits refl)) so_far.fits;
+      fits = one_more (LineFitsVersion (written_version c.args.bits)) lines i x inside (subst (LineFitsVersion (written_version c.args.bits)) c.line-item.is (c.if-not-is_line.ensures.fits refl)) so_far.fits;
       few = elim c.if-is_clause.branch [ then-is_clause w ↦ omega arith | else-is_clause w ↦ omega arith ];
     }
 
@@ -43,5 +44,5 @@ returns c few =
       few = let same = counted.count in let most = leb-true c.loop-line.clauses 4294967295 few in omega arith;
       order = counted.order;
       ranges = all.ranges (subst (AllByRecursion IsLine) (sym none) tt);
-      fits = all.fits (subst (AllByRecursion (LineFitsVersion 2)) (sym none) tt);
+      fits = all.fits (subst (AllByRecursion (LineFitsVersion (written_version c.args.bits))) (sym none) tt);
     }

@@ -1,11 +1,9 @@
 use Rattle.std.proofs.Common.{◌≡◌, ◌<◌, ◌*◌, ◌+◌, ◌++◌, ◌∷◌, ℕ, [], false, length, get_or, slice_index_or, sym, ap, ◌∙◌, subst, arith, rules}
 use Rattle.std.proofs.lemmas.List.{length-map, length_push}
 use Rattle.ffc_propagation.specs.Counts.{IsCounted}
-use Rattle.ffc_propagation.specs.Rows.{rows_of, row_at, clause_at, AreRows}
-use Rattle.ffc_clause.specs.Marks.{place_of}
+use Rattle.ffc_propagation.specs.Rows.{clause_at, AreRows}
 use Rattle.ffc_propagation.specs.Settling.{clauses_of}
 use Rattle.ffc_propagation.specs.Trails.{IsWithin}
-use Rattle.ffc_propagation.proofs.LookLemmas.{written_back}
 use Rattle.ffc_propagation.proofs.RowLemmas.{rows_next}
 use Rattle.ffc_propagation.proofs.SettlingLemmas.{clause_is, counted_more, place_within}
 use Rattle.ffc_propagation.proofs.occurrences.Occurrences.of.Goals as goal
@@ -20,8 +18,7 @@ append_all-requires c = λ k d inside.
     let within : IsWithin c.args.nodes c.as_slice.result.now = subst (IsWithin c.args.nodes) same (c.requires i [] room) in
     let place = place_within (get_or c.as_slice.result.now k d) c.args.nodes (within k d inside) in
     let wide = c.loop-number.invariant.wide in
-    let long : length c.as_mut_slice.result.now ≡ length c.loop-number.rows.items = ap length c.as_mut_slice.ensures.value in
-    omega (arith, place, wide, long)
+    omega (arith, place, wide)
 
 pub loop-number-preserved : goal.loop-number-preserved
 loop-number-preserved c =
@@ -30,20 +27,15 @@ loop-number-preserved c =
     let is : c.as_slice.result.now ≡ c.index-clauses-number.result.lits = search rules in
     let same : clause_at clauses i ≡ c.as_slice.result.now = clause_is c.args.clauses.now i c.index-clauses-number.result c.loop-number-test.true c.index-clauses-number.is ∙ sym is in
     let number : c.in-Ok.number ≡ i = search rules in
-    let value = c.as_mut_slice.ensures.value in
-    let kept : length c.append_all.new.rows ≡ length c.loop-number.rows.items = c.append_all.auto.rows ∙ ap length value in
-    let whole = written_back c.loop-number.rows.len c.append_all.new.rows c.loop-number.rows.items kept (search rules) in
-    let before : AreRows clauses c.in-Ok.number [] (rows_of c.as_mut_slice.result.now) =
-    subst (λ n. AreRows clauses n [] (rows_of c.as_mut_slice.result.now)) (sym number)
-    (subst (λ rs. AreRows clauses i [] (rows_of rs)) (sym value) c.loop-number.invariant.rows) in
-    let now : AreRows clauses i (clause_at clauses i) (rows_of c.append_all.new.rows) =
-    subst (λ n. AreRows clauses n (clause_at clauses i) (rows_of c.append_all.new.rows)) number
-    (subst (λ ls. AreRows clauses c.in-Ok.number ls (rows_of c.append_all.new.rows)) (sym same) (c.in_ok-count.ensures.rows clauses before)) in
+    let before : AreRows clauses c.in-Ok.number [] c.loop-number.rows = subst (λ n. AreRows clauses n [] c.loop-number.rows) (sym number) c.loop-number.invariant.rows in
+    let now : AreRows clauses i (clause_at clauses i) c.append_all.new.rows =
+    subst (λ n. AreRows clauses n (clause_at clauses i) c.append_all.new.rows) number
+    (subst (λ ls. AreRows clauses c.in-Ok.number ls c.append_all.new.rows) (sym same) (c.in_ok-count.ensures.rows clauses before)) in
     let counted : IsCounted (λ m. false) (clause_at clauses i) c.in_ok-count.count = subst (λ ls. IsCounted (λ m. false) ls c.in_ok-count.count) (sym same) (c.in_ok-count.ensures.counted clauses before) in
     record {
-      wide = ap length whole ∙ kept ∙ c.loop-number.invariant.wide;
+      wide = c.in_ok-count.ensures.long ∙ c.loop-number.invariant.wide;
       long = ap length c.in_ok-push.ensures.items ∙ length_push c.loop-number.counts.items c.in_ok-count.count ∙ ap (λ n. n + 1) c.loop-number.invariant.long;
-      rows = λ l. ap (λ rs. row_at (rows_of rs) (place_of l)) whole ∙ rows_next clauses i (rows_of c.append_all.new.rows) now l;
+      rows = rows_next clauses i c.append_all.new.rows now;
       counted =
           subst (λ ns. (j : ℕ) → j < i + 1 → IsCounted (λ m. false) (clause_at clauses j) (slice_index_or ns j 0)) (sym c.in_ok-push.ensures.items)
           (counted_more clauses i c.loop-number.counts.items c.in_ok-count.count c.loop-number.invariant.long c.loop-number.invariant.counted counted);
