@@ -1,7 +1,7 @@
 //! The clauses of a check, with the line of a certificate that each one is.
-ghost use Rattle.std.specs.Prelude.{◌≡◌};
+ghost use Rattle.std.specs.Prelude.{◌≡◌, All};
 ghost use Rattle.ffc_base.specs.Metering.{Metered};
-ghost use Rattle.ffc_term.specs.Checks.{IsCheck};
+ghost use Rattle.ffc_term.specs.Tables.{IsBooleanAt};
 ghost use Rattle.ffc_cdcl.specs.State.{AreListed};
 
 use crate::theory::FieldTheory;
@@ -28,28 +28,42 @@ pub enum Standing {
 #[derive(Drop)]
 pub struct Clauses<'a> {
     alloc: Global,
+    bits: bool,
     solver: Solver,
     origins: Vec<Origin>,
     theory: FieldTheory<'a>,
+    /// Lemmas of earlier checks, each with its place.
+    kept: &'a [(usize, Literals)],
     ghost listed: { AreListed theory.clauses.items solver.lemmas },
 }
 
 impl<'a> Clauses<'a> {
-    /// The clauses of a check: each assertion, and the schemes of all its nodes. The equalities of one field on one trail may
-    /// take a share of units.
-    pub fn of(alloc: Global, check: &Check<'a>, share: u64) -> Result<Clauses<'a>, AllocError>
-        requires valid { IsCheck check.now }
+    /// The clauses of a check: each assertion, the schemes of all its nodes, and lemmas of earlier checks. The equalities of one
+    /// field on one trail may take a share of units, and with `bits` they are reasoned about as integers, where they are such.
+    pub fn of(
+        alloc: Global,
+        check: &Check<'a>,
+        kept: &'a [(usize, Literals)],
+        share: u64,
+        bits: bool,
+    ) -> Result<Clauses<'a>, AllocError>
+        requires active { All (IsBooleanAt check.now.table.now) check.now.in_force.now }
     {
         let mut clauses = Clauses {
             alloc,
+            bits,
             solver: Solver::new(alloc, check.table.len())?,
             origins: Vec::new(alloc),
-            theory: FieldTheory::new(alloc, check, share)?,
+            theory: FieldTheory::new(alloc, check, share, bits)?,
+            kept,
         };
         clauses.add_assertions(check.in_force)?;
         let nodes = check.table.nodes_of(check.in_force)?;
         for clause in clauses_of(alloc, check.table, nodes.as_slice())? {
             clauses.add_scheme(&clause)?;
+        }
+        for (place, lits) in kept {
+            clauses.add(lits.as_slice(), Origin::Kept(*place))?;
         }
         Ok(clauses)
     }
@@ -106,10 +120,10 @@ impl<'a> Clauses<'a> {
 
     /// Forgets what was set aside, and doubles the share. Lemmas are kept.
     pub fn renew(&mut self, check: &Check<'a>) -> Result<(), AllocError>
-        requires valid { IsCheck check.now }
+        requires active { All (IsBooleanAt check.now.table.now) check.now.in_force.now }
     {
         let share = self.theory.share().saturating_mul(2);
-        let fresh = Clauses::of(self.alloc, check, share)?;
+        let fresh = Clauses::of(self.alloc, check, self.kept, share, self.bits)?;
         let old = std::mem::replace(self, fresh);
         let Origins { added, lemmas } = old.into_origins();
         self.add_lemmas(added)?;
@@ -152,9 +166,11 @@ impl<'a> Clauses<'a> {
     pub fn into_origins(self) -> Origins {
         let Clauses {
             alloc: _,
+            bits: _,
             solver: _,
             origins,
             theory,
+            kept: _,
         } = self;
         Origins {
             added: origins,

@@ -3,6 +3,7 @@ ghost use Rattle.ffc_base.specs.Metering.{Metered};
 
 use ffc_base::{Meter, SearchStop, Unit};
 use ffc_basis::{Completion, Progress};
+use ffc_bits::bit_of;
 use ffc_cdcl::Lit;
 use ffc_cert::CertLine;
 use ffc_circuit::{
@@ -20,6 +21,9 @@ use std::alloc::{AllocError, Global};
 /// other; with none at first, which does what simplifies them.
 const PARTS: [u64; 3] = [0, 64, 16];
 
+/// Of the units that are left, at most one of this many parts is taken to search by bits before that.
+const BIT_PARTS: u64 = 2;
+
 /// Of the units that are left, the other equalities are completed with at most one part in this many.
 const LAST_PARTS: u64 = 4;
 
@@ -28,12 +32,23 @@ const LAST_PARTS: u64 = 4;
 pub enum Answer {
     /// Values of their variables with which they hold.
     Values(Vec<(u32, u64)>),
-    /// They do not hold together: a tree whose generators are those of these equalities, and whose variables are ranks.
-    Closed(Vec<Lit>, Ranking, Vec<CertLine>),
+    /// They do not hold together: a tree whose generators are those of these equalities, and whose variables are ranks, and for
+    /// each line of bits in it the ranks that its last numbers are for.
+    Closed(Vec<Lit>, Ranking, Vec<CertLine>, Vec<Vec<u32>>),
     /// Nothing was found with the units of the share.
     Unfinished,
     /// The search does not go on with them, whatever the units are: it has no further choice, or a limit is passed.
     GaveUp,
+}
+
+/// What a search over one field ends with.
+#[derive(Drop)]
+enum Reached {
+    /// Values of the variables.
+    Values(Vec<(u32, u64)>),
+    /// A tree whose generators are those of these equalities, and for each line of bits in it the ranks that its last numbers
+    /// are for.
+    Closed(Vec<Lit>, Vec<CertLine>, Vec<Vec<u32>>),
 }
 
 /// Equalities of one field, as they are on a trail: first those that hold, then the others.
@@ -42,6 +57,8 @@ pub struct Problem<'a> {
     pub alloc: Global,
     pub table: &'a NodeTable,
     pub equalities: &'a [Lit],
+    /// Whether bits are reasoned about as integers.
+    pub bits: bool,
 }
 
 /// One of so many parts of the units that are left.
@@ -260,13 +277,31 @@ impl Problem<'_> {
         Ok(stack)
     }
 
+    /// Searches the lines of these equalities for values.
+    fn search_lines<F: Field>(
+        self,
+        mut stack: BasisStack<F, GradedReverseLex>,
+        ranking: &Ranking,
+        chosen: Vec<Lit>,
+        meter: &mut Meter,
+    ) -> Result<Reached, SearchStop> {
+        let ranks = ranking.ranks(self.alloc)?;
+        match search(self.alloc, &mut stack, ranks.as_slice(), self.bits, meter)? {
+            Found::Values(values) => {
+                let pairs = paired(self.alloc, ranking.variables(), values.as_slice())?;
+                Ok(Reached::Values(pairs))
+            }
+            Found::Closed(tree, sums) => Ok(Reached::Closed(chosen, tree, sums)),
+        }
+    }
+
     /// Searches for values, where these are the differences of the equalities' sides in ranks.
-    fn answer<F: Field>(
+    fn reach<F: Field>(
         self,
         polys: &[Generator<F>],
-        ranking: Ranking,
+        ranking: &Ranking,
         meter: &mut Meter,
-    ) -> Result<Answer, SearchStop> {
+    ) -> Result<Reached, SearchStop> {
         let mut chosen = holding(self.alloc, self.equalities)?;
         let count = chosen.len();
         if count > polys.len() {
@@ -275,21 +310,95 @@ impl Problem<'_> {
         let (equal, unequal) = polys.split_at(count);
         let mut stack = BasisStack::new(self.alloc);
         let found = settle(self.alloc, &mut stack, equal, unequal, meter)?;
-        if let Some(values) = values_by_lines(
-            self.alloc, &stack, unequal, count, &ranking, meter,
-        )? {
-            return Ok(Answer::Values(values));
+        if let Some(values) = values_by_lines(self.alloc, &stack, unequal, count, ranking, meter)? {
+            return Ok(Reached::Values(values));
         }
         let sides = (equal, unequal);
-        let mut stack = self.prepared(stack, sides, found, &ranking, &mut chosen, meter)?;
-        let ranks = ranking.ranks(self.alloc)?;
-        match search(self.alloc, &mut stack, ranks.as_slice(), meter)? {
-            Found::Values(values) => {
-                let pairs = paired(self.alloc, ranking.variables(), values.as_slice())?;
-                Ok(Answer::Values(pairs))
-            }
-            Found::Closed(tree) => Ok(Answer::Closed(chosen, ranking, tree)),
+        let stack = self.prepared(stack, sides, found, ranking, &mut chosen, meter)?;
+        self.search_lines(stack, ranking, chosen, meter)
+    }
+
+    /// The same with nothing completed but what simplifies, and with all that do not hold at once.
+    fn reach_at_once<F: Field>(
+        self,
+        polys: &[Generator<F>],
+        ranking: &Ranking,
+        meter: &mut Meter,
+    ) -> Result<Reached, SearchStop> {
+        let mut chosen = holding(self.alloc, self.equalities)?;
+        let count = chosen.len();
+        if count > polys.len() {
+            return Err(SearchStop::GaveUp);
         }
+        let (equal, unequal) = polys.split_at(count);
+        let mut stack = BasisStack::new(self.alloc);
+        stack.push_within(equal, 0, meter)?;
+        if let Some(values) = values_by_lines(self.alloc, &stack, unequal, count, ranking, meter)? {
+            return Ok(Reached::Values(values));
+        }
+        let mut places = Vec::new(self.alloc);
+        for place in 0..unequal.len() {
+            places.push(place)?;
+        }
+        let gens = self.append_unequal(unequal, places.as_slice(), ranking, &mut chosen)?;
+        stack.push_within(gens.as_slice(), 0, meter)?;
+        self.search_lines(stack, ranking, chosen, meter)
+    }
+
+    /// Searches so with a part of the units, where bits are reasoned about and there are any.
+    fn reach_by_bits<F: Field>(
+        self,
+        polys: &[Generator<F>],
+        ranking: &Ranking,
+        meter: &mut Meter,
+    ) -> Result<Option<Reached>, SearchStop> {
+        if !self.bits || !polys.iter().any(|poly| bit_of(poly).is_some()) {
+            return Ok(None);
+        }
+        let mut own = Meter::new(part_of_left(meter, BIT_PARTS));
+        let reached = self.reach_at_once(polys, ranking, &mut own);
+        charge(meter, &own)?;
+        match reached {
+            Ok(reached) => Ok(Some(reached)),
+            Err(SearchStop::Memory) => Err(SearchStop::Memory),
+            Err(_) => Ok(None),
+        }
+    }
+
+    /// Searches without bits too where the search with them gives up: one line of bits that the checker does not take spoils a tree.
+    fn reach_either_way<F: Field>(
+        self,
+        polys: &[Generator<F>],
+        ranking: &Ranking,
+        meter: &mut Meter,
+    ) -> Result<Reached, SearchStop> {
+        match self.reach(polys, ranking, meter) {
+            Err(SearchStop::GaveUp) if self.bits => {
+                let without = Problem {
+                    bits: false,
+                    ..self
+                };
+                without.reach(polys, ranking, meter)
+            }
+            reached => reached,
+        }
+    }
+
+    /// Searches for values, by bits first.
+    fn answer<F: Field>(
+        self,
+        polys: &[Generator<F>],
+        ranking: Ranking,
+        meter: &mut Meter,
+    ) -> Result<Answer, SearchStop> {
+        let reached = match self.reach_by_bits(polys, &ranking, meter)? {
+            Some(reached) => reached,
+            None => self.reach_either_way(polys, &ranking, meter)?,
+        };
+        Ok(match reached {
+            Reached::Values(values) => Answer::Values(values),
+            Reached::Closed(chosen, tree, sums) => Answer::Closed(chosen, ranking, tree, sums),
+        })
     }
 
     /// The answer for equalities with these differences.
@@ -344,8 +453,8 @@ impl Problem<'_> {
             let units = part_of_left(meter, if is_last { 1 } else { 2 });
             match self.answer_within(group, units, meter)? {
                 Answer::Values(pairs) => values.extend_from_slice(pairs.as_slice())?,
-                Answer::Closed(chosen, ranking, tree) => {
-                    return Ok(Answer::Closed(chosen, ranking, tree));
+                Answer::Closed(chosen, ranking, tree, sums) => {
+                    return Ok(Answer::Closed(chosen, ranking, tree, sums));
                 }
                 other => undecided = Some(other),
             }

@@ -90,6 +90,7 @@ fn judge_field(
     all: &[Lit],
     residues: &mut Residues,
     share: u64,
+    bits: bool,
     meter: &mut Meter,
 ) -> Result<Verdict, SearchStop>
     ensures metered { Metered SearchStop.Spent result meter.old meter.new }
@@ -102,13 +103,14 @@ fn judge_field(
         alloc,
         table: check.table,
         equalities: equalities.as_slice(),
+        bits,
     };
     match problem.over_field(field, share, meter)? {
         Answer::Values(pairs) => {
             residues.set(pairs.as_slice());
             Ok(Verdict::Fine)
         }
-        Answer::Closed(chosen, ranking, tree) => {
+        Answer::Closed(chosen, ranking, tree, sums) => {
             let first_inverse = check.table.len();
             let lemma = Lemma::of(
                 alloc,
@@ -117,6 +119,7 @@ fn judge_field(
                 first_inverse,
                 &ranking,
                 tree,
+                sums.as_slice(),
             )?;
             Ok(match lemma {
                 Some(lemma) => Verdict::Refuted(lemma),
@@ -134,6 +137,7 @@ pub fn judge(
     check: &Check,
     equalities: &[Lit],
     share: u64,
+    bits: bool,
     meter: &mut Meter,
 ) -> Result<Judgement, SearchStop>
     ensures metered { Metered SearchStop.Spent result meter.old meter.new }
@@ -141,7 +145,16 @@ pub fn judge(
     let mut residues = Residues::zero(alloc, check.table.len())?;
     let mut undecided = None;
     for field in FIELDS {
-        match judge_field(alloc, check, field, equalities, &mut residues, share, meter)? {
+        match judge_field(
+            alloc,
+            check,
+            field,
+            equalities,
+            &mut residues,
+            share,
+            bits,
+            meter,
+        )? {
             Verdict::Fine => {}
             Verdict::Undecided(those, unfinished) => {
                 let earlier = matches!(undecided, Some((_, true)));

@@ -1,14 +1,16 @@
 //! Proposing an entry.
-ghost use Rattle.std.specs.Prelude.{◌≡◌};
+ghost use Rattle.std.specs.Prelude.{◌≡◌, All};
 ghost use Rattle.ffc_base.specs.Metering.{Metered};
 ghost use Rattle.ffc_base.specs.Metering.{Takes};
 ghost use Rattle.ffc_term.specs.Checks.{IsCheck};
+ghost use Rattle.ffc_term.specs.Tables.{IsBooleanAt};
 
 use crate::clauses::{Clauses, Standing};
 use ffc_base::{Meter, SearchStop};
 use ffc_cdcl::{HintedClause, Outcome};
 use ffc_cert::Entry;
-use ffc_entries::refutation;
+use ffc_entries::{KeptLemmas, Origins, Shelf, refutation};
+use ffc_mirror::Mirror;
 use ffc_term::Check;
 use std::alloc::{AllocError, Global};
 
@@ -55,7 +57,7 @@ fn settled<'a>(
     clauses: &mut Clauses<'a>,
     end: End,
 ) -> Result<Option<End>, AllocError>
-    requires valid { IsCheck check.now }
+    requires active { All (IsBooleanAt check.now.table.now) check.now.in_force.now }
 {
     let End::Refuted(steps) = end else {
         return Ok(Some(end));
@@ -76,7 +78,7 @@ fn rounds<'a>(
     clauses: &mut Clauses<'a>,
     meter: &mut Meter,
 ) -> Result<End, SearchStop>
-    requires valid { IsCheck check.now }
+    requires active { All (IsBooleanAt check.now.table.now) check.now.in_force.now }
     ensures metered { Metered SearchStop.Spent result meter.old meter.new }
 {
     for _ in 0..u64::MAX {
@@ -88,16 +90,145 @@ fn rounds<'a>(
     Ok(End::Open)
 }
 
-/// Proposes an entry for a check, which the caller has to test: values of the declared constants, or a refutation. None where
-/// nothing was found within the limits of polynomials.
-pub fn propose(alloc: Global, check: &Check, meter: &mut Meter) -> Result<Option<Entry>, SearchStop>
-    requires valid { IsCheck check.now }
-    ensures metered { Metered SearchStop.Spent result meter.old meter.new }
-{
-    let mut clauses = Clauses::of(alloc, check, first_share(meter))?;
-    match rounds(check, &mut clauses, meter)? {
-        End::Model(entry) => Ok(Some(entry)),
-        End::Refuted(steps) => Ok(refutation(alloc, clauses.into_origins(), steps.as_slice())?),
-        End::Open => Ok(None),
+/// What is kept from one check to the next: copies of the nodes of the last one, and the lemmas of all.
+#[derive(Drop)]
+pub struct Engine {
+    alloc: Global,
+    mirror: Mirror,
+    lemmas: KeptLemmas,
+    /// How many nodes the table had at the last check.
+    nodes: u32,
+}
+
+impl Engine {
+    /// Before the first check.
+    pub fn new(alloc: Global) -> Result<Engine, AllocError> {
+        Ok(Engine {
+            alloc,
+            mirror: Mirror::new(alloc)?,
+            lemmas: KeptLemmas::new(alloc),
+            nodes: 0,
+        })
+    }
+
+    /// Goes over to the nodes of a check, and whether it can. What is kept of a longer table is dropped.
+    fn follow(&mut self, check: &Check) -> Result<bool, AllocError>
+        requires valid { IsCheck check.now }
+    {
+        if check.table.len() < self.nodes {
+            self.lemmas.clear();
+        }
+        self.nodes = check.table.len();
+        self.mirror.follow(check)
+    }
+
+    /// Keeps the lemmas of a search, and gives the entry of a refutation.
+    fn concluded(
+        &mut self,
+        origins: Origins,
+        end: Option<End>,
+    ) -> Result<Option<Entry>, AllocError> {
+        self.lemmas
+            .keep_all(origins.added.as_slice(), &self.mirror, self.nodes)?;
+        self.lemmas
+            .keep_all(origins.lemmas.as_slice(), &self.mirror, self.nodes)?;
+        let shelf = Shelf {
+            lemmas: &self.lemmas,
+            mirror: &self.mirror,
+        };
+        match end {
+            Some(End::Model(entry)) => Ok(Some(entry)),
+            Some(End::Refuted(steps)) => refutation(self.alloc, origins, shelf, steps.as_slice()),
+            Some(End::Open) | None => Ok(None),
+        }
+    }
+
+    /// Drops the lemmas where memory is out, so that later checks have it.
+    fn give_back(&mut self, stop: &SearchStop) {
+        if let SearchStop::Memory = stop {
+            self.lemmas.clear();
+        }
+    }
+
+    /// Proposes an entry over the copies.
+    fn propose_inside(
+        &mut self,
+        first_order: u64,
+        meter: &mut Meter,
+    ) -> Result<Option<Entry>, SearchStop>
+        ensures metered { Metered SearchStop.Spent result meter.old meter.new }
+    {
+        let Some(active) = self.mirror.active() else {
+            return Ok(None);
+        };
+        let constants = self.mirror.constants()?;
+        let kept = self.lemmas.over(&self.mirror)?;
+        let check = Check {
+            table: self.mirror.table(),
+            declared: constants.as_slice(),
+            in_force: active,
+            first_order,
+        };
+        let share = first_share(meter);
+        let mut clauses = Clauses::of(self.alloc, &check, kept.as_slice(), share, false)?;
+        let end = rounds(&check, &mut clauses, meter);
+        let origins = clauses.into_origins();
+        match end {
+            Ok(end) => Ok(self.concluded(origins, Some(end))?),
+            Err(stop) => {
+                self.concluded(origins, None)?;
+                Err(stop)
+            }
+        }
+    }
+
+    /// Proposes an entry over the check's own nodes.
+    fn propose_alone(&self, check: &Check, meter: &mut Meter) -> Result<Option<Entry>, SearchStop>
+        requires active { All (IsBooleanAt check.now.table.now) check.now.in_force.now }
+        ensures metered { Metered SearchStop.Spent result meter.old meter.new }
+    {
+        let mut clauses = Clauses::of(self.alloc, check, &[], first_share(meter), true)?;
+        match rounds(check, &mut clauses, meter)? {
+            End::Model(entry) => Ok(Some(entry)),
+            End::Refuted(steps) => {
+                let shelf = Shelf {
+                    lemmas: &self.lemmas,
+                    mirror: &self.mirror,
+                };
+                Ok(refutation(self.alloc, clauses.into_origins(), shelf, steps.as_slice())?)
+            }
+            End::Open => Ok(None),
+        }
+    }
+
+    /// Proposes an entry for a check, which the caller has to test: values of the declared constants, or a refutation. None where
+    /// nothing was found within the limits of polynomials. With `bits` equations of bits are reasoned about as integers, a refutation
+    /// may have lines of bits, and nothing is kept.
+    pub fn propose(
+        &mut self,
+        check: &Check,
+        bits: bool,
+        meter: &mut Meter,
+    ) -> Result<Option<Entry>, SearchStop>
+        requires valid { IsCheck check.now }
+        ensures metered { Metered SearchStop.Spent result meter.old meter.new }
+    {
+        if bits {
+            return self.propose_alone(check, meter);
+        }
+        if !self.follow(check)? {
+            return Ok(None);
+        }
+        match self.propose_inside(check.first_order, meter) {
+            Ok(Some(entry)) => {
+                let outside = self.mirror.outside(check.table.len());
+                Ok(outside.entry(self.alloc, check, entry)?)
+            }
+            Ok(None) => Ok(None),
+            Err(stop) => {
+                self.give_back(&stop);
+                Err(stop)
+            }
+        }
     }
 }

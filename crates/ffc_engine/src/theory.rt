@@ -21,6 +21,8 @@ pub struct FieldTheory<'a> {
     check: Check<'a>,
     /// How many units the equalities of one field on one trail may take.
     share: u64,
+    /// Whether bits are reasoned about as integers.
+    bits: bool,
     walk: Walk<'a>,
     /// How many literals the walk has followed, and how many units had been taken for literals then.
     followed: usize,
@@ -36,7 +38,12 @@ pub struct FieldTheory<'a> {
 
 impl<'a> FieldTheory<'a> {
     /// The theory for a check, with no lemmas yet.
-    pub fn new(alloc: Global, check: &Check<'a>, share: u64) -> Result<FieldTheory<'a>, AllocError>
+    pub fn new(
+        alloc: Global,
+        check: &Check<'a>,
+        share: u64,
+        bits: bool,
+    ) -> Result<FieldTheory<'a>, AllocError>
         ensures { IfOk result (λ t. t.clauses.items ≡ []) }
     {
         let mut walk = Walk::new(alloc, check.table)?;
@@ -45,6 +52,7 @@ impl<'a> FieldTheory<'a> {
             alloc,
             check: *check,
             share,
+            bits,
             walk,
             followed: 0,
             taken: 0,
@@ -74,6 +82,7 @@ impl<'a> FieldTheory<'a> {
             alloc: _,
             check: _,
             share: _,
+            bits: _,
             walk: _,
             followed: _,
             taken: _,
@@ -122,6 +131,7 @@ impl<'a> FieldTheory<'a> {
             &self.check,
             equalities.as_slice(),
             self.share,
+            self.bits,
             meter,
         )
     }

@@ -1,8 +1,10 @@
 //! Refutations as entries of a certificate.
+use crate::kept::KeptLemmas;
 use crate::lemma::listed;
 use crate::origin::{Origin, Origins};
 use ffc_cdcl::{Hint, HintedClause};
 use ffc_cert::{CertLine, Entry, Sequence};
+use ffc_mirror::Mirror;
 use std::alloc::{AllocError, Global};
 
 /// Which clauses a refutation uses, from its last step on.
@@ -84,10 +86,31 @@ pub fn is_proved(
     Ok(are_proved(added, &used.added) && are_proved(lemmas, &used.lemmas))
 }
 
+/// Where lemmas are kept, and the copies over which they are written.
+#[derive(Clone, Copy)]
+pub struct Shelf<'a> {
+    pub lemmas: &'a KeptLemmas,
+    pub mirror: &'a Mirror,
+}
+
+impl Shelf<'_> {
+    /// Where a clause is from, with the lemma itself where it is kept.
+    fn taken(self, origin: Origin) -> Result<Origin, AllocError> {
+        match origin {
+            Origin::Kept(place) => Ok(match self.lemmas.lemma(place, self.mirror)? {
+                Some(lemma) => Origin::Lemma(lemma),
+                None => Origin::SetAside,
+            }),
+            other => Ok(other),
+        }
+    }
+}
+
 /// The lines of an entry so far, and the numbers of its clauses.
 #[derive(Drop)]
-struct Writer {
+struct Writer<'a> {
     alloc: Global,
+    shelf: Shelf<'a>,
     lines: Vec<CertLine>,
     clauses: u32,
     /// Of each added clause so far, its number in the entry.
@@ -106,10 +129,11 @@ fn number_at(numbers: &Vec<Option<u32>>, place: u64) -> Option<u32> {
     }
 }
 
-impl Writer {
-    fn new(alloc: Global) -> Self {
+impl<'a> Writer<'a> {
+    fn new(alloc: Global, shelf: Shelf<'a>) -> Self {
         Writer {
             alloc,
+            shelf,
             lines: Vec::new(alloc),
             clauses: 0,
             added: Vec::new(alloc),
@@ -130,6 +154,7 @@ impl Writer {
         if !is_used {
             return Ok(None);
         }
+        let origin = self.shelf.taken(origin)?;
         origin.append_to(self.alloc, &mut self.lines)?;
         Ok(Some(self.next_number()))
     }
@@ -190,11 +215,12 @@ impl Writer {
 pub fn refutation(
     alloc: Global,
     origins: Origins,
+    shelf: Shelf<'_>,
     steps: &[HintedClause],
 ) -> Result<Option<Entry>, AllocError> {
     let Origins { added, lemmas } = origins;
     let used = Used::of(alloc, added.len(), lemmas.len(), steps)?;
-    let mut writer = Writer::new(alloc);
+    let mut writer = Writer::new(alloc, shelf);
     writer.add_clauses(&used, added)?;
     writer.add_lemmas(&used, lemmas)?;
     for step in steps {
@@ -204,6 +230,7 @@ pub fn refutation(
     }
     let Writer {
         alloc: _,
+        shelf: _,
         lines,
         clauses: _,
         added: _,

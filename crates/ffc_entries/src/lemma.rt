@@ -29,7 +29,8 @@ fn negations(alloc: Global, equalities: &[Lit], uses: &Uses) -> Result<Literals,
 
 impl Lemma {
     /// The lemma that a tree in ranks shows of equalities, of which the first ones are its generators: just those that it uses
-    /// are named. None where a number does not fit.
+    /// are named. For each line of bits in it the ranks are given that its last numbers are for. None where a number does not
+    /// fit.
     pub fn of(
         alloc: Global,
         order: u64,
@@ -37,6 +38,7 @@ impl Lemma {
         first_inverse: u32,
         ranking: &Ranking,
         tree: Vec<CertLine>,
+        sums: &[Vec<u32>],
     ) -> Result<Option<Self>, AllocError> {
         let uses = Uses::of(
             alloc,
@@ -46,7 +48,7 @@ impl Lemma {
             tree.as_slice(),
         )?;
         let lits = negations(alloc, equalities, &uses)?;
-        match uses.renumbered(alloc, tree)? {
+        match uses.renumbered(alloc, tree, sums)? {
             Some(tree) => Ok(Some(Lemma { order, lits, tree })),
             None => Ok(None),
         }

@@ -13,6 +13,8 @@ pub enum Origin {
     Scheme(NodeId, u32, u32),
     /// A lemma, which the tree in it shows.
     Lemma(Lemma),
+    /// The lemma at this place among those that are kept.
+    Kept(usize),
     /// Equalities that were set aside undecided: the clause keeps the search from them, and nothing may rest on it.
     SetAside,
 }
@@ -31,7 +33,7 @@ impl Origin {
                 lines.push(CertLine::Scheme(node, scheme, index))?
             }
             Origin::Lemma(lemma) => lemma.append_to(alloc, lines)?,
-            Origin::SetAside => {}
+            Origin::Kept(_) | Origin::SetAside => {}
         }
         Ok(())
     }

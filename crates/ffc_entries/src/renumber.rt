@@ -1,6 +1,8 @@
 //! Trees over fewer generators, with variables in place of ranks.
-use ffc_cert::{CertLine, Multiple, Power, Sequence, Term};
+use ffc_cert::{CertLine, Multiple, Sequence, Term};
 use ffc_circuit::Ranking;
+use ffc_mirror::{Naming, renamed, terms};
+use ffc_term::NodeId;
 use std::alloc::{AllocError, Global};
 
 /// Which generators a tree uses: those of which a line is a multiple or a case, and those whose inverse occurs.
@@ -77,6 +79,15 @@ impl<'a> Uses<'a> {
                     self.mark_multiple(multiple);
                 }
             }
+            CertLine::Bits(line, _, polynomial, bits) => {
+                self.mark(*line as usize);
+                for term in polynomial.as_slice() {
+                    self.mark_term(term);
+                }
+                for bit in bits.as_slice() {
+                    self.mark(*bit as usize);
+                }
+            }
             CertLine::Chain(line, rank, _) | CertLine::Split(line, rank, _) => {
                 self.mark(*line as usize);
                 self.mark_variable(*rank);
@@ -112,16 +123,37 @@ impl<'a> Uses<'a> {
         })
     }
 
-    /// The tree over the generators that it uses; none where a number does not fit.
+    /// The tree over the generators that it uses; none where a number does not fit. For each line of bits in it the ranks are
+    /// given that its last numbers are for.
     pub fn renumbered(
         &self,
         alloc: Global,
         tree: Vec<CertLine>,
+        sums: &[Vec<u32>],
     ) -> Result<Option<Vec<CertLine>>, AllocError> {
         let numbering = self.numbering(alloc)?;
         let mut lines = Vec::new(alloc);
-        for line in tree {
-            match numbering.line(alloc, line)? {
+        let mut left = sums;
+        for line in &tree {
+            let made = match line {
+                CertLine::Bits(line, chosen, polynomial, bits) => {
+                    let mut ranks: &[u32] = &[];
+                    if let [first, rest @ ..] = left {
+                        ranks = first.as_slice();
+                        left = rest;
+                    }
+                    numbering.bits(
+                        alloc,
+                        *line,
+                        chosen.as_slice(),
+                        polynomial.as_slice(),
+                        bits.as_slice(),
+                        ranks,
+                    )?
+                }
+                other => renamed(alloc, &numbering, other)?,
+            };
+            match made {
                 Some(line) => lines.push(line)?,
                 None => return Ok(None),
             }
@@ -139,8 +171,12 @@ struct Numbering<'a> {
     ranking: &'a Ranking,
 }
 
-impl Numbering<'_> {
-    fn line_number(&self, line: u32) -> Option<u32> {
+impl Naming for Numbering<'_> {
+    fn node(&self, node: NodeId) -> Option<NodeId> {
+        Some(node)
+    }
+
+    fn line(&self, line: u32) -> Option<u32> {
         match self.numbers.get(line as usize) {
             Some(number) => Some(*number),
             None => {
@@ -161,16 +197,19 @@ impl Numbering<'_> {
             None => Some(variable),
         }
     }
+}
 
-    fn powers(
+impl Numbering<'_> {
+    /// Variables of ranks, from the lowest.
+    fn increasing(
         &self,
         alloc: Global,
-        powers: Sequence<Power>,
-    ) -> Result<Option<Sequence<Power>>, AllocError> {
+        ranks: &[u32],
+    ) -> Result<Option<Sequence<u32>>, AllocError> {
         let mut made = Vec::new(alloc);
-        for power in powers.as_slice() {
-            match self.variable(power.0) {
-                Some(variable) => made.push((variable, power.1))?,
+        for rank in ranks {
+            match self.variable(*rank) {
+                Some(variable) => made.push(variable)?,
                 None => return Ok(None),
             }
         }
@@ -178,70 +217,46 @@ impl Numbering<'_> {
         Ok(Some(Sequence::from_vec(made)))
     }
 
-    fn terms(
+    /// The numbers of lines that are for these ranks, by the variables of these from the lowest.
+    fn by_variables(
         &self,
         alloc: Global,
-        terms: Sequence<Term>,
-    ) -> Result<Option<Sequence<Term>>, AllocError> {
-        let mut made = Vec::new(alloc);
-        for (coefficient, powers) in terms.into_vec() {
-            match self.powers(alloc, powers)? {
-                Some(powers) => made.push((coefficient, powers))?,
-                None => return Ok(None),
+        lines: &[u32],
+        ranks: &[u32],
+    ) -> Result<Option<Sequence<u32>>, AllocError> {
+        let mut pairs = Vec::new(alloc);
+        for (line, rank) in lines.iter().zip(ranks) {
+            match (self.variable(*rank), self.line(*line)) {
+                (Some(variable), Some(number)) => pairs.push((variable, number))?,
+                _ => return Ok(None),
             }
+        }
+        pairs.sort_unstable();
+        let mut made = Vec::new(alloc);
+        for pair in pairs {
+            made.push(pair.1)?;
         }
         Ok(Some(Sequence::from_vec(made)))
     }
 
-    fn multiple(&self, alloc: Global, multiple: Multiple) -> Result<Option<Multiple>, AllocError> {
-        let (line, terms) = multiple;
-        let terms = self.terms(alloc, terms)?;
-        match (self.line_number(line), terms) {
-            (Some(line), Some(terms)) => Ok(Some((line, terms))),
-            _ => Ok(None),
-        }
-    }
-
-    fn multiples(
+    /// A line of bits, whose last numbers are for these ranks.
+    fn bits(
         &self,
         alloc: Global,
-        multiples: Sequence<Multiple>,
+        line: u32,
+        chosen: &[u32],
+        polynomial: &[Term],
+        bits: &[u32],
+        ranks: &[u32],
     ) -> Result<Option<CertLine>, AllocError> {
-        let mut made = Vec::new(alloc);
-        for multiple in multiples.into_vec() {
-            match self.multiple(alloc, multiple)? {
-                Some(multiple) => made.push(multiple)?,
-                None => return Ok(None),
+        let chosen = self.increasing(alloc, chosen)?;
+        let terms = terms(alloc, self, polynomial)?;
+        let bits = self.by_variables(alloc, bits, ranks)?;
+        match (self.line(line), chosen, terms, bits) {
+            (Some(line), Some(chosen), Some(terms), Some(bits)) => {
+                Ok(Some(CertLine::Bits(line, chosen, terms, bits)))
             }
-        }
-        Ok(Some(CertLine::Combine(Sequence::from_vec(made))))
-    }
-
-    fn chain(&self, line: u32, rank: u32, steps: u32) -> Option<CertLine> {
-        let line = self.line_number(line)?;
-        let variable = self.variable(rank)?;
-        Some(CertLine::Chain(line, variable, steps))
-    }
-
-    fn split(&self, line: u32, rank: u32, zeros: Sequence<u64>) -> Option<CertLine> {
-        match (self.line_number(line), self.variable(rank)) {
-            (Some(line), Some(variable)) => Some(CertLine::Split(line, variable, zeros)),
-            _ => None,
-        }
-    }
-
-    fn values(&self, rank: u32, trees: u32) -> Option<CertLine> {
-        let variable = self.variable(rank)?;
-        Some(CertLine::Values(variable, trees))
-    }
-
-    fn line(&self, alloc: Global, line: CertLine) -> Result<Option<CertLine>, AllocError> {
-        match line {
-            CertLine::Combine(multiples) => self.multiples(alloc, multiples),
-            CertLine::Chain(line, rank, steps) => Ok(self.chain(line, rank, steps)),
-            CertLine::Split(line, rank, zeros) => Ok(self.split(line, rank, zeros)),
-            CertLine::Values(rank, trees) => Ok(self.values(rank, trees)),
-            other => Ok(Some(other)),
+            _ => Ok(None),
         }
     }
 }
