@@ -160,7 +160,7 @@ module _ (p : Progress) (s : Dialogue) (entries : List Entry) (l : Option Last) 
 
     pub holds_plain : (t : Dialogue) → t ≡ record s { last = remembered_after (effect_by c) s.last } → Holds t.reader t entries (last_after l x.command)
     holds_plain t is = subst (λ (u : Dialogue). Holds u.reader u entries (last_after l x.command)) (sym is) (record {
-      each = subst (λ cs. AreEntries s.steps cs entries) (sym same_checks) holds.each;
+      each = subst (λ cs. AreEntries s.task cs entries) (sym same_checks) holds.each;
       count = holds.count ∙ ap length (sym same_checks);
       last = last_plain;
       remembers = remembers_plain;
@@ -196,7 +196,7 @@ module _ (p : Progress) (s : Dialogue) (entries : List Entry) (l : Option Last) 
               ∙ ap (λ a. answers (steps_of p) entries ++ a) (append-nil answer);
           same_text = ap (λ (u : Dialogue). u.reader.text) is ∙ gives.text;
           longer = ap (λ (u : Dialogue). length (steps_of u.reader)) is ∙ ap (λ (xs : List Step). length xs) gives.steps ∙ length-append (steps_of p) (x ∷ []);
-          budget = ap (λ (u : Dialogue). u.steps) is;
+          task = ap (λ (u : Dialogue). u.task) is;
           taken = ap (λ (u : Dialogue). u.taken) is;
         }
 
@@ -209,8 +209,8 @@ module _ (p : Progress) (s : Dialogue) (entries : List Entry) (l : Option Last) 
         let front = front_of answer out.old out.new written in
         record {
           later = [];
-          each = subst (λ xs. AreEntries s.steps (table_checks xs) (entries ++ [])) (sym steps_are)
-              (subst (λ cs. AreEntries s.steps cs (entries ++ [])) (sym (checks_on rest)) (subst (AreEntries s.steps (table_checks (steps_of p) ++ table_checks rest)) (sym (append-nil entries)) (AreEntries-more s.steps (table_checks (steps_of p)) (table_checks rest) entries holds.each)));
+          each = subst (λ xs. AreEntries s.task (table_checks xs) (entries ++ [])) (sym steps_are)
+              (subst (λ cs. AreEntries s.task cs (entries ++ [])) (sym (checks_on rest)) (subst (AreEntries s.task (table_checks (steps_of p) ++ table_checks rest)) (sym (append-nil entries)) (AreEntries-more s.task (table_checks (steps_of p)) (table_checks rest) entries holds.each)));
           part = [];
           rest = inl refl;
           certificate = Appends-same [] cert.old cert.old cert.new same (Appends-nil cert.old);
@@ -279,9 +279,9 @@ cut_here s entries l more co oo holds first =
     let split = answers-append (steps_of s.reader) rest None entries [] holds.count in
     record {
       later = [];
-      each = subst (λ xs. AreEntries s.steps (table_checks xs) (entries ++ [])) (sym steps_are)
-          (subst (λ cs. AreEntries s.steps cs (entries ++ [])) (sym (checks-append (steps_of s.reader) rest))
-          (subst (AreEntries s.steps (table_checks (steps_of s.reader) ++ table_checks rest)) (sym (append-nil entries)) (AreEntries-more s.steps (table_checks (steps_of s.reader)) (table_checks rest) entries holds.each)));
+      each = subst (λ xs. AreEntries s.task (table_checks xs) (entries ++ [])) (sym steps_are)
+          (subst (λ cs. AreEntries s.task cs (entries ++ [])) (sym (checks-append (steps_of s.reader) rest))
+          (subst (AreEntries s.task (table_checks (steps_of s.reader) ++ table_checks rest)) (sym (append-nil entries)) (AreEntries-more s.task (table_checks (steps_of s.reader)) (table_checks rest) entries holds.each)));
       part = [];
       rest = inl refl;
       certificate = Appends-nil co;

@@ -83,7 +83,7 @@ room_for p s entries l c holds gives few short =
     record { sat = omega arith; unsat = omega arith; unknown = omega arith }
 
 module _ (p : Progress) (s : Dialogue) (entries : List Entry) (l : Option Last) (c : Command) (holds : Holds p s entries l) (gives : Gives p s.reader c) (first : AreFirst s.reader.text (steps_of s.reader))
-    (is : table_check_of gives.step ≡ Some (check_now (known_at s.reader))) (entry : Entry) (right : IsRight s.steps (check_now (known_at s.reader)) entry) where
+    (is : table_check_of gives.step ≡ Some (check_now (known_at s.reader))) (entry : Entry) (right : IsRight s.task (check_now (known_at s.reader)) entry) where
   abbrev x : Step
   x = gives.step
 
@@ -117,8 +117,8 @@ module _ (p : Progress) (s : Dialogue) (entries : List Entry) (l : Option Last) 
       ap table_checks (append_assoc (steps_of p) (x ∷ []) rest) ∙ checks-append (steps_of p) (x ∷ rest) ∙ ap (λ cs. table_checks (steps_of p) ++ cs) (checks-some x rest None check is)
       ∙ sym (append_assoc (table_checks (steps_of p)) (check ∷ []) (table_checks rest))
 
-  each_then : AreEntries s.steps (table_checks (steps_of p) ++ check ∷ []) (entries ++ entry ∷ [])
-  each_then = AreEntries-push s.steps (table_checks (steps_of p)) entries check entry holds.count holds.each right
+  each_then : AreEntries s.task (table_checks (steps_of p) ++ check ∷ []) (entries ++ entry ∷ [])
+  each_then = AreEntries-push s.task (table_checks (steps_of p)) entries check entry holds.count holds.each right
 
   split : (rest : List Step) (fs : List Entry) → AnswersSplit None (steps_of p) (x ∷ rest) entries fs
   split rest fs = answers-append (steps_of p) (x ∷ rest) None entries fs holds.count
@@ -160,19 +160,19 @@ module _ (p : Progress) (s : Dialogue) (entries : List Entry) (l : Option Last) 
       by_entry (UnsatSteps lines) e = let h = sums (UnsatSteps lines) in record { sat = ap (λ (u : Tally). u.sat) e ∙ add-none s.tally.sat ∙ sym h.0; unsat = ap (λ (u : Tally). u.unsat) e ∙ sym h.1; unknown = ap (λ (u : Tally). u.unknown) e ∙ add-none s.tally.unknown ∙ sym h.2 }
       by_entry (Unknown cause) e = let h = sums (Unknown cause) in record { sat = ap (λ (u : Tally). u.sat) e ∙ add-none s.tally.sat ∙ sym h.0; unsat = ap (λ (u : Tally). u.unsat) e ∙ add-none s.tally.unsat ∙ sym h.1; unknown = ap (λ (u : Tally). u.unknown) e ∙ sym h.2 }
 
-  pub holds_then : (t : Dialogue) (asked : Option (Vec Asked)) → s.steps < 2 ^ 64 → IsChecked s t asked entry → texts_of asked ≡ option_map (map asked_text) (assumptions_in x.command) → Holds t.reader t (entries ++ entry ∷ []) then
+  pub holds_then : (t : Dialogue) (asked : Option (Vec Asked)) → s.task.steps < 2 ^ 64 → IsChecked s t asked entry → texts_of asked ≡ option_map (map asked_text) (assumptions_in x.command) → Holds t.reader t (entries ++ entry ∷ []) then
   holds_then t asked few h texts = record {
-    each = subst (λ n. AreEntries n (table_checks (steps_of t.reader)) (entries ++ entry ∷ [])) (sym h.steps)
-        (subst (λ r. AreEntries s.steps (table_checks (steps_of r)) (entries ++ entry ∷ [])) (sym h.reader) (subst (λ cs. AreEntries s.steps cs (entries ++ entry ∷ [])) (sym checks_then) each_then));
+    each = subst (λ n. AreEntries n (table_checks (steps_of t.reader)) (entries ++ entry ∷ [])) (sym h.task)
+        (subst (λ r. AreEntries s.task (table_checks (steps_of r)) (entries ++ entry ∷ [])) (sym h.reader) (subst (λ cs. AreEntries s.task cs (entries ++ entry ∷ [])) (sym checks_then) each_then));
     count = length-append entries (entry ∷ []) ∙ ap (λ n. n + 1) holds.count ∙ sym (length-append (table_checks (steps_of p)) (check ∷ [])) ∙ ap (λ (cs : List TableCheck). length cs) (sym checks_then) ∙ ap (λ r. length (table_checks (steps_of r))) (sym h.reader);
     last = ap (λ r. last_from None (steps_of r) (entries ++ entry ∷ [])) h.reader ∙ last_then;
     remembers = subst (λ r. Remembers r then) (sym h.last_is) (record { entry = h.remembers.entry_is; fresh = h.remembers.fresh; core = h.remembers.core_is ∙ ap (λ e. core e (length (nodes_in_force check))) refl; asked = ap texts_of h.remembers.asked_is ∙ texts });
     kept = subst (λ r. IsRememberedAt then (known_at r).state) (sym h.reader) (subst (IsRememberedAt then) (sym (state_is p s entries l c holds gives first))
-        (after_check x.before x.tree x.command check entry s.steps few sound_now is kept_check right));
+        (after_check x.before x.tree x.command check entry s.task few sound_now is kept_check right));
     tally = counts_then t.tally h.tally;
   }
 
-  pub told_then : (t : Dialogue) (asked : Option (Vec Asked)) (cert out : Change) → s.steps < 2 ^ 64 → IsChecked s t asked entry → texts_of asked ≡ option_map (map asked_text) (assumptions_in x.command)
+  pub told_then : (t : Dialogue) (asked : Option (Vec Asked)) (cert out : Change) → s.task.steps < 2 ^ 64 → IsChecked s t asked entry → texts_of asked ≡ option_map (map asked_text) (assumptions_in x.command)
       → Appends (entry_text entry) cert.old cert.new → Appends (verdict entry) out.old out.new → IsTold (record s { reader = p }) t entries cert out
   unfolding answers_from
   told_then t asked cert out few h texts entry_put verdict_put =
@@ -187,7 +187,7 @@ module _ (p : Progress) (s : Dialogue) (entries : List Entry) (l : Option Last) 
             ∙ ap (λ a. answers (steps_of p) entries ++ a) (append-nil (verdict entry));
         same_text = ap (λ r. r.text) h.reader ∙ gives.text;
         longer = ap (λ r. length (steps_of r)) h.reader ∙ ap (λ (xs : List Step). length xs) gives.steps ∙ length-append (steps_of p) (x ∷ []);
-        budget = h.steps;
+        task = h.task;
         taken = h.taken;
       }
 
@@ -205,9 +205,9 @@ module _ (p : Progress) (s : Dialogue) (entries : List Entry) (l : Option Last) 
       let all = ap table_checks on_steps.1 ∙ checks_on rest in
       record {
         later = [];
-        each = subst (λ cs. AreEntries s.steps cs (entries ++ [])) (sym all)
-            (subst (AreEntries s.steps ((table_checks (steps_of p) ++ check ∷ []) ++ table_checks rest)) (sym (append-nil entries))
-            (AreEntries-more s.steps (table_checks (steps_of p) ++ check ∷ []) (table_checks rest) entries (AreEntries-more s.steps (table_checks (steps_of p)) (check ∷ []) entries holds.each)));
+        each = subst (λ cs. AreEntries s.task cs (entries ++ [])) (sym all)
+            (subst (AreEntries s.task ((table_checks (steps_of p) ++ check ∷ []) ++ table_checks rest)) (sym (append-nil entries))
+            (AreEntries-more s.task (table_checks (steps_of p) ++ check ∷ []) (table_checks rest) entries (AreEntries-more s.task (table_checks (steps_of p)) (check ∷ []) entries holds.each)));
         part = take size (entry_text entry);
         rest = inr (record {
           check = check;
@@ -234,7 +234,7 @@ module _ (p : Progress) (s : Dialogue) (entries : List Entry) (l : Option Last) 
       let all = ap table_checks on_steps.1 ∙ checks_on rest in
       record {
         later = entry ∷ [];
-        each = subst (λ cs. AreEntries s.steps cs (entries ++ entry ∷ [])) (sym all) (AreEntries-more s.steps (table_checks (steps_of p) ++ check ∷ []) (table_checks rest) (entries ++ entry ∷ []) each_then);
+        each = subst (λ cs. AreEntries s.task cs (entries ++ entry ∷ [])) (sym all) (AreEntries-more s.task (table_checks (steps_of p) ++ check ∷ []) (table_checks rest) (entries ++ entry ∷ []) each_then);
         part = [];
         rest = inl refl;
         certificate = subst (λ b. Appends b cert.old cert.new) (sym (append-nil (entry_text entry ++ []) ∙ append-nil (entry_text entry))) entry_put;

@@ -8,17 +8,18 @@ use Rattle.ffc_cert.specs.declared.entries.Entry.{Entry}
 use Rattle.ffc_cert.specs.Spelling.{entry_text, header, text_of}
 use Rattle.ffc_smt.specs.Scripts.{Script, reads}
 use Rattle.ffc_smt.specs.TableChecks.{table_checks}
+use Rattle.ffc_trials.specs.Versions.{written_version}
 use Rattle.ffc_answer.specs.Answers.{has_all_entries, made_answer, run_answers, script_answers}
 use Rattle.ffc_solve.specs.declared.dialogue.Dialogue.{Dialogue}
 use Rattle.ffc_solve.specs.Changes.{Change}
-use Rattle.ffc_solve.specs.Solving.{AnswersSoon, IsPaused, IsStopped, IsWhole}
+use Rattle.ffc_solve.specs.Solving.{AnswersSoon, EndsSoon, IsPaused, IsStopped, IsTaken, IsWhole}
 use Rattle.ffc_solve.specs.Underway.{AnswersSoonAt, IsAnswered, IsCut, IsPausedAt, is_fault}
 use Rattle.ffc_solve.proofs.ListLemmas.{between, AppendsPrefix-none, Becomes-more, front_is_prefix, front_of}
 use Rattle.std.proofs.lemmas.Bool.{false≢true}
 use Rattle.std.proofs.lemmas.List.{take-append-drop, take_all, length-map}
 use Rattle.std.specs.List.{AllByRecursion}
 use Rattle.std.proofs.Common.{map}
-use Rattle.ffc_cert.specs.Laws.{line_count, numbered_from}
+use Rattle.ffc_cert.specs.Laws.{IsVersion, line_count, numbered_from}
 use Rattle.ffc_cert.proofs.BackLemmas.{reads_back}
 use Rattle.ffc_cert.specs.Reading.{reading_of}
 use Rattle.ffc_cert.specs.WellFormed.{IsReadable}
@@ -32,7 +33,8 @@ use Rattle.ffc_solve.specs.Status.{EndsAs, IsAccepted, IsLeft, IsNamed, IsScript
 use Rattle.ffc_solve.specs.declared.solve.SolveStatus.{SolveStatus}
 use Rattle.clap.specs.Words.{Text}
 use Rattle.ffc_solve.specs.declared.arguments.Plan.{Plan}
-use Rattle.ffc_solve.specs.Arguments.{HasPlan}
+use Rattle.ffc_solve.specs.declared.arguments.Task.{Task}
+use Rattle.ffc_solve.specs.Arguments.{HasPlan, task_of}
 use Rattle.std.specs.Result.{IsErrOf}
 use Rattle.ffc_solve.specs.declared.solve.SolveStatus.TheVariants as status
 use Rattle.ffc_solve.specs.declared.stop.Stop.{Stop}
@@ -46,26 +48,26 @@ no_made false = refl
 run_plain : (script : Script) (entries : List Entry) → run_answers None script entries ≡ script_answers script entries
 run_plain script entries = ap (λ a. script_answers script entries ++ a) (no_made (has_all_entries script.steps entries)) ∙ append-nil (script_answers script entries)
 
-text_is : (entries : List Entry) → header 2 ++ flat_map entry_text entries ≡ text_of 2 entries
+text_is : (version : ℕ) (entries : List Entry) → header version ++ flat_map entry_text entries ≡ text_of version entries
 unfolding text_of
-text_is entries = refl
+text_is version entries = refl
 
 -- entries and more after the first line
-text_then : (entries : List Entry) (part : List ℕ) (cert : Change) (c1 : Option (List ℕ)) → Becomes (header 2) cert.old c1 → Appends (flat_map entry_text entries ++ part) c1 cert.new → Becomes (text_of 2 entries ++ part) cert.old cert.new
-text_then entries part cert c1 first more =
-    subst (λ a. Becomes a cert.old cert.new) (sym (append_assoc (header 2) (flat_map entry_text entries) part) ∙ ap (λ a. a ++ part) (text_is entries))
-    (Becomes-more (header 2) (flat_map entry_text entries ++ part) cert.old c1 cert.new first more)
+text_then : (version : ℕ) (entries : List Entry) (part : List ℕ) (cert : Change) (c1 : Option (List ℕ)) → Becomes (header version) cert.old c1 → Appends (flat_map entry_text entries ++ part) c1 cert.new → Becomes (text_of version entries ++ part) cert.old cert.new
+text_then version entries part cert c1 first more =
+    subst (λ a. Becomes a cert.old cert.new) (sym (append_assoc (header version) (flat_map entry_text entries) part) ∙ ap (λ a. a ++ part) (text_is version entries))
+    (Becomes-more (header version) (flat_map entry_text entries ++ part) cert.old c1 cert.new first more)
 
 -- the whole text after the first line
-pub text_from : (entries : List Entry) (cert : Change) (c1 : Option (List ℕ)) → Becomes (header 2) cert.old c1 → Appends (flat_map entry_text entries) c1 cert.new → Becomes (text_of 2 entries) cert.old cert.new
-text_from entries cert c1 first more = subst (λ a. Becomes a cert.old cert.new) (text_is entries) (Becomes-more (header 2) (flat_map entry_text entries) cert.old c1 cert.new first more)
+pub text_from : (version : ℕ) (entries : List Entry) (cert : Change) (c1 : Option (List ℕ)) → Becomes (header version) cert.old c1 → Appends (flat_map entry_text entries) c1 cert.new → Becomes (text_of version entries) cert.old cert.new
+text_from version entries cert c1 first more = subst (λ a. Becomes a cert.old cert.new) (text_is version entries) (Becomes-more (header version) (flat_map entry_text entries) cert.old c1 cert.new first more)
 
-pub whole_from : (budget : ℕ) (b : List ℕ) (refused : Bool) (s : Dialogue) (cert out : Change) (c1 : Option (List ℕ)) → Becomes (header 2) cert.old c1 → IsAnswered budget b refused s (between c1 cert.new) out → IsWhole budget None b cert out
-whole_from budget b refused s cert out c1 first h = record {
+pub whole_from : (task : Task) (b : List ℕ) (refused : Bool) (s : Dialogue) (cert out : Change) (c1 : Option (List ℕ)) → Becomes (header (written_version task.bits)) cert.old c1 → IsAnswered task b refused s (between c1 cert.new) out → IsWhole task None b cert out
+whole_from task b refused s cert out c1 first h = record {
   entries = h.entries;
   each = h.each;
   all = h.all;
-  certificate = text_from h.entries cert c1 first h.certificate;
+  certificate = text_from (written_version task.bits) h.entries cert c1 first h.certificate;
   answered = subst (λ a. Appends a out.old out.new) (sym (run_plain (reads b) h.entries)) h.answered;
 }
 
@@ -75,29 +77,29 @@ longer_prefix a tail x y h =
     front_is_prefix (a ++ tail) x y (take front.size a) (drop front.size a ++ tail)
     (ap (λ b. b ++ tail) (sym (take-append-drop front.size a)) ∙ append_assoc (take front.size a) (drop front.size a) tail) front.appended
 
-pub stopped_from : (budget : ℕ) (make : Option ℕ) (b : List ℕ) (cert out : Change) (c1 : Option (List ℕ)) → Becomes (header 2) cert.old c1 → IsCut budget b (between c1 cert.new) out → IsStopped budget make b cert out
-stopped_from budget make b cert out c1 first h = inr (record {
+pub stopped_from : (task : Task) (make : Option ℕ) (b : List ℕ) (cert out : Change) (c1 : Option (List ℕ)) → Becomes (header (written_version task.bits)) cert.old c1 → IsCut task b (between c1 cert.new) out → IsStopped task make b cert out
+stopped_from task make b cert out c1 first h = inr (record {
   entries = h.entries;
   each = h.each;
-  text = text_of 2 h.entries ++ h.part;
+  text = text_of (written_version task.bits) h.entries ++ h.part;
   part = inr (h.part, refl, h.rest);
-  certificate = text_then h.entries h.part cert c1 first h.certificate;
+  certificate = text_then (written_version task.bits) h.entries h.part cert c1 first h.certificate;
   answered = longer_prefix (script_answers (reads b) h.entries) (cond (has_all_entries (reads b).steps h.entries) (made_answer make h.entries) []) out.old out.new h.answered;
 })
 
 -- a certificate with its first line alone, or a front of it
-pub stopped_early : (budget : ℕ) (make : Option ℕ) (b : List ℕ) (n : ℕ) (cert : Change) (oo : Option (List ℕ)) → Becomes (take n (header 2)) cert.old cert.new → IsStopped budget make b cert (between oo oo)
-stopped_early budget make b n cert oo h = inr (record {
+pub stopped_early : (task : Task) (make : Option ℕ) (b : List ℕ) (n : ℕ) (cert : Change) (oo : Option (List ℕ)) → Becomes (take n (header (written_version task.bits))) cert.old cert.new → IsStopped task make b cert (between oo oo)
+stopped_early task make b n cert oo h = inr (record {
   entries = [];
   each = tt;
-  text = take n (header 2);
+  text = take n (header (written_version task.bits));
   part = inl (refl, (n, refl));
   certificate = h;
   answered = AppendsPrefix-none (run_answers make (reads b) []) oo;
 })
 
-pub paused_from : (budget : ℕ) (text : List ℕ) (cert out : Change) (c1 : Option (List ℕ)) → Becomes (header 2) cert.old c1 → IsPausedAt budget text (between c1 cert.new) out → IsPaused budget text cert out
-paused_from budget text cert out c1 first h = record {
+pub paused_from : (task : Task) (text : List ℕ) (cert out : Change) (c1 : Option (List ℕ)) → Becomes (header (written_version task.bits)) cert.old c1 → IsPausedAt task text (between c1 cert.new) out → IsPaused task text cert out
+paused_from task text cert out c1 first h = record {
   steps = h.steps;
   state = h.state;
   run = h.run;
@@ -105,18 +107,18 @@ paused_from budget text cert out c1 first h = record {
   entries = h.entries;
   each = h.each;
   all = h.all;
-  certificate = text_from h.entries cert c1 first h.certificate;
+  certificate = text_from (written_version task.bits) h.entries cert c1 first h.certificate;
   answered = h.answered;
 }
 
-pub soon_from : (text : List ℕ) (cert out : Change) (c1 : Option (List ℕ)) → Becomes (header 2) cert.old c1 → AnswersSoonAt text (between c1 cert.new) out → AnswersSoon text cert out
-soon_from text cert out c1 first h = λ n far.
+pub soon_from : (bits : Bool) (text : List ℕ) (cert out : Change) (c1 : Option (List ℕ)) → Becomes (header (written_version bits)) cert.old c1 → AnswersSoonAt text (between c1 cert.new) out → AnswersSoon bits text cert out
+soon_from bits text cert out c1 first h = λ n far.
     let a = h n far in
     record {
       entries = a.entries;
       all = a.all;
       more_entries = a.more_entries;
-      certificate = text_then a.entries a.more_entries cert c1 first a.certificate;
+      certificate = text_then (written_version bits) a.entries a.more_entries cert c1 first a.certificate;
       more_answers = a.more_answers;
       answered = a.answered;
     }
@@ -131,13 +133,23 @@ pub told_if : (o : Option (List ℕ)) (P Q : List ℕ → Type 0) → ((b : List
 told_if None P Q f h = tt
 told_if (Some b) P Q f h = f b h
 
--- the first line alone
-pub stopped_headed : (budget : ℕ) (make : Option ℕ) (b : List ℕ) (cert : Change) (oo : Option (List ℕ)) → Becomes (header 2) cert.old cert.new → IsStopped budget make b cert (between oo oo)
-stopped_headed budget make b cert oo h = stopped_early budget make b (length (header 2)) cert oo (subst (λ a. Becomes a cert.old cert.new) (sym (take_all (length (header 2)) (header 2) (omega arith))) h)
+-- where nothing was taken, nothing had to be answered
+pub taken_none : (left : Option (List ℕ)) (bits : Bool) (cert out : Change) → IfSome left (λ bytes. (text : List ℕ) × IsTaken text bytes left × EndsSoon text × AnswersSoon bits text cert out)
+taken_none None bits cert out = tt
+taken_none (Some bytes) bits cert out = (
+  [],
+  record { rest = bytes; split = refl; left = refl; few = omega arith },
+  record { after_exit = λ n has. omega arith; after_fault = λ n has. omega arith },
+  λ n far. absurd (omega arith),
+)
 
-pub stopped_creating : (budget : ℕ) (make : Option ℕ) (b : List ℕ) (cert : Change) (oo : Option (List ℕ)) (P Q : Type 0) → (((cert.new ≡ cert.old) × P) ⊎ (((n : ℕ) × Becomes (take n (header 2)) cert.old cert.new) × Q)) → IsStopped budget make b cert (between oo oo)
-stopped_creating budget make b cert oo P Q (inl same) = inl (same.0, refl)
-stopped_creating budget make b cert oo P Q (inr begun) = stopped_early budget make b begun.0.0 cert oo begun.0.1
+-- the first line alone
+pub stopped_headed : (task : Task) (make : Option ℕ) (b : List ℕ) (cert : Change) (oo : Option (List ℕ)) → Becomes (header (written_version task.bits)) cert.old cert.new → IsStopped task make b cert (between oo oo)
+stopped_headed task make b cert oo h = stopped_early task make b (length (header (written_version task.bits))) cert oo (subst (λ a. Becomes a cert.old cert.new) (sym (take_all (length (header (written_version task.bits))) (header (written_version task.bits)) (omega arith))) h)
+
+pub stopped_creating : (task : Task) (make : Option ℕ) (b : List ℕ) (cert : Change) (oo : Option (List ℕ)) (P Q : Type 0) → (((cert.new ≡ cert.old) × P) ⊎ (((n : ℕ) × Becomes (take n (header (written_version task.bits))) cert.old cert.new) × Q)) → IsStopped task make b cert (between oo oo)
+stopped_creating task make b cert oo P Q (inl same) = inl (same.0, refl)
+stopped_creating task make b cert oo P Q (inr begun) = stopped_early task make b begun.0.0 cert oo begun.0.1
 
 pub on_ok : {T E : Type 0} (r : Result T E) (P : T → Type 0) (Q : Type 0) → ((x : T) → P x → Q) → IfOk r P → OnOk r Q
 on_ok (Ok x) P Q f h = f x h
@@ -145,37 +157,42 @@ on_ok (Err e) P Q f h = tt
 
 -- What is written is accepted
 
-none_broken : (budget : ℕ) (checks : List TableCheck) (entries : List Entry) (number line : ℕ) → AreEntries budget checks entries → first_broken limits (map node_check checks) (numbered_from number line entries) ≡ None
+-- the version that is written is one that is read
+written_is_read : (bits : Bool) → IsVersion bits (written_version bits)
+written_is_read true = inr (inr (refl, refl))
+written_is_read false = inr (inl refl)
+
+none_broken : (task : Task) (checks : List TableCheck) (entries : List Entry) (number line : ℕ) → AreEntries task checks entries → first_broken limits (map node_check checks) (numbered_from number line entries) ≡ None
 unfolding first_broken
-none_broken budget checks [] number line each = refl
-none_broken budget [] (e ∷ es) number line each = absurd each
-none_broken budget (c ∷ cs) (e ∷ es) number line each =
+none_broken task checks [] number line each = refl
+none_broken task [] (e ∷ es) number line each = absurd each
+none_broken task (c ∷ cs) (e ∷ es) number line each =
     ap (λ (o : Option Broken). elim o as (λ _. Option Judgement) [ Some broken ↦ Some (Refused number broken.line (Rule broken.rule)) | None ↦ first_broken limits (map node_check cs) (numbered_from (number + 1) (line + line_count e) es) ]) (each.0.right line)
-    ∙ none_broken budget cs es (number + 1) (line + line_count e) each.1
+    ∙ none_broken task cs es (number + 1) (line + line_count e) each.1
 
-all_readable : (budget : ℕ) (checks : List TableCheck) (entries : List Entry) → AreEntries budget checks entries → AllByRecursion (IsReadable 2) entries
-all_readable budget checks [] each = tt
-all_readable budget [] (e ∷ es) each = absurd each
-all_readable budget (c ∷ cs) (e ∷ es) each = (each.0.readable, all_readable budget cs es each.1)
+all_readable : (task : Task) (checks : List TableCheck) (entries : List Entry) → AreEntries task checks entries → AllByRecursion (IsReadable (written_version task.bits)) entries
+all_readable task checks [] each = tt
+all_readable task [] (e ∷ es) each = absurd each
+all_readable task (c ∷ cs) (e ∷ es) each = (each.0.readable, all_readable task cs es each.1)
 
-pub whole_accepted : (budget : ℕ) (b : List ℕ) (entries : List Entry) → AreEntries budget (table_checks (reads b).steps) entries → length entries ≡ length (table_checks (reads b).steps) → (reads b).end ≡ scripts.Done → Accepts b (text_of 2 entries)
+pub whole_accepted : (task : Task) (b : List ℕ) (entries : List Entry) → AreEntries task (table_checks (reads b).steps) entries → length entries ≡ length (table_checks (reads b).steps) → (reads b).end ≡ scripts.Done → Accepts task.bits b (text_of (written_version task.bits) entries)
 unfolding judgement_of
-whole_accepted budget b entries each all done =
+whole_accepted task b entries each all done =
     let checks = table_checks (reads b).steps in
     let count : length (map node_check checks) ≡ length entries = length-map checks node_check ∙ sym all in
-    let back = reads_back 2 entries (inr refl) (all_readable budget checks entries each) in
-    let reading = ap (λ n. reading_of n (text_of 2 entries)) count ∙ back in
+    let back = reads_back task.bits (written_version task.bits) entries (written_is_read task.bits) (all_readable task checks entries each) in
+    let reading = ap (λ n. reading_of task.bits n (text_of (written_version task.bits) entries)) count ∙ back in
     record {
       done = done;
       counts = counts_of (numbered_from 1 2 entries);
       accepted = ap (judgement_of limits (map node_check checks)) reading
-          ∙ ap (λ (o : Option Judgement). elim o as (λ _. Judgement) [ Some refused ↦ refused | None ↦ Accepted (counts_of (numbered_from 1 2 entries)) ]) (none_broken budget checks entries 1 2 each);
+          ∙ ap (λ (o : Option Judgement). elim o as (λ _. Judgement) [ Some refused ↦ refused | None ↦ Accepted (counts_of (numbered_from 1 2 entries)) ]) (none_broken task checks entries 1 2 each);
     }
 
-pub accepted_from : (budget : ℕ) (make : Option ℕ) (b : List ℕ) (cert out : Change) → IsWhole budget make b cert out → is_fault (reads b).end ≡ false → (held : List ℕ) → cert.old ≡ Some held → IsAccepted b cert.new
-accepted_from budget make b cert out h sound held told =
-    let now : cert.new ≡ Some (text_of 2 h.entries) = (let P : Option (List ℕ) → Type 0 = λ o. Becomes (text_of 2 h.entries) o cert.new in subst P told h.certificate) in
-    subst (IsAccepted b) (sym now) (whole_accepted budget b h.entries h.each h.all (no_fault (reads b).end sound))
+pub accepted_from : (task : Task) (make : Option ℕ) (b : List ℕ) (cert out : Change) → IsWhole task make b cert out → is_fault (reads b).end ≡ false → (held : List ℕ) → cert.old ≡ Some held → IsAccepted task.bits b cert.new
+accepted_from task make b cert out h sound held told =
+    let now : cert.new ≡ Some (text_of (written_version task.bits) h.entries) = (let P : Option (List ℕ) → Type 0 = λ o. Becomes (text_of (written_version task.bits) h.entries) o cert.new in subst P told h.certificate) in
+    subst (IsAccepted task.bits b) (sym now) (whole_accepted task b h.entries h.each h.all (no_fault (reads b).end sound))
   where
     no_fault : (e : End) → is_fault e ≡ false → e ≡ scripts.Done
     no_fault scripts.Done s = refl
@@ -188,16 +205,16 @@ rose_later a b c le (inr last) = inr last
 
 -- Statuses
 
-pub left_by : (r : Result Bool Stop) (budget : ℕ) (make : Option ℕ) (lo : Option (List ℕ)) (cert out : Change) → OnOk r (IfSome lo (λ b. IsWhole budget make b cert out)) → IfOk r (λ refused. IfSome lo (λ b. refused ≡ is_fault (reads b).end))
-    → OnErr r (IfSome lo (λ b. IsStopped budget make b cert out)) → IfSome lo (λ b. IsLeft (status_of r) budget make b cert out)
-left_by (Ok true) budget make None cert out whole ended stopped = tt
-left_by (Ok true) budget make (Some b) cert out whole ended stopped = (whole, sym ended)
-left_by (Ok false) budget make None cert out whole ended stopped = tt
-left_by (Ok false) budget make (Some b) cert out whole ended stopped = (whole, sym ended)
-left_by (Err stops.ReadFault) budget make lo cert out whole ended stopped = stopped
-left_by (Err stops.WriteFault) budget make lo cert out whole ended stopped = stopped
-left_by (Err stops.CertFault) budget make lo cert out whole ended stopped = stopped
-left_by (Err stops.Memory) budget make lo cert out whole ended stopped = stopped
+pub left_by : (r : Result Bool Stop) (task : Task) (make : Option ℕ) (lo : Option (List ℕ)) (cert out : Change) → OnOk r (IfSome lo (λ b. IsWhole task make b cert out)) → IfOk r (λ refused. IfSome lo (λ b. refused ≡ is_fault (reads b).end))
+    → OnErr r (IfSome lo (λ b. IsStopped task make b cert out)) → IfSome lo (λ b. IsLeft (status_of r) task make b cert out)
+left_by (Ok true) task make None cert out whole ended stopped = tt
+left_by (Ok true) task make (Some b) cert out whole ended stopped = (whole, sym ended)
+left_by (Ok false) task make None cert out whole ended stopped = tt
+left_by (Ok false) task make (Some b) cert out whole ended stopped = (whole, sym ended)
+left_by (Err stops.ReadFault) task make lo cert out whole ended stopped = stopped
+left_by (Err stops.WriteFault) task make lo cert out whole ended stopped = stopped
+left_by (Err stops.CertFault) task make lo cert out whole ended stopped = stopped
+left_by (Err stops.Memory) task make lo cert out whole ended stopped = stopped
 
 pub named_by : (r : Result Bool Stop) (given : List ℕ) (cert out name : Change) → OnOk r (Becomes given name.old name.new) → OnErr r (IsUntouchedOrNamed given cert out name) → IsNamed (status_of r) given cert out name
 named_by (Ok true) given cert out name named begun = named
@@ -207,28 +224,28 @@ named_by (Err stops.WriteFault) given cert out name named begun = begun
 named_by (Err stops.CertFault) given cert out name named begun = begun
 named_by (Err stops.Memory) given cert out name named begun = begun
 
-pub accepted_by : (r : Result Bool Stop) (budget : ℕ) (make : Option ℕ) (lo : Option (List ℕ)) (cert out : Change) → OnOk r (IfSome lo (λ b. IsWhole budget make b cert out)) → IfOk r (λ refused. IfSome lo (λ b. refused ≡ is_fault (reads b).end))
-    → status_of r ≡ status.Done → IfSome lo (λ b. (held : List ℕ) → cert.old ≡ Some held → IsAccepted b cert.new)
-accepted_by (Ok false) budget make None cert out whole ended done = tt
-accepted_by (Ok false) budget make (Some b) cert out whole ended done = accepted_from budget make b cert out whole (sym ended)
-accepted_by (Ok true) budget make lo cert out whole ended done = cc
-accepted_by (Err stops.ReadFault) budget make lo cert out whole ended done = cc
-accepted_by (Err stops.WriteFault) budget make lo cert out whole ended done = cc
-accepted_by (Err stops.CertFault) budget make lo cert out whole ended done = cc
-accepted_by (Err stops.Memory) budget make lo cert out whole ended done = cc
+pub accepted_by : (r : Result Bool Stop) (task : Task) (make : Option ℕ) (lo : Option (List ℕ)) (cert out : Change) → OnOk r (IfSome lo (λ b. IsWhole task make b cert out)) → IfOk r (λ refused. IfSome lo (λ b. refused ≡ is_fault (reads b).end))
+    → status_of r ≡ status.Done → IfSome lo (λ b. (held : List ℕ) → cert.old ≡ Some held → IsAccepted task.bits b cert.new)
+accepted_by (Ok false) task make None cert out whole ended done = tt
+accepted_by (Ok false) task make (Some b) cert out whole ended done = accepted_from task make b cert out whole (sym ended)
+accepted_by (Ok true) task make lo cert out whole ended done = cc
+accepted_by (Err stops.ReadFault) task make lo cert out whole ended done = cc
+accepted_by (Err stops.WriteFault) task make lo cert out whole ended done = cc
+accepted_by (Err stops.CertFault) task make lo cert out whole ended done = cc
+accepted_by (Err stops.Memory) task make lo cert out whole ended done = cc
 
 pub planned : (words : List Text) (plan : Plan) (make : Option ℕ) (r : Result Bool Stop) (left : Option (List ℕ)) (cert out name : Change) (s : SolveStatus) → HasPlan words plan → plan.make ≡ make → s ≡ status_of r
-    → OnOk r (IfSome (script_given make left) (λ b. IsWhole plan.steps make b cert out)) → IfOk r (λ refused. IfSome (script_given make left) (λ b. refused ≡ is_fault (reads b).end))
-    → OnErr r (IfSome (script_given make left) (λ b. IsStopped plan.steps make b cert out)) → OnOk r (Becomes plan.cert_name name.old name.new)
+    → OnOk r (IfSome (script_given make left) (λ b. IsWhole (task_of plan) make b cert out)) → IfOk r (λ refused. IfSome (script_given make left) (λ b. refused ≡ is_fault (reads b).end))
+    → OnErr r (IfSome (script_given make left) (λ b. IsStopped (task_of plan) make b cert out)) → OnOk r (Becomes plan.cert_name name.old name.new)
     → OnErr r (IsUntouchedOrNamed plan.cert_name cert out name) → Leaves words s left cert out name
 planned words plan make r left cert out name s has made is whole ended stopped named begun = inr (record {
   plan = plan;
   has = has;
-  leaves = subst (λ t. IfSome (script_given plan.make left) (λ b. IsLeft t plan.steps plan.make b cert out)) (sym is)
-      (subst (λ m. IfSome (script_given m left) (λ b. IsLeft (status_of r) plan.steps m b cert out)) (sym made) (left_by r plan.steps make (script_given make left) cert out whole ended stopped));
+  leaves = subst (λ t. IfSome (script_given plan.make left) (λ b. IsLeft t (task_of plan) plan.make b cert out)) (sym is)
+      (subst (λ m. IfSome (script_given m left) (λ b. IsLeft (status_of r) (task_of plan) m b cert out)) (sym made) (left_by r (task_of plan) make (script_given make left) cert out whole ended stopped));
   named = subst (λ t. IsNamed t plan.cert_name cert out name) (sym is) (named_by r plan.cert_name cert out name named begun);
-  accepted = λ done. subst (λ m. IfSome (script_given m left) (λ b. (held : List ℕ) → cert.old ≡ Some held → IsAccepted b cert.new)) (sym made)
-      (accepted_by r plan.steps make (script_given make left) cert out whole ended (sym is ∙ done));
+  accepted = λ done. subst (λ m. IfSome (script_given m left) (λ b. (held : List ℕ) → cert.old ≡ Some held → IsAccepted plan.bits b cert.new)) (sym made)
+      (accepted_by r (task_of plan) make (script_given make left) cert out whole ended (sym is ∙ done));
 })
 
 -- a certificate whose creation failed was not touched, or has its name
@@ -239,6 +256,11 @@ begun_creating given told cert name oo P is (inr begun) = inr (subst (λ n. Beco
 -- what was created has its name for as long as writes go there
 pub begun_named : (given told : List ℕ) (cert out : Change) (n0 n1 n2 : Option (List ℕ)) → told ≡ given → Becomes told n0 n1 → n2 ≡ n1 → IsUntouchedOrNamed given cert out (between n0 n2)
 begun_named given told cert out n0 n1 n2 is named same = inr (subst (λ n. Becomes n n0 n2) is (subst (Becomes told n0) (sym same) named))
+
+-- the name that was given stays
+pub named_still : {T E : Type 0} (r : Result T E) (given told : List ℕ) (n0 n1 n2 : Option (List ℕ)) → told ≡ given → Becomes told n0 n1 → n2 ≡ n1 → OnOk r (Becomes given n0 n2)
+named_still (Ok x) given told n0 n1 n2 is named same = subst (λ n. Becomes n n0 n2) is (subst (Becomes told n0) (sym same) named)
+named_still (Err e) given told n0 n1 n2 is named same = tt
 
 -- Ends
 

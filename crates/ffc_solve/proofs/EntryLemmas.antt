@@ -17,6 +17,7 @@ use Rattle.ffc_check.specs.Judged as judged
 use Rattle.ffc_trials.specs.declared.stop.DecideStop.{DecideStop}
 use Rattle.ffc_trials.specs.declared.stop.DecideStop.TheVariants as stops
 use Rattle.ffc_trials.specs.Stops.{cause_of, IsCaused}
+use Rattle.ffc_solve.specs.declared.arguments.Task.{Task}
 use Rattle.ffc_solve.specs.Solving.{IsRight}
 use Rattle.ffc_solve.proofs.RememberLemmas.{cause_for}
 
@@ -56,14 +57,14 @@ unfolding entry_fault_within
 unknown_ok c cause line = refl
 
 -- a check that is left undecided
-pub undecided_right : (budget : ℕ) (a : NodeCheck) (c : TableCheck) (stop : DecideStop) (cause : Cause) → cause ≡ cause_of stop → a ≡ node_check c → IsCause cause → IsCaused budget a stop → IsCauseBeyond budget a (cause_of stop) → IsRight budget c (Unknown cause)
-undecided_right budget a c stop cause e same is caused beyond =
+pub undecided_right : (task : Task) (a : NodeCheck) (c : TableCheck) (stop : DecideStop) (cause : Cause) → cause ≡ cause_of stop → a ≡ node_check c → IsCause cause → IsCaused task.steps a stop → IsCauseBeyond task.steps a (cause_of stop) → IsRight task c (Unknown cause)
+undecided_right task a c stop cause e same is caused beyond =
     record {
       readable = record { well_formed = is; short = cause-short cause is };
       right = unknown_ok (node_check c) cause;
-      caused = subst (λ n. is_cause_within limits n budget cause ≡ true) same (subst (λ k. is_cause_within limits a budget k ≡ true) (sym e) caused);
+      caused = subst (λ n. is_cause_within limits n task.steps cause ≡ true) same (subst (λ k. is_cause_within limits a task.steps k ≡ true) (sym e) caused);
       allowed = tt;
-      beyond = subst (λ n. IsCauseBeyond budget n cause) same (subst (IsCauseBeyond budget a) (sym e) beyond);
+      beyond = subst (λ n. IsCauseBeyond task.steps n cause) same (subst (IsCauseBeyond task.steps a) (sym e) beyond);
     }
 
 -- what is spent within a budget of 64 bits has counts of 64 bits

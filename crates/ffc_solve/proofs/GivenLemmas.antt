@@ -22,7 +22,7 @@ use Rattle.clap.specs.declared.parser.matches.ArgMatches.{ArgMatches}
 use Rattle.clap.specs.declared.parser.matches.MatchedArg.{MatchedArg}
 use Rattle.clap.proofs.CallerLemmas.{entry_by_id}
 use Rattle.clap.proofs.SimpleLemmas.{plain_fields, simple_groups}
-use Rattle.ffc_solve.specs.Arguments.{cert_rule, make_rule, solve_app, steps_rule}
+use Rattle.ffc_solve.specs.Arguments.{bits_rule, cert_rule, make_rule, solve_app, steps_rule}
 
 -- each of the arguments that has this id has this parser
 abbrev HasParser : List Arg → Text → ValueParser → Type 0
@@ -101,22 +101,24 @@ module _ (c : Command) (m : ArgMatches) (p : IsParsedFrom c m) (id : Text) (q : 
 -- The arguments of the solver
 
 abbrev solve_rules : List Rule
-solve_rules = cert_rule ∷ steps_rule ∷ make_rule ∷ []
+solve_rules = cert_rule ∷ steps_rule ∷ make_rule ∷ bits_rule ∷ []
 
 abbrev RulesParse : Text → ValueParser → Type 0
-RulesParse id q = (j : ℕ) (r : Rule) → j < 3 → (slice_index_or solve_rules j r).id ≡ id → ((slice_index_or solve_rules j r).parser ≡ Some q) × ((slice_index_or solve_rules j r).ignore_case ≡ false)
+RulesParse id q = (j : ℕ) (r : Rule) → j < 4 → (slice_index_or solve_rules j r).id ≡ id → ((slice_index_or solve_rules j r).parser ≡ Some q) × ((slice_index_or solve_rules j r).ignore_case ≡ false)
 
 steps_parse : RulesParse (codes "steps") (Unsigned 1 1000000000000)
 steps_parse zero r lt key = absurd (let bad : 99 ≡ 115 = ap (λ t. slice_index t 0) key in omega arith)
 steps_parse (suc zero) r lt key = (refl, refl)
 steps_parse (suc (suc zero)) r lt key = absurd (let bad : 109 ≡ 115 = ap (λ t. slice_index t 0) key in omega arith)
-steps_parse (suc (suc (suc j))) r lt key = absurd (omega arith)
+steps_parse (suc (suc (suc zero))) r lt key = absurd (let bad : 98 ≡ 115 = ap (λ t. slice_index t 0) key in omega arith)
+steps_parse (suc (suc (suc (suc j)))) r lt key = absurd (omega arith)
 
 make_parses : RulesParse (codes "make") (Unsigned 1 10000)
 make_parses zero r lt key = absurd (let bad : 99 ≡ 109 = ap (λ t. slice_index t 0) key in omega arith)
 make_parses (suc zero) r lt key = absurd (let bad : 115 ≡ 109 = ap (λ t. slice_index t 0) key in omega arith)
 make_parses (suc (suc zero)) r lt key = (refl, refl)
-make_parses (suc (suc (suc j))) r lt key = absurd (omega arith)
+make_parses (suc (suc (suc zero))) r lt key = absurd (let bad : 98 ≡ 109 = ap (λ t. slice_index t 0) key in omega arith)
+make_parses (suc (suc (suc (suc j)))) r lt key = absurd (omega arith)
 
 module _ (c : Command) (m : ArgMatches) (is : app_of c ≡ solve_app) (p : IsParsedFrom c m) where
   has_parser : (id : Text) (q : ValueParser) → RulesParse id q → HasParser (args_of c) id q
@@ -124,7 +126,7 @@ module _ (c : Command) (m : ArgMatches) (is : app_of c ≡ solve_app) (p : IsPar
       let rules : map rule_of (args_of c) ≡ solve_rules = ap (λ (a : App). a.top.rules) is in
       let a = slice_index_or (args_of c) j d in
       let r = slice_index_or solve_rules j (rule_of d) in
-      let three : length (args_of c) ≡ 3 = sym (length-map (args_of c) rule_of) ∙ ap (λ (rs : List Rule). length rs) rules in
+      let four : length (args_of c) ≡ 4 = sym (length-map (args_of c) rule_of) ∙ ap (λ (rs : List Rule). length rs) rules in
       let at : rule_of a ≡ r = sym (get_or-map rule_of (args_of c) j d (rule_of d) lt) ∙ ap (λ (rs : List Rule). slice_index_or rs j (rule_of d)) rules in
       let one = parse j (rule_of d) (omega arith) (ap (λ (x : Rule). x.id) (sym at) ∙ key) in
       (ap (λ (x : Rule). x.parser) at ∙ one.0, ap (λ (x : Rule). x.ignore_case) at ∙ one.1)

@@ -3,13 +3,14 @@ use Rattle.std.proofs.Common.{◌≡◌, ℕ, zero, suc, ◌+◌, ◌≤◌, Lis
 use Rattle.std.proofs.Common.{Result, Ok, Err, OnErr}
 use Rattle.std.specs.List.{flat_map}
 use Rattle.std.proofs.lemmas.List.{take-append-le, take_all}
-use Rattle.ffc_base.specs.Outside.{Appends, AppendsPrefix, Becomes}
+use Rattle.ffc_base.specs.Outside.{Appends, AppendsPrefix, Becomes, Rose}
 use Rattle.ffc_cert.specs.declared.entries.Entry.{Entry}
 use Rattle.ffc_cert.specs.declared.entries.Entry.TheVariants.{Sat, UnsatCases, UnsatSteps, Unknown}
 use Rattle.ffc_cert.specs.Spelling.{entry_text}
 use Rattle.ffc_smt.specs.Scripts.{Step}
 use Rattle.ffc_smt.specs.TableChecks.{TableCheck, table_check_of, table_checks}
 use Rattle.ffc_answer.specs.Answers.{Last, answer_of, answers_from, checked, last_after, last_from, sat_count, unsat_count, unknown_count}
+use Rattle.ffc_solve.specs.declared.arguments.Task.{Task}
 use Rattle.ffc_solve.specs.Changes.{Change}
 use Rattle.ffc_solve.specs.Solving.{AreEntries, IsRight}
 use Rattle.std.specs.Result.{IfErr, IsErrOf}
@@ -67,17 +68,17 @@ checks-append (x ∷ xs) ys = by_check (table_check_of x) (checks-append xs ys)
     by_check None same = same
     by_check (Some c) same = ap (λ cs. c ∷ cs) same
 
-pub AreEntries-more : (budget : ℕ) (checks rest : List TableCheck) (entries : List Entry) → AreEntries budget checks entries → AreEntries budget (checks ++ rest) entries
-AreEntries-more budget checks rest [] each = tt
-AreEntries-more budget [] rest (e ∷ es) each = absurd each
-AreEntries-more budget (c ∷ cs) rest (e ∷ es) each = (each.0, AreEntries-more budget cs rest es each.1)
+pub AreEntries-more : (task : Task) (checks rest : List TableCheck) (entries : List Entry) → AreEntries task checks entries → AreEntries task (checks ++ rest) entries
+AreEntries-more task checks rest [] each = tt
+AreEntries-more task [] rest (e ∷ es) each = absurd each
+AreEntries-more task (c ∷ cs) rest (e ∷ es) each = (each.0, AreEntries-more task cs rest es each.1)
 
-pub AreEntries-push : (budget : ℕ) (checks : List TableCheck) (entries : List Entry) (check : TableCheck) (entry : Entry) → length entries ≡ length checks → AreEntries budget checks entries → IsRight budget check entry
-    → AreEntries budget (checks ++ check ∷ []) (entries ++ entry ∷ [])
-AreEntries-push budget [] [] check entry e each is = (is, tt)
-AreEntries-push budget [] (x ∷ entries) check entry e each is = absurd (omega arith)
-AreEntries-push budget (c ∷ checks) [] check entry e each is = absurd (omega arith)
-AreEntries-push budget (c ∷ checks) (x ∷ entries) check entry e each is = (each.0, AreEntries-push budget checks entries check entry (omega arith) each.1 is)
+pub AreEntries-push : (task : Task) (checks : List TableCheck) (entries : List Entry) (check : TableCheck) (entry : Entry) → length entries ≡ length checks → AreEntries task checks entries → IsRight task check entry
+    → AreEntries task (checks ++ check ∷ []) (entries ++ entry ∷ [])
+AreEntries-push task [] [] check entry e each is = (is, tt)
+AreEntries-push task [] (x ∷ entries) check entry e each is = absurd (omega arith)
+AreEntries-push task (c ∷ checks) [] check entry e each is = absurd (omega arith)
+AreEntries-push task (c ∷ checks) (x ∷ entries) check entry e each is = (each.0, AreEntries-push task checks entries check entry (omega arith) each.1 is)
 
 pub check_at_end : (checks rest : List TableCheck) (check : TableCheck) (k : ℕ) → k ≡ length checks → slice_get (checks ++ check ∷ rest) k ≡ Some check
 check_at_end [] rest check zero e = refl
@@ -245,6 +246,11 @@ pub not_by_cert : {T : Type 0} (r : Result T Stop) → IfErr r (λ s. (s ≡ sto
 not_by_cert (Ok x) only h = cc
 not_by_cert (Err e) (inl a) h = cc
 not_by_cert (Err e) (inr a) h = cc
+
+-- an object of which nothing fails has no further fault
+pub never_rose : Rose 0 0 → ⊥
+never_rose (inl less) = absurd (omega (arith, less))
+never_rose (inr last) = absurd (omega (arith, last))
 
 pub not_by_read : {T : Type 0} (r : Result T Stop) → IfErr r (λ s. (s ≡ stops.WriteFault) ⊎ (s ≡ stops.Memory)) → IsErrOf r stops.ReadFault → ⊥
 not_by_read (Ok x) only h = cc

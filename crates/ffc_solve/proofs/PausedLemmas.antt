@@ -4,9 +4,10 @@ use Rattle.std.proofs.lemmas.Bool.{false≢true}
 use Rattle.std.specs.Option.{IfSome}
 use Rattle.std.specs.Result.{IsErrOf}
 use Rattle.clap.specs.Words.{Text}
-use Rattle.ffc_solve.specs.Arguments.{HasPlan}
+use Rattle.ffc_solve.specs.Arguments.{HasPlan, task_of}
 use Rattle.ffc_solve.specs.Status.{status_of}
 use Rattle.ffc_solve.specs.declared.arguments.Plan.{Plan}
+use Rattle.ffc_solve.specs.declared.arguments.Task.{Task}
 use Rattle.ffc_solve.specs.declared.solve.SolveStatus.{SolveStatus}
 use Rattle.ffc_solve.specs.declared.solve.SolveStatus.TheVariants as status
 use Rattle.ffc_solve.specs.declared.stop.Stop.{Stop}
@@ -32,7 +33,7 @@ read_fault_is (Err stops.CertFault) is = absurd (false≢true (ap is_read_fault 
 read_fault_is (Err stops.Memory) is = absurd (false≢true (ap is_read_fault is))
 
 -- what holds of a text after which reading failed holds under the plan
-pub paused_under : (words : List Text) (plan : Plan) (r : Result Bool Stop) (s : SolveStatus) (left : Option (List ℕ)) (A : List ℕ → List ℕ → Type 0) (B : ℕ → List ℕ → Type 0) → HasPlan words plan → s ≡ status_of r
-    → (IsErrOf r stops.ReadFault → IfSome left (λ b. (text : List ℕ) × A text b × B plan.steps text)) → s ≡ status.ReadFault → IfSome left (λ b. (p : Plan) × HasPlan words p × (text : List ℕ) × A text b × B p.steps text)
+pub paused_under : (words : List Text) (plan : Plan) (r : Result Bool Stop) (s : SolveStatus) (left : Option (List ℕ)) (A : List ℕ → List ℕ → Type 0) (B : Task → List ℕ → Type 0) → HasPlan words plan → s ≡ status_of r
+    → (IsErrOf r stops.ReadFault → IfSome left (λ b. (text : List ℕ) × A text b × B (task_of plan) text)) → s ≡ status.ReadFault → IfSome left (λ b. (p : Plan) × HasPlan words p × (text : List ℕ) × A text b × B (task_of p) text)
 paused_under words plan r s left A B has is paused fault =
-    told_if left (λ b. (text : List ℕ) × A text b × B plan.steps text) (λ b. (p : Plan) × HasPlan words p × (text : List ℕ) × A text b × B p.steps text) (λ b h. (plan, has, h.0, h.1, h.2)) (paused (read_fault_is r (sym is ∙ fault)))
+    told_if left (λ b. (text : List ℕ) × A text b × B (task_of plan) text) (λ b. (p : Plan) × HasPlan words p × (text : List ℕ) × A text b × B (task_of p) text) (λ b h. (plan, has, h.0, h.1, h.2)) (paused (read_fault_is r (sym is ∙ fault)))

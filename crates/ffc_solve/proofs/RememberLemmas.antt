@@ -27,6 +27,7 @@ use Rattle.ffc_rules.specs.Judging.{node_check}
 use Rattle.ffc_answer.specs.Answers.{Last, after_effect, answer_of, checked, last_after, no_more_fresh, verdict}
 use Rattle.ffc_answer.specs.Seen.{HasBudget}
 use Rattle.ffc_answer.specs.Views.{IsEntryFor, IsRemembered, IsRememberedAt, IsUnchanged}
+use Rattle.ffc_solve.specs.declared.arguments.Task.{Task}
 use Rattle.ffc_solve.specs.Solving.{IsRight}
 
 -- Nodes stay
@@ -111,23 +112,23 @@ cause_for budget c (Steps t r a k) few is =
     omega arith
 
 -- an entry that is right lists the declared constants, and has a budget
-pub entry_for : (budget : ℕ) (check : TableCheck) (entry : Entry) → budget < 2 ^ 64 → KeepsCheck check → IsRight budget check entry → IsEntryFor check entry
-entry_for budget check (Sat pairs) few kept is = (entry_true limits (node_check check) (Sat pairs) 0 kept.valid (is.right 0)).0.names
-entry_for budget check UnsatCases few kept is = tt
-entry_for budget check (UnsatSteps lines) few kept is = tt
-entry_for budget check (Unknown cause) few kept is = cause_for budget (node_check check) cause few is.caused
+pub entry_for : (task : Task) (check : TableCheck) (entry : Entry) → task.steps < 2 ^ 64 → KeepsCheck check → IsRight task check entry → IsEntryFor check entry
+entry_for task check (Sat pairs) few kept is = (entry_true limits (node_check check) (Sat pairs) 0 kept.valid (is.right 0)).0.names
+entry_for task check UnsatCases few kept is = tt
+entry_for task check (UnsatSteps lines) few kept is = tt
+entry_for task check (Unknown cause) few kept is = cause_for task.steps (node_check check) cause few is.caused
 
 -- the check of a state with these assumptions, before a command
 abbrev pub check_under : State → Tree → Command → List Asked → TableCheck
 check_under s t c asked = record { check = check_at s asked; nodes = (after s t c).nodes; declared = declared_of s }
 
-at_check : (s : State) (t : Tree) (c : Command) (asked : List Asked) (entry : Entry) (budget : ℕ) → budget < 2 ^ 64 → effect_of c ≡ Keeps → IsSoundState (after s t c) → KeepsCheck (check_under s t c asked) → IsRight budget (check_under s t c asked) entry
+at_check : (s : State) (t : Tree) (c : Command) (asked : List Asked) (entry : Entry) (task : Task) → task.steps < 2 ^ 64 → effect_of c ≡ Keeps → IsSoundState (after s t c) → KeepsCheck (check_under s t c asked) → IsRight task (check_under s t c asked) entry
     → IsRemembered (checked c (check_under s t c asked) entry) (after s t c)
 unfolding after
-at_check s t c asked entry budget few keeps later kept right =
+at_check s t c asked entry task few keeps later kept right =
     let k = keeping_keeps c s keeps in
     record {
-      entry = entry_for budget (check_under s t c asked) entry few kept right;
+      entry = entry_for task (check_under s t c asked) entry few kept right;
       kept = kept;
       counted = later.nodes.counted ∙ ap length k.constants;
       grown = ([], sym (append-nil (after s t c).nodes));
@@ -138,15 +139,15 @@ some_same : {A : Type 0} (a b : A) → Some a ≡ Some b → a ≡ b
 some_same a b e = cc
 
 -- what is remembered of a check
-pub after_check : (s : State) (t : Tree) (c : Command) (check : TableCheck) (entry : Entry) (budget : ℕ) → budget < 2 ^ 64 → IsSoundState (after s t c) → table_check_of (record { before = s; tree = t; command = c }) ≡ Some check
-    → KeepsCheck check → IsRight budget check entry → IsRemembered (checked c check entry) (after s t c)
-after_check s t CheckSat check entry budget few later is kept right =
+pub after_check : (s : State) (t : Tree) (c : Command) (check : TableCheck) (entry : Entry) (task : Task) → task.steps < 2 ^ 64 → IsSoundState (after s t c) → table_check_of (record { before = s; tree = t; command = c }) ≡ Some check
+    → KeepsCheck check → IsRight task check entry → IsRemembered (checked c check entry) (after s t c)
+after_check s t CheckSat check entry task few later is kept right =
     let e : check_under s t CheckSat [] ≡ check = some_same (check_under s t CheckSat []) check is in
-    subst (λ k. KeepsCheck k → IsRight budget k entry → IsRemembered (checked CheckSat k entry) (after s t CheckSat)) e (at_check s t CheckSat [] entry budget few refl later) kept right
-after_check s t (CheckSatAssuming asked) check entry budget few later is kept right =
+    subst (λ k. KeepsCheck k → IsRight task k entry → IsRemembered (checked CheckSat k entry) (after s t CheckSat)) e (at_check s t CheckSat [] entry task few refl later) kept right
+after_check s t (CheckSatAssuming asked) check entry task few later is kept right =
     let e : check_under s t (CheckSatAssuming asked) asked ≡ check = some_same (check_under s t (CheckSatAssuming asked) asked) check is in
-    subst (λ k. KeepsCheck k → IsRight budget k entry → IsRemembered (checked (CheckSatAssuming asked) k entry) (after s t (CheckSatAssuming asked))) e (at_check s t (CheckSatAssuming asked) asked entry budget few refl later) kept right
-after_check s t _ check entry budget few later is kept right = absurd (none-some check is)
+    subst (λ k. KeepsCheck k → IsRight task k entry → IsRemembered (checked (CheckSatAssuming asked) k entry) (after s t (CheckSatAssuming asked))) e (at_check s t (CheckSatAssuming asked) asked entry task few refl later) kept right
+after_check s t _ check entry task few later is kept right = absurd (none-some check is)
 
 -- a check is answered by its verdict
 pub verdict_answered : (s : State) (t : Tree) (c : Command) (check : TableCheck) (entry : Entry) → table_check_of (record { before = s; tree = t; command = c }) ≡ Some check

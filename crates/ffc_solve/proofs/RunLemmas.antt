@@ -14,6 +14,7 @@ use Rattle.ffc_answer.specs.Views.{IsRememberedAt}
 use Rattle.ffc_script.specs.Answers.{HasRun, SaysOnly}
 use Rattle.ffc_script.specs.Kept.{AreFirst}
 use Rattle.ffc_script.specs.Progress.{Progress, known_at, steps_from, steps_of}
+use Rattle.ffc_solve.specs.declared.arguments.Task.{Task}
 use Rattle.ffc_solve.specs.declared.dialogue.Dialogue.{Dialogue}
 use Rattle.ffc_solve.specs.Changes.{Change, IsSilent}
 use Rattle.ffc_solve.specs.Solving.{AreEntries, EndsSoon, IsTaken}
@@ -98,7 +99,7 @@ going_fed s t cert out lo l1 ln h run fed =
       entries = h.entries;
       last = h.last;
       holds = record {
-        each = subst (λ n. AreEntries n (table_checks (steps_of t.reader)) h.entries) (sym fed.same.0) (subst (λ xs. AreEntries s.steps (table_checks xs) h.entries) (sym steps) h.holds.each);
+        each = subst (λ n. AreEntries n (table_checks (steps_of t.reader)) h.entries) (sym fed.same.0) (subst (λ xs. AreEntries s.task (table_checks xs) h.entries) (sym steps) h.holds.each);
         count = h.holds.count ∙ ap (λ xs. length (table_checks xs)) (sym steps);
         last = ap (λ xs. last_from None xs h.entries) steps ∙ h.holds.last;
         remembers = subst (λ r. Remembers r h.last) (sym fed.same.1) h.holds.remembers;
@@ -140,11 +141,11 @@ answers_whole : (script : Script) (xs : List Step) (end : End) (entries : List E
 answers_whole script xs end entries e count =
     ap (λ (r : Script). script_answers r entries) e ∙ ap (λ b. answers xs entries ++ cond b (end_answer end) []) (all_there xs entries count)
 
-pub answered_whole : (t : Dialogue) (b : List ℕ) (end : End) (entries : List Entry) (l : Option Last) (budget : ℕ) (cert : Change) (oo o1 on : Option (List ℕ)) → reads b ≡ record { steps = steps_of t.reader; end = end } → t.steps ≡ budget → Holds t.reader t entries l
-    → Appends (flat_map entry_text entries) cert.old cert.new → Appends (answers (steps_of t.reader) entries) oo o1 → Appends (end_answer end) o1 on → (u : Dialogue) → u.tally ≡ t.tally → IsAnswered budget b (is_fault end) u cert (between oo on)
-answered_whole t b end entries l budget cert oo o1 on says same holds put told last u tally = record {
+pub answered_whole : (t : Dialogue) (b : List ℕ) (end : End) (entries : List Entry) (l : Option Last) (task : Task) (cert : Change) (oo o1 on : Option (List ℕ)) → reads b ≡ record { steps = steps_of t.reader; end = end } → t.task ≡ task → Holds t.reader t entries l
+    → Appends (flat_map entry_text entries) cert.old cert.new → Appends (answers (steps_of t.reader) entries) oo o1 → Appends (end_answer end) o1 on → (u : Dialogue) → u.tally ≡ t.tally → IsAnswered task b (is_fault end) u cert (between oo on)
+answered_whole t b end entries l task cert oo o1 on says same holds put told last u tally = record {
   entries = entries;
-  each = subst (λ (r : Script). AreEntries budget (table_checks r.steps) entries) (sym says) (subst (λ n. AreEntries n (table_checks (steps_of t.reader)) entries) same holds.each);
+  each = subst (λ (r : Script). AreEntries task (table_checks r.steps) entries) (sym says) (subst (λ n. AreEntries n (table_checks (steps_of t.reader)) entries) same holds.each);
   all = holds.count ∙ ap (λ (r : Script). length (table_checks r.steps)) (sym says);
   certificate = put;
   answered = subst (λ a. Appends a oo on) (sym (answers_whole (reads b) (steps_of t.reader) end entries says holds.count)) (Appends-more (answers (steps_of t.reader) entries) (end_answer end) oo o1 on told last);
@@ -153,8 +154,8 @@ answered_whole t b end entries l budget cert oo o1 on says same holds put told l
 }
 
 -- the run stopped in a command
-pub cut_in : (s : Dialogue) (rest : List ℕ) (b : List ℕ) (budget : ℕ) (cert out : Change) (c1 o1 lo ln : Option (List ℕ)) → b ≡ s.reader.text ++ rest → s.steps ≡ budget → (h : IsGoing s (between cert.old c1) (between out.old o1) lo ln) → IsCutAt s h.entries rest (between c1 cert.new) (between o1 out.new) → IsCut budget b cert out
-cut_in s rest b budget cert out c1 o1 lo ln e same h k =
+pub cut_in : (s : Dialogue) (rest : List ℕ) (b : List ℕ) (task : Task) (cert out : Change) (c1 o1 lo ln : Option (List ℕ)) → b ≡ s.reader.text ++ rest → s.task ≡ task → (h : IsGoing s (between cert.old c1) (between out.old o1) lo ln) → IsCutAt s h.entries rest (between c1 cert.new) (between o1 out.new) → IsCut task b cert out
+cut_in s rest b task cert out c1 o1 lo ln e same h k =
     let R = reads (s.reader.text ++ rest) in
     let all = h.entries ++ k.later in
     let tail = cond (has_all_entries R.steps all) (end_answer R.end) [] in
@@ -163,7 +164,7 @@ cut_in s rest b budget cert out c1 o1 lo ln e same h k =
     ap (λ a. a ++ tail) (k.answers_are ∙ sym (append_assoc done k.text k.behind)) ∙ append_assoc (done ++ k.text) k.behind tail in
     let texts : flat_map entry_text h.entries ++ (flat_map entry_text k.later ++ k.part) ≡ flat_map entry_text all ++ k.part =
     sym (append_assoc (flat_map entry_text h.entries) (flat_map entry_text k.later) k.part) ∙ ap (λ a. a ++ k.part) (sym (texts-append h.entries k.later)) in
-    let cut : IsCut s.steps (s.reader.text ++ rest) cert out = record {
+    let cut : IsCut s.task (s.reader.text ++ rest) cert out = record {
       entries = all;
       each = k.each;
       part = k.part;
@@ -171,20 +172,20 @@ cut_in s rest b budget cert out c1 o1 lo ln e same h k =
       certificate = subst (λ a. Appends a cert.old cert.new) texts (Appends-more (flat_map entry_text h.entries) (flat_map entry_text k.later ++ k.part) cert.old c1 cert.new h.certificate k.certificate);
       answered = front_is_prefix (script_answers R all) out.old out.new (done ++ k.text) (k.behind ++ tail) parts (Appends-more done k.text out.old o1 out.new h.answered k.answered);
     } in
-    subst (λ n. IsCut n b cert out) same (subst (λ t. IsCut s.steps t cert out) (sym e) cut)
+    subst (λ n. IsCut n b cert out) same (subst (λ t. IsCut s.task t cert out) (sym e) cut)
 
 -- the same, where the script's contents are stated
-pub cut_told : (s : Dialogue) (budget : ℕ) (cert out : Change) (c1 o1 lo ln : Option (List ℕ)) → s.steps ≡ budget → (h : IsGoing s (between cert.old c1) (between out.old o1) lo ln) → ((more : List ℕ) → IsCutAt s h.entries more (between c1 cert.new) (between o1 out.new)) → IfSome lo (λ b. IsCut budget b cert out)
-cut_told s budget cert out c1 o1 lo ln same h k = by_told lo h.read
+pub cut_told : (s : Dialogue) (task : Task) (cert out : Change) (c1 o1 lo ln : Option (List ℕ)) → s.task ≡ task → (h : IsGoing s (between cert.old c1) (between out.old o1) lo ln) → ((more : List ℕ) → IsCutAt s h.entries more (between c1 cert.new) (between o1 out.new)) → IfSome lo (λ b. IsCut task b cert out)
+cut_told s task cert out c1 o1 lo ln same h k = by_told lo h.read
   where
-    by_told : (o : Option (List ℕ)) → HasRead o ln s.reader.text → IfSome o (λ b. IsCut budget b cert out)
+    by_told : (o : Option (List ℕ)) → HasRead o ln s.reader.text → IfSome o (λ b. IsCut task b cert out)
     by_told None r = tt
-    by_told (Some b) (rest, e, left) = cut_in s rest b budget cert out c1 o1 lo ln e same h (k rest)
+    by_told (Some b) (rest, e, left) = cut_in s rest b task cert out c1 o1 lo ln e same h (k rest)
 
 -- the end was answered in part
-pub cut_end : (s : Dialogue) (b : List ℕ) (end : End) (entries : List Entry) (l : Option Last) (budget : ℕ) (cert : Change) (oo o1 on : Option (List ℕ)) → reads b ≡ record { steps = steps_of s.reader; end = end } → s.steps ≡ budget → Holds s.reader s entries l
-    → Appends (flat_map entry_text entries) cert.old cert.new → Appends (answers (steps_of s.reader) entries) oo o1 → AppendsPrefix (end_answer end) o1 on → IsCut budget b cert (between oo on)
-cut_end s b end entries l budget cert oo o1 on says same holds put told last =
+pub cut_end : (s : Dialogue) (b : List ℕ) (end : End) (entries : List Entry) (l : Option Last) (task : Task) (cert : Change) (oo o1 on : Option (List ℕ)) → reads b ≡ record { steps = steps_of s.reader; end = end } → s.task ≡ task → Holds s.reader s entries l
+    → Appends (flat_map entry_text entries) cert.old cert.new → Appends (answers (steps_of s.reader) entries) oo o1 → AppendsPrefix (end_answer end) o1 on → IsCut task b cert (between oo on)
+cut_end s b end entries l task cert oo o1 on says same holds put told last =
     let front = front_of (end_answer end) o1 on last in
     let done = answers (steps_of s.reader) entries in
     let parts : script_answers (reads b) entries ≡ (done ++ take front.size (end_answer end)) ++ drop front.size (end_answer end) =
@@ -192,7 +193,7 @@ cut_end s b end entries l budget cert oo o1 on says same holds put told last =
     ∙ sym (append_assoc done (take front.size (end_answer end)) (drop front.size (end_answer end))) in
     record {
       entries = entries;
-      each = subst (λ (r : Script). AreEntries budget (table_checks r.steps) entries) (sym says) (subst (λ n. AreEntries n (table_checks (steps_of s.reader)) entries) same holds.each);
+      each = subst (λ (r : Script). AreEntries task (table_checks r.steps) entries) (sym says) (subst (λ n. AreEntries n (table_checks (steps_of s.reader)) entries) same holds.each);
       part = [];
       rest = inl refl;
       certificate = subst (λ a. Appends a cert.old cert.new) (sym (append-nil (flat_map entry_text entries))) put;
@@ -201,10 +202,10 @@ cut_end s b end entries l budget cert oo o1 on says same holds put told last =
     }
 
 -- reading failed
-pub paused_at : (s : Dialogue) (budget : ℕ) (cert out : Change) (lo ln : Option (List ℕ)) → s.steps ≡ budget → IsGoing s cert out lo ln → HasRun s.reader → IfSome lo (λ b. (text : List ℕ) × IsTaken text b ln × IsPausedAt budget text cert out)
-paused_at s budget cert out lo ln same h run = by_told lo h.read
+pub paused_at : (s : Dialogue) (task : Task) (cert out : Change) (lo ln : Option (List ℕ)) → s.task ≡ task → IsGoing s cert out lo ln → HasRun s.reader → IfSome lo (λ b. (text : List ℕ) × IsTaken text b ln × IsPausedAt task text cert out)
+paused_at s task cert out lo ln same h run = by_told lo h.read
   where
-    paused : IsPausedAt budget s.reader.text cert out
+    paused : IsPausedAt task s.reader.text cert out
     paused = record {
       steps = steps_of s.reader;
       state = (known_at s.reader).state;
@@ -217,7 +218,7 @@ paused_at s budget cert out lo ln same h run = by_told lo h.read
       answered = h.answered;
     }
 
-    by_told : (o : Option (List ℕ)) → HasRead o ln s.reader.text → IfSome o (λ b. (text : List ℕ) × IsTaken text b ln × IsPausedAt budget text cert out)
+    by_told : (o : Option (List ℕ)) → HasRead o ln s.reader.text → IfSome o (λ b. (text : List ℕ) × IsTaken text b ln × IsPausedAt task text cert out)
     by_told None r = tt
     by_told (Some b) (rest, e, left) = (s.reader.text, record { rest = rest; split = e; left = left; few = h.few }, paused)
 
@@ -250,38 +251,38 @@ told_if : (o : Option (List ℕ)) (P Q : List ℕ → Type 0) → ((b : List ℕ
 told_if None P Q f h = tt
 told_if (Some b) P Q f h = f b h
 
-pub ended_whole : (s t : Dialogue) (budget : ℕ) (cert out : Change) (c1 o1 lo ln : Option (List ℕ)) → s.steps ≡ budget → (h : IsGoing s (between cert.old c1) (between out.old o1) lo ln) → (told : IsTold s t h.entries (between c1 cert.new) (between o1 out.new)) → SaysOnly t.reader.text (steps_of t.reader) Done
-    → IfSome lo (λ b. IsAnswered budget b false t cert out)
-ended_whole s t budget cert out c1 o1 lo ln same h told says =
-    told_if lo _ _ (λ b e. answered_whole t b Done (h.entries ++ told.more) told.last budget cert out.old out.new out.new e (told.budget ∙ same) told.holds
+pub ended_whole : (s t : Dialogue) (task : Task) (cert out : Change) (c1 o1 lo ln : Option (List ℕ)) → s.task ≡ task → (h : IsGoing s (between cert.old c1) (between out.old o1) lo ln) → (told : IsTold s t h.entries (between c1 cert.new) (between o1 out.new)) → SaysOnly t.reader.text (steps_of t.reader) Done
+    → IfSome lo (λ b. IsAnswered task b false t cert out)
+ended_whole s t task cert out c1 o1 lo ln same h told says =
+    told_if lo _ _ (λ b e. answered_whole t b Done (h.entries ++ told.more) told.last task cert out.old out.new out.new e (told.task ∙ same) told.holds
     (certificate_then s t cert out c1 o1 lo ln h told) (answered_then s t cert out c1 o1 lo ln h told) (Appends-nil out.new) t refl)
     (says_only lo ln t.reader.text (steps_of t.reader) Done (subst (HasRead lo ln) (sym told.same_text) h.read) says)
 
 -- a fault in the script
-module _ (s : Dialogue) (budget : ℕ) (cert out : Change) (on lo ln : Option (List ℕ)) (same : s.steps ≡ budget) (h : IsGoing s cert out lo ln) (end : End) where
-  pub fault_whole : (u : Dialogue) → u.tally ≡ s.tally → SaysOnly s.reader.text (steps_of s.reader) end → Appends (end_answer end) out.new on → IfSome lo (λ b. IsAnswered budget b (is_fault end) u cert (between out.old on))
+module _ (s : Dialogue) (task : Task) (cert out : Change) (on lo ln : Option (List ℕ)) (same : s.task ≡ task) (h : IsGoing s cert out lo ln) (end : End) where
+  pub fault_whole : (u : Dialogue) → u.tally ≡ s.tally → SaysOnly s.reader.text (steps_of s.reader) end → Appends (end_answer end) out.new on → IfSome lo (λ b. IsAnswered task b (is_fault end) u cert (between out.old on))
   fault_whole u tally says last =
-      told_if lo _ _ (λ b e. answered_whole s b end h.entries h.last budget cert out.old out.new on e same h.holds h.certificate h.answered last u tally) (says_only lo ln s.reader.text (steps_of s.reader) end h.read says)
+      told_if lo _ _ (λ b e. answered_whole s b end h.entries h.last task cert out.old out.new on e same h.holds h.certificate h.answered last u tally) (says_only lo ln s.reader.text (steps_of s.reader) end h.read says)
 
-  pub fault_cut : SaysOnly s.reader.text (steps_of s.reader) end → AppendsPrefix (end_answer end) out.new on → IfSome lo (λ b. IsCut budget b cert (between out.old on))
+  pub fault_cut : SaysOnly s.reader.text (steps_of s.reader) end → AppendsPrefix (end_answer end) out.new on → IfSome lo (λ b. IsCut task b cert (between out.old on))
   fault_cut says last =
-      told_if lo _ _ (λ b e. cut_end s b end h.entries h.last budget cert out.old out.new on e same h.holds h.certificate h.answered last) (says_only lo ln s.reader.text (steps_of s.reader) end h.read says)
+      told_if lo _ _ (λ b e. cut_end s b end h.entries h.last task cert out.old out.new on e same h.holds h.certificate h.answered last) (says_only lo ln s.reader.text (steps_of s.reader) end h.read says)
 
-pub going_cut : (s : Dialogue) (budget : ℕ) (cert out : Change) (lo ln : Option (List ℕ)) → s.steps ≡ budget → IsGoing s cert out lo ln → AreFirst s.reader.text (steps_of s.reader) → IfSome lo (λ b. IsCut budget b cert out)
-going_cut s budget cert out lo ln same h first = cut_told s budget cert out cert.new out.new lo ln same h (λ more. cut_here s h.entries h.last more cert.new out.new h.holds first)
+pub going_cut : (s : Dialogue) (task : Task) (cert out : Change) (lo ln : Option (List ℕ)) → s.task ≡ task → IsGoing s cert out lo ln → AreFirst s.reader.text (steps_of s.reader) → IfSome lo (λ b. IsCut task b cert out)
+going_cut s task cert out lo ln same h first = cut_told s task cert out cert.new out.new lo ln same h (λ more. cut_here s h.entries h.last more cert.new out.new h.holds first)
 
 -- the end of the text
-module _ (s : Dialogue) (budget : ℕ) (cert out : Change) (on lo l1 ln : Option (List ℕ)) (cut : (t : List ℕ) → reads t ≡ reads (take 67108865 t)) (same : s.steps ≡ budget) (h : IsGoing s cert out lo l1) (at : IsEnd s (between l1 ln)) where
-  pub finished_whole : (u : Dialogue) (refused : Bool) → u.tally ≡ s.tally → IsFinished s.reader refused (between out.new on) → IfSome lo (λ b. IsAnswered budget b refused u cert (between out.old on))
+module _ (s : Dialogue) (task : Task) (cert out : Change) (on lo l1 ln : Option (List ℕ)) (cut : (t : List ℕ) → reads t ≡ reads (take 67108865 t)) (same : s.task ≡ task) (h : IsGoing s cert out lo l1) (at : IsEnd s (between l1 ln)) where
+  pub finished_whole : (u : Dialogue) (refused : Bool) → u.tally ≡ s.tally → IsFinished s.reader refused (between out.new on) → IfSome lo (λ b. IsAnswered task b refused u cert (between out.old on))
   finished_whole u refused tally f =
-      subst (λ r. IfSome lo (λ b. IsAnswered budget b r u cert (between out.old on))) (sym f.ended)
-      (told_if lo _ _ (λ b e. answered_whole s b f.end h.entries h.last budget cert out.old out.new on e same h.holds h.certificate h.answered f.answered u tally)
+      subst (λ r. IfSome lo (λ b. IsAnswered task b r u cert (between out.old on))) (sym f.ended)
+      (told_if lo _ _ (λ b e. answered_whole s b f.end h.entries h.last task cert out.old out.new on e same h.holds h.certificate h.answered f.answered u tally)
       (says_all lo l1 ln s (steps_of s.reader) f.end cut h.read at f.says))
 
-  pub finished_cut : AreFirst s.reader.text (steps_of s.reader) → IsUnfinished s.reader (between out.new on) → IfSome lo (λ b. IsCut budget b cert (between out.old on))
-  finished_cut first (inl none) = subst (λ o. IfSome lo (λ b. IsCut budget b cert (between out.old o))) (sym none) (going_cut s budget cert out lo l1 same h first)
+  pub finished_cut : AreFirst s.reader.text (steps_of s.reader) → IsUnfinished s.reader (between out.new on) → IfSome lo (λ b. IsCut task b cert (between out.old on))
+  finished_cut first (inl none) = subst (λ o. IfSome lo (λ b. IsCut task b cert (between out.old o))) (sym none) (going_cut s task cert out lo l1 same h first)
   finished_cut first (inr (end, says, last)) =
-      told_if lo _ _ (λ b e. cut_end s b end h.entries h.last budget cert out.old out.new on e same h.holds h.certificate h.answered last) (says_all lo l1 ln s (steps_of s.reader) end cut h.read at says)
+      told_if lo _ _ (λ b e. cut_end s b end h.entries h.last task cert out.old out.new on e same h.holds h.certificate h.answered last) (says_all lo l1 ln s (steps_of s.reader) end cut h.read at says)
 
 -- While the next command is not whole
 

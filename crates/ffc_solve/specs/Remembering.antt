@@ -87,7 +87,7 @@ pub record HasRoom (t : Tally) : Type 0 where
 
 -- A dialogue has these entries and remembers this of the last check, where its script was read so far.
 pub record Holds (p : Progress) (s : Dialogue) (entries : List Entry) (l : Option Last) : Type 0 where
-  pub each : AreEntries s.steps (table_checks (steps_of p)) entries
+  pub each : AreEntries s.task (table_checks (steps_of p)) entries
   pub count : length entries ≡ length (table_checks (steps_of p))
   pub last : last_from None (steps_of p) entries ≡ l
   pub remembers : Remembers s.last l
@@ -109,7 +109,7 @@ pub record RemembersEntry (s : Dialogue) (entry : Entry) (asked : Option (Vec As
 -- a check got this entry
 pub record IsChecked (old new : Dialogue) (asked : Option (Vec Asked)) (entry : Entry) : Type 0 where
   pub reader : new.reader ≡ old.reader
-  pub steps : new.steps ≡ old.steps
+  pub task : new.task ≡ old.task
   pub taken : new.taken ≡ old.taken
   pub tally : new.tally ≡ counted entry old.tally
   pub last : Remembered

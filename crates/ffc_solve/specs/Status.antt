@@ -12,9 +12,10 @@ use Rattle.ffc_solve.specs.Underway.{is_fault}
 use Rattle.std.specs.Prelude.{true, false, Bool, Result, Ok, Err, IfSome}
 use Rattle.clap.specs.Words.{Text}
 use Rattle.ffc_solve.specs.declared.arguments.Plan.{Plan}
+use Rattle.ffc_solve.specs.declared.arguments.Task.{Task}
 use Rattle.ffc_solve.specs.declared.stop.Stop.{Stop}
 use Rattle.ffc_solve.specs.declared.stop.Stop.TheVariants as stops
-use Rattle.ffc_solve.specs.Arguments.{HasPlan, number_given}
+use Rattle.ffc_solve.specs.Arguments.{HasPlan, number_given, task_of}
 
 -- the number that the program ends with
 abbrev pub code_of : SolveStatus → ℕ
@@ -32,19 +33,19 @@ script_given None left = left
 script_given (Some n) left = Some (made_text n)
 
 -- What a status says of the certificate and the answers, before and after the run, where these are the script's bytes.
-abbrev pub IsLeft : SolveStatus → ℕ → Option ℕ → List ℕ → Change → Change → Type 0
-IsLeft status.Done budget make script cert out = IsWhole budget make script cert out × (is_fault (reads script).end ≡ false)
-IsLeft status.Refused budget make script cert out = IsWhole budget make script cert out × (is_fault (reads script).end ≡ true)
-IsLeft status.Usage budget make script cert out = IsSilent cert out
-IsLeft status.ReadFault budget make script cert out = IsStopped budget make script cert out
-IsLeft status.WriteFault budget make script cert out = IsStopped budget make script cert out
-IsLeft status.CertFault budget make script cert out = IsStopped budget make script cert out
-IsLeft status.Memory budget make script cert out = IsStopped budget make script cert out
+abbrev pub IsLeft : SolveStatus → Task → Option ℕ → List ℕ → Change → Change → Type 0
+IsLeft status.Done task make script cert out = IsWhole task make script cert out × (is_fault (reads script).end ≡ false)
+IsLeft status.Refused task make script cert out = IsWhole task make script cert out × (is_fault (reads script).end ≡ true)
+IsLeft status.Usage task make script cert out = IsSilent cert out
+IsLeft status.ReadFault task make script cert out = IsStopped task make script cert out
+IsLeft status.WriteFault task make script cert out = IsStopped task make script cert out
+IsLeft status.CertFault task make script cert out = IsStopped task make script cert out
+IsLeft status.Memory task make script cert out = IsStopped task make script cert out
 
 -- where the certificate's contents are stated, it is accepted for the script
-abbrev pub IsAccepted : List ℕ → Option (List ℕ) → Type 0
-IsAccepted script None = Unit {0}
-IsAccepted script (Some certificate) = Accepts script certificate
+abbrev pub IsAccepted : Bool → List ℕ → Option (List ℕ) → Type 0
+IsAccepted bits script None = Unit {0}
+IsAccepted bits script (Some certificate) = Accepts bits script certificate
 
 -- how a run that ended so is reported
 abbrev pub status_of : Result Bool Stop → SolveStatus
@@ -83,9 +84,9 @@ IsNamed status.Memory given cert out name = IsUntouchedOrNamed given cert out na
 pub record IsPlanned (words : List Text) (s : SolveStatus) (left : Option (List ℕ)) (cert out name : Change) : Type 0 where
   pub plan : Plan
   pub has : HasPlan words plan
-  pub leaves : IfSome (script_given plan.make left) (λ script. IsLeft s plan.steps plan.make script cert out)
+  pub leaves : IfSome (script_given plan.make left) (λ script. IsLeft s (task_of plan) plan.make script cert out)
   pub named : IsNamed s plan.cert_name cert out name
-  pub accepted : s ≡ status.Done → IfSome (script_given plan.make left) (λ script. (held : List ℕ) → cert.old ≡ Some held → IsAccepted script cert.new)
+  pub accepted : s ≡ status.Done → IfSome (script_given plan.make left) (λ script. (held : List ℕ) → cert.old ≡ Some held → IsAccepted plan.bits script cert.new)
 
 abbrev pub Leaves : List Text → SolveStatus → Option (List ℕ) → Change → Change → Change → Type 0
 Leaves words s left cert out name = (IsIdle s × IsUntouched cert out name) ⊎ IsPlanned words s left cert out name

@@ -14,6 +14,7 @@ use Rattle.ffc_answer.specs.Answers.{Last, answers, end_answer, script_answers, 
 use Rattle.ffc_script.specs.Answers.{HasRun, SaysOnly, StopsAt}
 use Rattle.ffc_script.specs.declared.stop.ScriptStop.TheVariants.{Fault}
 use Rattle.ffc_script.specs.Progress.{Progress, steps_of}
+use Rattle.ffc_solve.specs.declared.arguments.Task.{Task}
 use Rattle.ffc_solve.specs.declared.dialogue.Dialogue.{Dialogue}
 use Rattle.ffc_solve.specs.declared.dialogue.Advance.{Advance}
 use Rattle.ffc_solve.specs.declared.dialogue.Advance.TheVariants as advance
@@ -38,7 +39,7 @@ pub record IsTold (old new : Dialogue) (entries : List Entry) (cert out : Change
   pub answers_are : answers (steps_of new.reader) (entries ++ more) ≡ answers (steps_of old.reader) entries ++ text
   pub same_text : new.reader.text ≡ old.reader.text
   pub longer : length (steps_of new.reader) ≡ length (steps_of old.reader) + 1
-  pub budget : new.steps ≡ old.steps
+  pub task : new.task ≡ old.task
   pub taken : new.taken ≡ old.taken
 
 -- how a dialogue went on that has these entries
@@ -54,9 +55,9 @@ GoesOn old new entries cert out (advance.Fault f) =
 -- the entries say.
 pub record IsCutAt (old : Dialogue) (entries : List Entry) (more : List ℕ) (cert out : Change) : Type 0 where
   pub later : List Entry
-  pub each : AreEntries old.steps (table_checks (reads (old.reader.text ++ more)).steps) (entries ++ later)
+  pub each : AreEntries old.task (table_checks (reads (old.reader.text ++ more)).steps) (entries ++ later)
   pub part : List ℕ
-  pub rest : IsRest old.steps (table_checks (reads (old.reader.text ++ more)).steps) (entries ++ later) part
+  pub rest : IsRest old.task (table_checks (reads (old.reader.text ++ more)).steps) (entries ++ later) part
   pub certificate : Appends (flat_map entry_text later ++ part) cert.old cert.new
   pub text : List ℕ
   pub answered : Appends text out.old out.new
@@ -86,7 +87,7 @@ pub record HasFed (old new : Dialogue) (left : Change) : Type 0 where
   pub few : length old.reader.text + length piece ≤ 67108865
   pub short : length piece ≤ 4096
   pub taken : new.taken ≡ old.taken + length piece
-  pub same : (new.steps ≡ old.steps) × (new.last ≡ old.last) × (new.tally ≡ old.tally)
+  pub same : (new.task ≡ old.task) × (new.last ≡ old.last) × (new.tally ≡ old.tally)
 
 -- Whole scripts
 
@@ -96,9 +97,9 @@ is_fault Done = false
 is_fault (AtFault at_line column code) = true
 
 -- All commands and the end of a script are answered.
-pub record IsAnswered (budget : ℕ) (script : List ℕ) (refused : Bool) (new : Dialogue) (cert out : Change) : Type 0 where
+pub record IsAnswered (task : Task) (script : List ℕ) (refused : Bool) (new : Dialogue) (cert out : Change) : Type 0 where
   pub entries : List Entry
-  pub each : AreEntries budget (table_checks (reads script).steps) entries
+  pub each : AreEntries task (table_checks (reads script).steps) entries
   pub all : length entries ≡ length (table_checks (reads script).steps)
   pub certificate : Appends (flat_map entry_text entries) cert.old cert.new
   pub answered : Appends (script_answers (reads script) entries) out.old out.new
@@ -106,22 +107,22 @@ pub record IsAnswered (budget : ℕ) (script : List ℕ) (refused : Bool) (new :
   pub ended : refused ≡ is_fault (reads script).end
 
 -- The run stopped before that.
-pub record IsCut (budget : ℕ) (script : List ℕ) (cert out : Change) : Type 0 where
+pub record IsCut (task : Task) (script : List ℕ) (cert out : Change) : Type 0 where
   pub entries : List Entry
-  pub each : AreEntries budget (table_checks (reads script).steps) entries
+  pub each : AreEntries task (table_checks (reads script).steps) entries
   pub part : List ℕ
-  pub rest : IsRest budget (table_checks (reads script).steps) entries part
+  pub rest : IsRest task (table_checks (reads script).steps) entries part
   pub certificate : Appends (flat_map entry_text entries ++ part) cert.old cert.new
   pub answered : AppendsPrefix (script_answers (reads script) entries) out.old out.new
 
 -- Reading failed after this text: just its commands are answered.
-pub record IsPausedAt (budget : ℕ) (text : List ℕ) (cert out : Change) : Type 0 where
+pub record IsPausedAt (task : Task) (text : List ℕ) (cert out : Change) : Type 0 where
   pub steps : List Step
   pub state : State
   pub run : run_of reading_limits text ≡ Going steps state
   pub sound : fault_of text ≡ None
   pub entries : List Entry
-  pub each : AreEntries budget (table_checks steps) entries
+  pub each : AreEntries task (table_checks steps) entries
   pub all : length entries ≡ length (table_checks steps)
   pub certificate : Appends (flat_map entry_text entries) cert.old cert.new
   pub answered : Appends (answers steps entries) out.old out.new

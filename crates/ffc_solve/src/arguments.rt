@@ -1,7 +1,9 @@
 //! The arguments of the command line.
-ghost use Rattle.std.specs.Prelude.{◌≡◌, ◌≢◌, [], codes, false, map, unwrap_or, IfOk, IsErr, IsErrOf};
+ghost use Rattle.std.specs.Prelude.{◌≡◌, ◌≢◌, [], codes, false, map, option_map, unwrap_or};
+ghost use Rattle.std.specs.Prelude.{IfOk, IsErr, IsErrOf};
 ghost use Rattle.clap.specs.Words.{app_of, first_value, found_of, kind_of, new_app, rule_of};
-ghost use Rattle.ffc_solve.specs.Arguments.{AreRefused, HasPlan, cert_rule, make_rule, solve_app, steps_rule, without_help};
+ghost use Rattle.ffc_solve.specs.Arguments.{AreRefused, HasPlan, is_set, task_of};
+ghost use Rattle.ffc_solve.specs.Arguments.{bits_rule, cert_rule, make_rule, solve_app, steps_rule, without_help};
 
 use clap::error::ErrorKind;
 use clap::{Arg, ArgAction, ArgMatches, Command, Error, value_parser};
@@ -42,7 +44,16 @@ impl Name {
     }
 }
 
-/// What the arguments `--cert FILE [--steps N] [--make N]` ask for.
+/// What each check is decided with.
+#[derive(Clone, Copy)]
+pub struct Task {
+    /// The units of work that a check may take.
+    pub steps: u64,
+    /// Whether refutations may have lines of bits, so that the certificate is of version 3.
+    pub bits: bool,
+}
+
+/// What the arguments `--cert FILE [--steps N] [--make N] [--bits]` ask for.
 #[derive(Debug, Drop)]
 pub struct Plan {
     /// The name of the certificate's file.
@@ -51,6 +62,8 @@ pub struct Plan {
     pub steps: u64,
     /// The size of a generated script, where one is asked for.
     pub make: Option<u64>,
+    /// Whether the certificate is of version 3.
+    pub bits: bool,
 }
 
 /// Why there is no plan.
@@ -107,6 +120,16 @@ fn make_argument<'a>(alloc: Global) -> Arg<'a>
         .action(ArgAction::Set)
 }
 
+/// The flag that asks for certificates of version 3.
+fn bits_flag<'a>(alloc: Global) -> Arg<'a>
+    ensures rule { rule_of result ≡ bits_rule }
+    ensures own { result.global ≡ false }
+{
+    Arg::new(alloc, "bits")
+        .long("bits")
+        .action(ArgAction::SetTrue)
+}
+
 /// A command without arguments and without a help flag.
 fn bare_command<'a>(alloc: Global) -> Command<'a>
     ensures { app_of result ≡ without_help (new_app (codes "ffsolve")) }
@@ -121,7 +144,8 @@ fn solve_command<'a>(alloc: Global) -> Result<Command<'a>, AllocError>
     bare_command(alloc)
         .arg(cert_argument(alloc))?
         .arg(steps_argument(alloc))?
-        .arg(make_argument(alloc))
+        .arg(make_argument(alloc))?
+        .arg(bits_flag(alloc))
 }
 
 /// Why the arguments were not taken.
@@ -145,7 +169,27 @@ fn text_in<'a>(matches: &ArgMatches<'a>, id: &str) -> &'a str
     }
 }
 
+/// Whether a flag was given.
+fn has_flag(matches: &ArgMatches, id: &str) -> bool
+    ensures { result ≡ unwrap_or (option_map is_set (first_value (found_of matches.now) id.now)) false }
+{
+    match matches.get_str(id) {
+        Some(text) => text == "true",
+        None => false,
+    }
+}
+
 impl Plan {
+    /// What each check is decided with.
+    pub(crate) fn task(&self) -> Task
+        ensures { result ≡ task_of self.now }
+    {
+        Task {
+            steps: self.steps,
+            bits: self.bits,
+        }
+    }
+
     /// Reads the arguments, the program's name first.
     pub fn read<'a>(alloc: Global, words: &'a [&'a str]) -> Result<Plan, PlanStop>
         ensures plan { IfOk result (HasPlan (map (λ w. w.now) words.entry.now)) }
@@ -166,6 +210,7 @@ impl Plan {
             },
             steps: steps.unwrap_or(DEFAULT_STEPS),
             make,
+            bits: has_flag(&matches, "bits"),
         })
     }
 }

@@ -11,12 +11,14 @@ ghost use Rattle.ffc_elab.specs.Histories.{check_now, known_of};
 ghost use Rattle.ffc_answer.specs.Answers.{Last, answer_of, last_after, verdict};
 ghost use Rattle.ffc_script.specs.Answers.{Gives};
 ghost use Rattle.ffc_script.specs.Progress.{Progress, known_at};
+ghost use Rattle.ffc_trials.specs.Versions.{written_version};
 ghost use Rattle.ffc_solve.specs.Changes.{change};
 ghost use Rattle.ffc_solve.specs.Solving.{IsRight};
 ghost use Rattle.ffc_solve.specs.Remembering.{Holds, HasRoom, IsAsked, IsBudget, IsChecked, IsNext, asked_in, core_in};
 ghost use Rattle.ffc_solve.specs.Remembering.{counted, effect_by, entry_in, fresh_in, remembered_after};
 ghost use Rattle.ffc_solve.specs.Underway.{GoesOn, IsCutAt, IsHalfTold};
 
+use crate::arguments::Task;
 use crate::remembered::{Remembered, Tally};
 use crate::stop::{Stop, write_certificate, write_out};
 use ffc_answer::{View, verdict_of, write_answer};
@@ -25,24 +27,29 @@ use ffc_cert::{Entry, write_entry};
 use ffc_core::core_of;
 use ffc_elab::{Asked, Command, Effect};
 use ffc_script::{ScriptReader, ScriptStop};
-use ffc_theory::decide_in_order;
+use ffc_theory::Session;
 use ffc_words::ScriptFault;
 use std::alloc::{AllocError, Global};
 
-/// The version of the certificate's text.
-const VERSION: u8 = 2;
+/// The version of the certificate's text, where no line of bits may stand in it.
+const VERSION_PLAIN: u8 = 2;
+
+/// The version that has lines of bits.
+const VERSION_BITS: u8 = 3;
 
 /// Where a script is, and what is remembered of its last check.
 #[derive(Drop)]
 pub struct Dialogue {
     pub alloc: Global,
-    /// The units of work that a check may take.
-    pub steps: u64,
+    /// What each check is decided with.
+    pub task: Task,
     pub reader: ScriptReader,
     /// How many bytes of the script were taken.
     pub taken: usize,
     pub last: Option<Remembered>,
     pub tally: Tally,
+    /// What is kept from one check to the next.
+    pub kept: Session,
 }
 
 /// How a dialogue went on.
@@ -72,14 +79,22 @@ fn count(tally: Tally, entry: &Entry) -> Tally
     tally
 }
 
+/// The version of the certificate's text.
+fn version_of(bits: bool) -> u8
+    ensures { result ≡ written_version bits }
+{
+    if bits { VERSION_BITS } else { VERSION_PLAIN }
+}
+
 /// Writes an entry, and then its verdict.
 fn tell<O: Sink, C: Sink>(
     alloc: Global,
+    bits: bool,
     entry: &Entry,
     out: &mut O,
     cert: &mut C,
 ) -> Result<(), Stop>
-    requires { FitsVersion 2 entry.now }
+    requires { FitsVersion (written_version bits) entry.now }
     ensures ok { OnOk result (Appends (entry_text entry.now) (C.holds cert.old) (C.holds cert.new)
         × Appends (verdict entry.now) (O.holds out.old) (O.holds out.new)) }
     ensures err { OnErr result (IsHalfTold entry.now (change C.holds cert) (change O.holds out)) }
@@ -91,7 +106,7 @@ fn tell<O: Sink, C: Sink>(
     ensures only { ¬ (IsErrOf result Stop.ReadFault) }
 {
     let mut text = Vec::new(alloc);
-    write_entry(alloc, VERSION, entry, &mut text)?;
+    write_entry(alloc, version_of(bits), entry, &mut text)?;
     write_certificate(cert, text.as_slice())?;
     write_out(out, verdict_of(entry).as_bytes())
 }
@@ -120,18 +135,18 @@ fn effect_of(command: &Command) -> Effect
     }
 }
 
-impl Dialogue {
-    /// The entry of the check that was read last. What isn't decided says why.
-    fn entry(&self) -> Entry
-        requires { IsBudget self.now.steps }
-        ensures { IsRight self.now.steps (check_now (known_at self.now.reader)) result }
-    {
-        match decide_in_order(self.alloc, &self.reader.check(), self.steps) {
-            Ok(entry) => entry,
-            Err(stop) => Entry::Unknown(stop.cause()),
-        }
+/// The entry of the check that was read last. What isn't decided says why.
+fn entry(kept: &mut Session, reader: &ScriptReader, task: Task) -> Entry
+    requires { IsBudget task.steps }
+    ensures { IsRight task (check_now (known_at reader.now)) result }
+{
+    match kept.decide_in_order(&reader.check(), task.steps, task.bits) {
+        Ok(entry) => entry,
+        Err(stop) => Entry::Unknown(stop.cause()),
     }
+}
 
+impl Dialogue {
     /// Decides and answers the check that was read last, and remembers it.
     fn check<O: Sink, C: Sink>(
         &mut self,
@@ -139,13 +154,13 @@ impl Dialogue {
         out: &mut O,
         cert: &mut C,
     ) -> Result<(), Stop>
-        requires budget { IsBudget self.old.steps }
+        requires budget { IsBudget self.old.task.steps }
         requires room { HasRoom self.old.tally }
-        ensures ok { OnOk result ((entry : CertEntry) × IsRight self.old.steps (check_now (known_at self.old.reader))
+        ensures ok { OnOk result ((entry : CertEntry) × IsRight self.old.task (check_now (known_at self.old.reader))
             entry × IsChecked self.old self.new asked entry
             × Appends (entry_text entry) (C.holds cert.old) (C.holds cert.new)
             × Appends (verdict entry) (O.holds out.old) (O.holds out.new)) }
-        ensures err { OnErr result ((entry : CertEntry) × IsRight self.old.steps (check_now (known_at self.old.reader))
+        ensures err { OnErr result ((entry : CertEntry) × IsRight self.old.task (check_now (known_at self.old.reader))
             entry × IsHalfTold entry (change C.holds cert) (change O.holds out)) }
         ensures same_name { C.name cert.new ≡ C.name cert.old }
         ensures later_out { O.faults out.old ≤ O.faults out.new }
@@ -154,10 +169,10 @@ impl Dialogue {
         ensures cause_cert { IsErrOf result Stop.CertFault → Rose (C.faults cert.old) (C.faults cert.new) }
         ensures only { ¬ (IsErrOf result Stop.ReadFault) }
     {
-        let entry = self.entry();
+        let entry = entry(&mut self.kept, &self.reader, self.task);
         let in_force = self.reader.check().in_force.len() as u64;
         let core = core_of(self.alloc, &entry, in_force)?;
-        tell(self.alloc, &entry, out, cert)?;
+        tell(self.alloc, self.task.bits, &entry, out, cert)?;
         self.tally = count(self.tally, &entry);
         self.last = Some(Remembered {
             entry,
@@ -243,7 +258,7 @@ impl Dialogue {
         out: &mut O,
         cert: &mut C,
     ) -> Result<Advance, Stop>
-        requires budget { IsBudget self.old.steps }
+        requires budget { IsBudget self.old.task.steps }
         requires short { length self.old.reader.text ≤ 67108865 }
         requires given { (p : Progress) × (entries : List CertEntry) × (l : Option Last) × Holds p self.old entries l
             × Gives p self.old.reader command }
@@ -279,7 +294,7 @@ impl Dialogue {
     /// Answers the next command, once it is whole.
     pub fn advance<O: Sink, C: Sink>(&mut self, out: &mut O, cert: &mut C) -> Result<Advance, Stop>
         requires active { self.old.reader.over ≡ false }
-        requires budget { IsBudget self.old.steps }
+        requires budget { IsBudget self.old.task.steps }
         requires short { length self.old.reader.text ≤ 67108865 }
         requires held { (entries : List CertEntry) × (l : Option Last) × Holds self.old.reader self.old entries l }
         ensures ok { IfOk result (λ a. (entries : List CertEntry) (l : Option Last)

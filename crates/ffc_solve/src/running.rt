@@ -101,15 +101,15 @@ pub fn run<S: Source, O: Sink, C: Sink>(
     cert: &mut C,
 ) -> Result<bool, Stop>
     requires first { IsFirst dialogue.old }
-    requires budget { IsBudget dialogue.old.steps }
+    requires budget { IsBudget dialogue.old.task.steps }
     ensures ok { IfOk result
-        (λ refused. IfSome (S.left script.old) (λ bytes. IsAnswered dialogue.old.steps bytes refused dialogue.new
+        (λ refused. IfSome (S.left script.old) (λ bytes. IsAnswered dialogue.old.task bytes refused dialogue.new
         (change C.holds cert) (change O.holds out))) }
-    ensures err { OnErr result (IfSome (S.left script.old) (λ bytes. IsCut dialogue.old.steps bytes
+    ensures err { OnErr result (IfSome (S.left script.old) (λ bytes. IsCut dialogue.old.task bytes
         (change C.holds cert) (change O.holds out))) }
     ensures paused { IsErrOf result Stop.ReadFault → IfSome (S.left script.old) (λ bytes. (text : List ℕ)
         × IsTaken text bytes (S.left script.new)
-        × IsPausedAt dialogue.old.steps text (change C.holds cert) (change O.holds out)) }
+        × IsPausedAt dialogue.old.task text (change C.holds cert) (change O.holds out)) }
     ensures taken { IfSome (S.left script.old) (λ bytes. (text : List ℕ) × IsTaken text bytes (S.left script.new)
         × EndsSoon text × AnswersSoonAt text (change C.holds cert) (change O.holds out)) }
     ensures same_name { C.name cert.new ≡ C.name cert.old }

@@ -5,7 +5,7 @@ ghost use Rattle.ffc_cert.specs.declared.entries.Entry.{Entry as CertEntry};
 ghost use Rattle.ffc_answer.specs.Answers.{made_answer};
 ghost use Rattle.ffc_base.specs.Outside.{Rose, Becomes};
 ghost use Rattle.ffc_smt.specs.Scripts.{reads};
-ghost use Rattle.ffc_solve.specs.Arguments.{AreRefused, AskToMake, HasPlan};
+ghost use Rattle.ffc_solve.specs.Arguments.{AreRefused, AskToMake, HasPlan, task_of, wants_bits};
 ghost use Rattle.ffc_solve.specs.declared.arguments.Plan.{Plan as SolvePlan};
 ghost use Rattle.ffc_solve.specs.Changes.{change};
 ghost use Rattle.ffc_solve.specs.Generated.{made_text};
@@ -14,7 +14,7 @@ ghost use Rattle.ffc_solve.specs.Solving.{AnswersSoon, EndsSoon, IsPaused, IsSto
 ghost use Rattle.ffc_solve.specs.Status.{EndsAs, IsScript, IsUntouchedOrNamed, Leaves, code_of, status_of};
 ghost use Rattle.ffc_solve.specs.Underway.{IsFirst, is_fault};
 
-use crate::arguments::{Plan, PlanStop};
+use crate::arguments::{Plan, PlanStop, Task};
 use crate::dialogue::Dialogue;
 use crate::generated::make_script;
 use crate::remembered::Tally;
@@ -22,6 +22,7 @@ use crate::running::run;
 use crate::stop::{Stop, create_certificate, write_out};
 use ffc_base::{NamedSink, Sink, Source, SureSource};
 use ffc_script::ScriptReader;
+use ffc_theory::Session;
 use std::alloc::{AllocError, Global};
 
 /// How a run ended.
@@ -61,13 +62,13 @@ impl SolveStatus {
 }
 
 /// A dialogue of a script of which nothing has come.
-fn first_dialogue(alloc: Global, steps: u64) -> Result<Dialogue, AllocError>
+fn first_dialogue(alloc: Global, task: Task) -> Result<Dialogue, AllocError>
     ensures first { IfOk result IsFirst }
-    ensures steps { IfOk result (λ s. s.steps ≡ steps) }
+    ensures task { IfOk result (λ s. s.task ≡ task) }
 {
     Ok(Dialogue {
         alloc,
-        steps,
+        task,
         reader: ScriptReader::new(alloc)?,
         taken: 0,
         last: None,
@@ -76,6 +77,7 @@ fn first_dialogue(alloc: Global, steps: u64) -> Result<Dialogue, AllocError>
             unsat: 0,
             unknown: 0,
         },
+        kept: Session::new(alloc)?,
     })
 }
 
@@ -88,17 +90,17 @@ fn answer_script<S: Source, O: Sink, C: NamedSink>(
     cert: &mut C,
 ) -> Result<bool, Stop>
     requires budget { IsBudget plan.now.steps }
-    ensures ok { OnOk result (IfSome (S.left script.old) (λ bytes. IsWhole plan.now.steps None bytes
+    ensures ok { OnOk result (IfSome (S.left script.old) (λ bytes. IsWhole (task_of plan.now) None bytes
         (change C.holds cert) (change O.holds out))) }
     ensures refused { IfOk result
         (λ refused. IfSome (S.left script.old) (λ bytes. refused ≡ is_fault (reads bytes).end)) }
-    ensures err { OnErr result (IfSome (S.left script.old) (λ bytes. IsStopped plan.now.steps None bytes
+    ensures err { OnErr result (IfSome (S.left script.old) (λ bytes. IsStopped (task_of plan.now) None bytes
         (change C.holds cert) (change O.holds out))) }
     ensures paused { IsErrOf result Stop.ReadFault → IfSome (S.left script.old) (λ bytes. (text : List ℕ)
         × IsTaken text bytes (S.left script.new)
-        × IsPaused plan.now.steps text (change C.holds cert) (change O.holds out)) }
+        × IsPaused (task_of plan.now) text (change C.holds cert) (change O.holds out)) }
     ensures taken { IfSome (S.left script.old) (λ bytes. (text : List ℕ) × IsTaken text bytes (S.left script.new)
-        × EndsSoon text × AnswersSoon text (change C.holds cert) (change O.holds out)) }
+        × EndsSoon text × AnswersSoon plan.now.bits text (change C.holds cert) (change O.holds out)) }
     ensures named { OnOk result (Becomes plan.now.cert_name (C.name cert.old) (C.name cert.new)) }
     ensures begun { OnErr result (IsUntouchedOrNamed plan.now.cert_name (change C.holds cert) (change O.holds out)
         (change C.name cert)) }
@@ -106,8 +108,8 @@ fn answer_script<S: Source, O: Sink, C: NamedSink>(
     ensures cause_out { IsErrOf result Stop.WriteFault → Rose (O.faults out.old) (O.faults out.new) }
     ensures cause_cert { IsErrOf result Stop.CertFault → Rose (C.faults cert.old) (C.faults cert.new) }
 {
-    create_certificate(cert, plan.cert_name.as_str())?;
-    let mut dialogue = first_dialogue(alloc, plan.steps)?;
+    create_certificate(cert, plan.cert_name.as_str(), plan.bits)?;
+    let mut dialogue = first_dialogue(alloc, plan.task())?;
     run(&mut dialogue, script, out, cert)
 }
 
@@ -136,10 +138,10 @@ fn answer_generated<O: Sink, C: NamedSink>(
     requires budget { IsBudget plan.now.steps }
     requires some { 0 < size }
     requires few { size ≤ 10000 }
-    ensures ok { OnOk result (IsWhole plan.now.steps (Some size) (made_text size)
+    ensures ok { OnOk result (IsWhole (task_of plan.now) (Some size) (made_text size)
         (change C.holds cert) (change O.holds out)) }
     ensures refused { IfOk result (λ refused. refused ≡ is_fault (reads (made_text size)).end) }
-    ensures err { OnErr result (IsStopped plan.now.steps (Some size) (made_text size)
+    ensures err { OnErr result (IsStopped (task_of plan.now) (Some size) (made_text size)
         (change C.holds cert) (change O.holds out)) }
     ensures named { OnOk result (Becomes plan.now.cert_name (C.name cert.old) (C.name cert.new)) }
     ensures begun { OnErr result (IsUntouchedOrNamed plan.now.cert_name (change C.holds cert) (change O.holds out)
@@ -150,8 +152,8 @@ fn answer_generated<O: Sink, C: NamedSink>(
 {
     let text = make_script(alloc, size)?;
     let mut script = SureSource::new(text.into_vec());
-    let mut dialogue = first_dialogue(alloc, plan.steps)?;
-    create_certificate(cert, plan.cert_name.as_str())?;
+    let mut dialogue = first_dialogue(alloc, plan.task())?;
+    create_certificate(cert, plan.cert_name.as_str(), plan.bits)?;
     let refused = run(&mut dialogue, &mut script, out, cert)?;
     let line = made_line(alloc, size, dialogue.tally)?;
     write_out(out, line.as_bytes())?;
@@ -174,9 +176,10 @@ fn status_of(ended: Result<bool, Stop>) -> SolveStatus
 
 /// Reads a script, writes its answers, and leaves an entry for each of its checks in the certificate's file.
 ///
-/// The arguments are `--cert FILE [--steps N] [--make N]`, after the program's name. The script is read in pieces, and each command
-/// is answered as soon as it is whole; after `exit` and after a fault no more is read. Each entry is one write, made before the
-/// verdict is written, and each answer is one write. With `--make N` nothing is read, and a generated script is answered.
+/// The arguments are `--cert FILE [--steps N] [--make N] [--bits]`, after the program's name. The script is read in pieces, and
+/// each command is answered as soon as it is whole; after `exit` and after a fault no more is read. Each entry is one write, made
+/// before the verdict is written, and each answer is one write. With `--make N` nothing is read, and a generated script is
+/// answered. With `--bits` the certificate is of version 3, else of version 2.
 ///
 /// # Errors
 ///
@@ -210,9 +213,10 @@ pub fn solve_main<'a, S: Source, O: Sink, C: NamedSink>(
     // How much of the script was taken, what of it is answered, and just what is where reading failed.
     ensures paused { result ≡ SolveStatus.ReadFault → IfSome (S.left script.old) (λ bytes. (plan : SolvePlan)
         × HasPlan (map (λ w. w.now) words.now) plan × (text : List ℕ) × IsTaken text bytes (S.left script.new)
-        × IsPaused plan.steps text (change C.holds cert) (change O.holds out)) }
+        × IsPaused (task_of plan) text (change C.holds cert) (change O.holds out)) }
     ensures taken { IfSome (S.left script.old) (λ bytes. (text : List ℕ) × IsTaken text bytes (S.left script.new)
-        × EndsSoon text × AnswersSoon text (change C.holds cert) (change O.holds out)) }
+        × EndsSoon text × AnswersSoon (wants_bits (map (λ w. w.now) words.now)) text (change C.holds cert)
+        (change O.holds out)) }
     ensures read_fault { result ≡ SolveStatus.ReadFault → Rose (S.faults script.old) (S.faults script.new) }
     ensures write_fault { result ≡ SolveStatus.WriteFault → Rose (O.faults out.old) (O.faults out.new) }
     ensures cert_fault { result ≡ SolveStatus.CertFault → Rose (C.faults cert.old) (C.faults cert.new) }

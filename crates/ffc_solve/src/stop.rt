@@ -2,6 +2,7 @@
 ghost use Rattle.std.specs.Prelude.{◌≡◌, ℕ, ◌≤◌, ◌⊎◌, take, OnOk, OnErr, IfErr, IsErrOf};
 ghost use Rattle.ffc_base.specs.Outside.{Rose, Becomes, Appends, AppendsPrefix};
 ghost use Rattle.ffc_cert.specs.Spelling.{header};
+ghost use Rattle.ffc_trials.specs.Versions.{written_version};
 
 use ffc_base::{NamedSink, Sink, WriteStop};
 use std::alloc::AllocError;
@@ -65,19 +66,26 @@ pub fn write_certificate<C: Sink>(cert: &mut C, text: &[u8]) -> Result<(), Stop>
     }
 }
 
-/// Creates the certificate of this name, and writes its first line.
-pub fn create_certificate<C: NamedSink>(cert: &mut C, name: &str) -> Result<(), Stop>
-    ensures ok { OnOk result (Becomes (header 2) (C.holds cert.old) (C.holds cert.new)) }
+/// The first line of a certificate.
+fn first_line(bits: bool) -> &'static [u8]
+    ensures { result.now ≡ header (written_version bits) }
+{
+    if bits { b"ffcert 3\n" } else { b"ffcert 2\n" }
+}
+
+/// Creates the certificate of this name, and writes its first line, of version 3 where it may have lines of bits.
+pub fn create_certificate<C: NamedSink>(cert: &mut C, name: &str, bits: bool) -> Result<(), Stop>
+    ensures ok { OnOk result (Becomes (header (written_version bits)) (C.holds cert.old) (C.holds cert.new)) }
     ensures named { OnOk result (Becomes name.now (C.name cert.old) (C.name cert.new)) }
     ensures err { OnErr result (((C.holds cert.new ≡ C.holds cert.old) × (C.name cert.new ≡ C.name cert.old))
-        ⊎ (((n : ℕ) × Becomes (take n (header 2)) (C.holds cert.old) (C.holds cert.new))
+        ⊎ (((n : ℕ) × Becomes (take n (header (written_version bits))) (C.holds cert.old) (C.holds cert.new))
         × Becomes name.now (C.name cert.old) (C.name cert.new))) }
     ensures later { C.faults cert.old ≤ C.faults cert.new }
     ensures cause { IsErrOf result Stop.CertFault → Rose (C.faults cert.old) (C.faults cert.new) }
     ensures only { IfErr result (λ stop. (stop ≡ Stop.CertFault) ⊎ (stop ≡ Stop.Memory)) }
 {
     match cert.create(name) {
-        Ok(()) => write_certificate(cert, b"ffcert 2\n"),
+        Ok(()) => write_certificate(cert, first_line(bits)),
         Err(WriteStop::Failed) => Err(Stop::CertFault),
         Err(WriteStop::Memory) => Err(Stop::Memory),
     }

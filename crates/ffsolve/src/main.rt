@@ -107,7 +107,7 @@ fn end<R: Eprint>(rt: &R, status: SolveStatus) -> ExitCode
     ensures { exit_status result ≡ code_of status }
 {
     let line = match status {
-        SolveStatus::Usage => Some("usage: ffsolve --cert FILE [--steps N] [--make N]"),
+        SolveStatus::Usage => Some("usage: ffsolve --cert FILE [--steps N] [--make N] [--bits]"),
         SolveStatus::Memory => Some("ffsolve: out of memory"),
         _ => None,
     };

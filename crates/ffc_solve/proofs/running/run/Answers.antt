@@ -14,7 +14,7 @@ use Rattle.ffc_solve.proofs.running.run.Goals as goal
 pub commands-init : goal.commands-init
 commands-init g c = record {
   going = going_first c.args.dialogue.now (g.C.Sink.holds c.args.cert.now) (g.O.Sink.holds c.args.out.now) (g.S.Source.left c.args.script.now) c.requires.first;
-  budget = refl;
+  task = refl;
   name = refl;
   later_script = omega arith;
   later_out = omega arith;
@@ -25,8 +25,8 @@ pub returns-in_err-advance-clause-err : goal.returns-in_err-advance-clause-err
 returns-in_err-advance-clause-err g c =
     let h = c.commands.invariant.going in
     on_err c.from_residual.result _
-    (cut_told c.commands.dialogue c.args.dialogue.now.steps _ _ _ _ (g.S.Source.left c.args.script.now) (g.S.Source.left c.commands.script)
-    c.commands.invariant.budget h (λ more. c.in_err-advance.ensures.err h.entries h.last more h.holds))
+    (cut_told c.commands.dialogue c.args.dialogue.now.task _ _ _ _ (g.S.Source.left c.args.script.now) (g.S.Source.left c.commands.script)
+    c.commands.invariant.task h (λ more. c.in_err-advance.ensures.err h.entries h.last more h.holds))
 
 pub commands-preserved-in-Answered : goal.commands-preserved-in-Answered
 commands-preserved-in-Answered g c =
@@ -34,7 +34,7 @@ commands-preserved-in-Answered g c =
     let on = rw c.in-Answered.is at (c.in_ok-advance.ensures.ok h.entries h.last h.holds) in
     record {
       going = going_told c.commands.dialogue c.advance.new.self _ _ _ _ _ _ h on.0 on.1;
-      budget = on.0.budget ∙ c.commands.invariant.budget;
+      task = on.0.task ∙ c.commands.invariant.task;
       name = c.in_ok-advance.ensures.same_name ∙ c.commands.invariant.name;
       later_script = c.commands.invariant.later_script;
       later_out = let a = c.in_ok-advance.ensures.later_out in let b = c.commands.invariant.later_out in omega arith;
@@ -45,7 +45,7 @@ pub returns-in-Ended-clause-ok : goal.returns-in-Ended-clause-ok
 returns-in-Ended-clause-ok g c =
     let h = c.commands.invariant.going in
     let on = rw c.in-Ended.is at (c.in_ok-advance.ensures.ok h.entries h.last h.holds) in
-    ended_whole c.commands.dialogue c.advance.new.self c.args.dialogue.now.steps _ _ _ _ _ _ c.commands.invariant.budget h on.0 on.1
+    ended_whole c.commands.dialogue c.advance.new.self c.args.dialogue.now.task _ _ _ _ _ _ c.commands.invariant.task h on.0 on.1
 
 pub returns-in_err-tell_fault-in-Fault-clause-err : goal.returns-in_err-tell_fault-in-Fault-clause-err
 returns-in_err-tell_fault-in-Fault-clause-err g c =
@@ -54,7 +54,7 @@ returns-in_err-tell_fault-in-Fault-clause-err g c =
     let on = rw c.in-Fault.is at (c.in_ok-advance.ensures.ok h.entries h.last h.holds) in
     let kept = going_silent s s _ _ _ _ _ _ _ _ refl on.0 h in
     on_err c.from_residual-in_err-tell_fault-in-Fault.result _
-    (fault_cut s c.args.dialogue.now.steps _ _ _ _ _ c.commands.invariant.budget kept (end_at_fault c.in-Fault.fault) on.1 c.in_err-tell_fault-in-Fault.ensures.err)
+    (fault_cut s c.args.dialogue.now.task _ _ _ _ _ c.commands.invariant.task kept (end_at_fault c.in-Fault.fault) on.1 c.in_err-tell_fault-in-Fault.ensures.err)
 
 pub returns-in-Fault-clause-ok : goal.returns-in-Fault-clause-ok
 returns-in-Fault-clause-ok g c =
@@ -62,7 +62,7 @@ returns-in-Fault-clause-ok g c =
     let h = c.commands.invariant.going in
     let on = rw c.in-Fault.is at (c.in_ok-advance.ensures.ok h.entries h.last h.holds) in
     let kept = going_silent s s _ _ _ _ _ _ _ _ refl on.0 h in
-    fault_whole s c.args.dialogue.now.steps _ _ _ _ _ c.commands.invariant.budget kept (end_at_fault c.in-Fault.fault) c.advance.new.self on.2 on.1 c.in_ok-tell_fault-in-Fault.ensures.ok
+    fault_whole s c.args.dialogue.now.task _ _ _ _ _ c.commands.invariant.task kept (end_at_fault c.in-Fault.fault) c.advance.new.self on.2 on.1 c.in_ok-tell_fault-in-Fault.ensures.ok
 
 pub commands-preserved : goal.commands-preserved
 commands-preserved g c =
@@ -71,12 +71,12 @@ commands-preserved g c =
     let h = c.commands.invariant.going in
     let waits = rw c.in-Waiting.is at (c.in_ok-advance.ensures.ok h.entries h.last h.holds) in
     let kept = going_silent s t _ _ _ _ _ _ _ _ waits.1 waits.0 h in
-    let budget : t.steps ≡ c.args.dialogue.now.steps = ap (λ (u : Dialogue). u.steps) waits.1 ∙ c.commands.invariant.budget in
+    let task : t.task ≡ c.args.dialogue.now.task = ap (λ (u : Dialogue). u.task) waits.1 ∙ c.commands.invariant.task in
     let run = subst (λ (u : Dialogue). HasRun u.reader) (sym waits.1) waits.2 in
     let fed = c.in-Ok-true.ensures.more c.in-Ok-true.field-0-test in
     record {
       going = going_fed t c.read_on.new.dialogue _ _ _ _ _ kept run fed;
-      budget = fed.same.0 ∙ budget;
+      task = fed.same.0 ∙ task;
       name = c.in_ok-advance.ensures.same_name ∙ c.commands.invariant.name;
       later_script = let a = c.in-Ok-true.ensures.later in let b = c.commands.invariant.later_script in omega arith;
       later_out = let a = c.in_ok-advance.ensures.later_out in let b = c.commands.invariant.later_out in omega arith;
@@ -90,13 +90,13 @@ returns-in-Ok-false-clause-ok g c =
     let h = c.commands.invariant.going in
     let waits = rw c.in-Waiting.is at (c.in_ok-advance.ensures.ok h.entries h.last h.holds) in
     let kept = going_silent s t _ _ _ _ _ _ _ _ waits.1 waits.0 h in
-    let budget : t.steps ≡ c.args.dialogue.now.steps = ap (λ (u : Dialogue). u.steps) waits.1 ∙ c.commands.invariant.budget in
+    let task : t.task ≡ c.args.dialogue.now.task = ap (λ (u : Dialogue). u.task) waits.1 ∙ c.commands.invariant.task in
     let end = c.in-Ok-false.ensures.end c.in-Ok-false.field-0-test in
     let on = g.O.Sink.holds c.advance.new.out in
     let o2 = g.O.Sink.holds c.finish.new.out in
     let tally : c.finish.new.dialogue.tally ≡ t.tally = c.finish.ensures.tally ∙ ap (λ (u : Dialogue). u.tally) end.0 in
     ok_weaker c.finish.result _ _ (λ refused f.
-    finished_whole t c.args.dialogue.now.steps _ _ _ _ _ _ c.long_texts_are_cut.ensures budget kept end.1 c.finish.new.dialogue refused tally (subst (λ (u : Dialogue). IsFinished u.reader refused (between on o2)) end.0 f)) c.finish.ensures.ok
+    finished_whole t c.args.dialogue.now.task _ _ _ _ _ _ c.long_texts_are_cut.ensures task kept end.1 c.finish.new.dialogue refused tally (subst (λ (u : Dialogue). IsFinished u.reader refused (between on o2)) end.0 f)) c.finish.ensures.ok
 
 pub returns-in-Ok-false-clause-err : goal.returns-in-Ok-false-clause-err
 returns-in-Ok-false-clause-err g c =
@@ -105,13 +105,13 @@ returns-in-Ok-false-clause-err g c =
     let h = c.commands.invariant.going in
     let waits = rw c.in-Waiting.is at (c.in_ok-advance.ensures.ok h.entries h.last h.holds) in
     let kept = going_silent s t _ _ _ _ _ _ _ _ waits.1 waits.0 h in
-    let budget : t.steps ≡ c.args.dialogue.now.steps = ap (λ (u : Dialogue). u.steps) waits.1 ∙ c.commands.invariant.budget in
+    let task : t.task ≡ c.args.dialogue.now.task = ap (λ (u : Dialogue). u.task) waits.1 ∙ c.commands.invariant.task in
     let end = c.in-Ok-false.ensures.end c.in-Ok-false.field-0-test in
     let on = g.O.Sink.holds c.advance.new.out in
     let o2 = g.O.Sink.holds c.finish.new.out in
     let first = subst (λ (u : Dialogue). AreFirst u.reader.text (steps_of u.reader)) (sym waits.1) c.steps_come_first.ensures in
     err_weaker c.finish.result _ _ (λ f.
-    finished_cut t c.args.dialogue.now.steps _ _ _ _ _ _ c.long_texts_are_cut.ensures budget kept end.1 first (subst (λ (u : Dialogue). IsUnfinished u.reader (between on o2)) end.0 f)) c.finish.ensures.err
+    finished_cut t c.args.dialogue.now.task _ _ _ _ _ _ c.long_texts_are_cut.ensures task kept end.1 first (subst (λ (u : Dialogue). IsUnfinished u.reader (between on o2)) end.0 f)) c.finish.ensures.err
 
 pub returns-in-Ok-false-clause-taken : goal.returns-in-Ok-false-clause-taken
 returns-in-Ok-false-clause-taken g c =
@@ -133,9 +133,9 @@ returns-in-Err-clause-err g c =
     let h = c.commands.invariant.going in
     let waits = rw c.in-Waiting.is at (c.in_ok-advance.ensures.ok h.entries h.last h.holds) in
     let kept = going_silent s t _ _ _ _ _ _ _ _ waits.1 waits.0 h in
-    let budget : t.steps ≡ c.args.dialogue.now.steps = ap (λ (u : Dialogue). u.steps) waits.1 ∙ c.commands.invariant.budget in
+    let task : t.task ≡ c.args.dialogue.now.task = ap (λ (u : Dialogue). u.task) waits.1 ∙ c.commands.invariant.task in
     let first = subst (λ (u : Dialogue). AreFirst u.reader.text (steps_of u.reader)) (sym waits.1) c.steps_come_first.ensures in
-    going_cut t c.args.dialogue.now.steps _ _ _ _ budget kept first
+    going_cut t c.args.dialogue.now.task _ _ _ _ task kept first
 
 pub returns-in-Err-clause-paused : goal.returns-in-Err-clause-paused
 returns-in-Err-clause-paused g c = λ is.
@@ -144,9 +144,9 @@ returns-in-Err-clause-paused g c = λ is.
     let h = c.commands.invariant.going in
     let waits = rw c.in-Waiting.is at (c.in_ok-advance.ensures.ok h.entries h.last h.holds) in
     let kept = going_silent s t _ _ _ _ _ _ _ _ waits.1 waits.0 h in
-    let budget : t.steps ≡ c.args.dialogue.now.steps = ap (λ (u : Dialogue). u.steps) waits.1 ∙ c.commands.invariant.budget in
+    let task : t.task ≡ c.args.dialogue.now.task = ap (λ (u : Dialogue). u.task) waits.1 ∙ c.commands.invariant.task in
     let failed = c.in-Err.ensures.failed is in
-    paused_at t c.args.dialogue.now.steps _ _ _ _ budget (going_left t _ _ _ _ _ failed.1 kept) (subst (λ (u : Dialogue). HasRun u.reader) (sym waits.1) waits.2)
+    paused_at t c.args.dialogue.now.task _ _ _ _ task (going_left t _ _ _ _ _ failed.1 kept) (subst (λ (u : Dialogue). HasRun u.reader) (sym waits.1) waits.2)
 
 pub returns-in-Err-clause-taken : goal.returns-in-Err-clause-taken
 returns-in-Err-clause-taken g c =

@@ -8,7 +8,7 @@ use Rattle.ffc_solve.proofs.running.run.Given as goal
 abbrev pub invariant-commands : goal.invariant-commands
 invariant-commands g l = record {
   going : IsGoing l.dialogue (between (g.C.Sink.holds l.initial.cert) (g.C.Sink.holds l.cert)) (between (g.O.Sink.holds l.initial.out) (g.O.Sink.holds l.out)) (g.S.Source.left l.initial.script) (g.S.Source.left l.script);
-  budget : l.dialogue.steps ≡ l.initial.dialogue.steps;
+  task : l.dialogue.task ≡ l.initial.dialogue.task;
   name : g.C.Sink.name l.cert ≡ g.C.Sink.name l.initial.cert;
   later_script : g.S.Source.faults l.initial.script ≤ g.S.Source.faults l.script;
   later_out : g.O.Sink.faults l.initial.out ≤ g.O.Sink.faults l.out;

@@ -1,7 +1,7 @@
-use Rattle.std.proofs.Common.{rules, map, None, Some}
-use Rattle.ffc_solve.specs.Solving.{IsPaused, IsTaken}
+use Rattle.std.proofs.Common.{rules, map, None, Some, subst}
+use Rattle.ffc_solve.specs.Solving.{AnswersSoon, IsPaused, IsTaken}
 use Rattle.ffc_solve.proofs.ArgumentLemmas.{none_given}
-use Rattle.ffc_solve.proofs.EndingLemmas.{ends_as, ends_memory, planned}
+use Rattle.ffc_solve.proofs.EndingLemmas.{ends_as, ends_memory, planned, taken_none, told_if}
 use Rattle.ffc_solve.proofs.ListLemmas.{between}
 use Rattle.ffc_solve.proofs.PausedLemmas.{paused_under}
 use Rattle.ffc_solve.proofs.solve.solve_main.Goals as goal
@@ -47,5 +47,18 @@ returns-clause-ends g c = λ accepted read write cert bytes script.
 pub returns-in-None-clause-paused : goal.returns-in-None-clause-paused
 returns-in-None-clause-paused g c =
     paused_under (map (λ w. w.now) c.args.words.now) c.in-Ok.plan c.answer_script.result c.status_of.result (g.S.Source.left c.args.script.now)
-    (λ text b. IsTaken text b (g.S.Source.left c.answer_script.new.script)) (λ steps text. IsPaused steps text (between (g.C.Sink.holds c.args.cert.now) (g.C.Sink.holds c.answer_script.new.cert)) (between (g.O.Sink.holds c.args.out.now) (g.O.Sink.holds c.answer_script.new.out)))
+    (λ text b. IsTaken text b (g.S.Source.left c.answer_script.new.script)) (λ task text. IsPaused task text (between (g.C.Sink.holds c.args.cert.now) (g.C.Sink.holds c.answer_script.new.cert)) (between (g.O.Sink.holds c.args.out.now) (g.O.Sink.holds c.answer_script.new.out)))
     c.in-Ok.ensures.plan c.status_of.ensures c.answer_script.ensures.paused
+
+pub returns-in-Err-Usage-clause-taken : goal.returns-in-Err-Usage-clause-taken
+returns-in-Err-Usage-clause-taken g c = taken_none _ _ _ _
+
+pub returns-in-Err-Memory-clause-taken : goal.returns-in-Err-Memory-clause-taken
+returns-in-Err-Memory-clause-taken g c = taken_none _ _ _ _
+
+pub returns-in-None-clause-taken : goal.returns-in-None-clause-taken
+returns-in-None-clause-taken g c =
+    let words = map (λ w. w.now) c.args.words.now in
+    let cert = between (g.C.Sink.holds c.args.cert.now) (g.C.Sink.holds c.answer_script.new.cert) in
+    let out = between (g.O.Sink.holds c.args.out.now) (g.O.Sink.holds c.answer_script.new.out) in
+    told_if (g.S.Source.left c.args.script.now) _ _ (λ b h. (h.0, h.1, h.2, subst (λ bits. AnswersSoon bits h.0 cert out) c.in-Ok.ensures.plan.bits h.3)) c.answer_script.ensures.taken

@@ -1,9 +1,9 @@
-use Rattle.std.proofs.Common.{unwrap_or, option_map, ◌≡◌, true, [], map, codes, refl, sym, ap, ◌∙◌, subst}
+use Rattle.std.proofs.Common.{unwrap_or, option_map, ◌≡◌, true, false, [], map, codes, refl, sym, ap, ◌∙◌, subst}
 use Rattle.std.specs.Str.Parse.{ParsesUnsigned, ExplainsUnsignedError, HasUnsignedDigitsIfOk}
 use Rattle.clap.specs.Words.{fault_of, first_of, found_of, HasKind, is_simple, is_simple_and_free, matches_of, one_of}
 use Rattle.clap.proofs.OnLiterals.{clap_on_literals}
 use Rattle.clap.proofs.WalkLemmas.{first_value-rows, one_text-rows}
-use Rattle.ffc_solve.specs.Arguments.{IsInRange, number_read, solve_app}
+use Rattle.ffc_solve.specs.Arguments.{IsInRange, is_set, number_read, solve_app}
 use Rattle.ffc_solve.proofs.ArgumentLemmas.{not_taken, one_number, range_or}
 use Rattle.ffc_solve.proofs.GivenLemmas.{make_passes, steps_pass}
 use Rattle.ffc_solve.proofs.arguments.Plan.read.Goals as goal
@@ -39,6 +39,7 @@ returns-clause-plan c =
       cert = c.in_ok-from_str.ensures.ok ∙ c.text_in-name.ensures ∙ ap (λ o. unwrap_or o []) (first_value-rows f (codes "cert") ∙ ap (first_of (codes "cert")) rows);
       steps = c.unwrap_or.ensures ∙ ap (λ o. unwrap_or o 1000000) (steps.is ∙ ap (option_map number_read) (one_text-rows f (codes "steps") ∙ ap (one_of (codes "steps")) rows));
       make = make.is ∙ ap (option_map number_read) (one_text-rows f (codes "make") ∙ ap (one_of (codes "make")) rows);
+      bits = c.has_flag.ensures ∙ ap (λ o. unwrap_or (option_map is_set o) false) (first_value-rows f (codes "bits") ∙ ap (first_of (codes "bits")) rows);
       steps_in = subst (IsInRange 1000000000000) (sym c.unwrap_or.ensures) (range_or c.get_one-steps.result steps.within);
       make_in = make.within;
     }

@@ -8,7 +8,7 @@ returns-clause-ok g c = (
   c.entry-entry.ensures,
   record {
     reader = refl;
-    steps = refl;
+    task = refl;
     taken = refl;
     tally = c.count-self.ensures;
     last = record { entry = c.entry-entry.result; fresh = true; core = c.in_ok-core.core; asked = c.args.asked };
