@@ -95,7 +95,8 @@ impl Lines<'_> {
     }
 }
 
-/// Writes a line for each check, with the answers that the script asked for after it, and the totals.
+/// Writes a line for each check, with the answers that the script asked for after it, and the totals. The certificate is an
+/// accepted one, of any version.
 pub fn write_lines(
     alloc: Global,
     explains: bool,
@@ -104,7 +105,7 @@ pub fn write_lines(
     answers: &Answers,
 ) -> Result<Vec<u8>, AllocError> {
     let mut page = Page::new(alloc);
-    let mut entries = CertReader::new(alloc, ALL_ENTRIES);
+    let mut entries = CertReader::new(alloc, ALL_ENTRIES, true);
     let Ok(mut walk) = Walk::new(alloc, script) else {
         return Err(AllocError);
     };

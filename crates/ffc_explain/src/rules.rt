@@ -15,7 +15,7 @@ pub fn form_name(code: u64) -> &'static str {
 /// What a fault of form says, by its code.
 pub fn form_sentence(code: u64) -> &'static str {
     match code {
-        1 => "line 1 is neither `ffcert 1` nor `ffcert 2`",
+        1 => "line 1 is neither `ffcert 1` nor `ffcert 2`, nor, with `--bits`, `ffcert 3`",
         2 => "no line of this form may come there",
         3 => "a number has a leading zero or is out of its range",
         4 => "the text ends before this line or this entry does",
@@ -39,6 +39,7 @@ pub fn rule_name(rule: u64) -> &'static str {
         10 => "enumeration",
         11 => "limit",
         12 => "reference",
+        13 => "bits",
         _ => "another rule",
     }
 }
@@ -61,6 +62,8 @@ pub fn rule_sentence(rule: u64) -> &'static str {
         10 => "under each assignment something active is false",
         11 => "sizes are within the limits",
         12 => "what a line refers to is there",
+        13 =>
+            "a line of bits is a sum that stays between minus the order and the order, each of its variables is shown to be 0 or 1, and where the polynomial is not 0 the sum cannot be 0",
         _ => "a rule that has no name here",
     }
 }

@@ -3,7 +3,7 @@ use crate::expanding::difference_of;
 use crate::names::{Names, write_residue};
 use crate::page::Page;
 use crate::polynomials::{Polynomial, product, write_polynomial, write_variable};
-use ffc_cert::{CertLine, Literal, Multiple};
+use ffc_cert::{CertLine, Literal, Multiple, Term};
 use ffc_term::Node;
 
 /// How many spaces at most stand before a line for the branches that it is in.
@@ -202,6 +202,28 @@ impl<'a> Tree<'a> {
         page.text(if multiples.is_empty() { "0\n" } else { "\n" });
     }
 
+    /// Adds a polynomial that is 0 wherever the line of this number is, which is a sum of bits.
+    fn follow_from_bits(&mut self, sum: u32, polynomial: &[Term], page: &mut Page) {
+        let line = Polynomial::of_terms(self.names.alloc, self.order, polynomial);
+        let constant = match &line {
+            Some(line) => line.as_constant(),
+            None => None,
+        };
+        self.add_line(line, page);
+        if constant == Some(0) {
+            page.text("\n");
+            return;
+        }
+        page.text(", since line ");
+        page.number(u64::from(sum));
+        page.text(" is a sum of bits that cannot be 0");
+        page.text(if constant.is_some() {
+            "\n"
+        } else {
+            " otherwise\n"
+        });
+    }
+
     /// Takes a step of a chain; the last one gives the chain's line.
     fn step(&mut self, remainder: &[u64], page: &mut Page) {
         let Some(chain) = self.chain else {
@@ -308,6 +330,9 @@ impl<'a> Tree<'a> {
     pub(crate) fn explain(&mut self, line: &CertLine, page: &mut Page) {
         match line {
             CertLine::Combine(multiples) => self.combine(multiples.as_slice(), page),
+            CertLine::Bits(sum, _, polynomial, _) => {
+                self.follow_from_bits(*sum, polynomial.as_slice(), page);
+            }
             CertLine::Chain(line, variable, steps) => {
                 self.chain = Some(Chain {
                     line: *line,

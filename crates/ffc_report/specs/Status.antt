@@ -1,5 +1,5 @@
 -- The statuses of a report.
-use Rattle.std.specs.Prelude.{◌≡◌, ℕ, Option, Some, None}
+use Rattle.std.specs.Prelude.{ℕ, Option, Some, None}
 use Rattle.ffc_report.specs.declared.statuses.ReportStatus.{ReportStatus}
 use Rattle.ffc_report.specs.declared.statuses.ReportStatus.TheVariants.{Decided, Undecided, ScriptFault, Usage, ReadFault, WriteFault, CertFault, Memory}
 use Rattle.ffc_report.specs.declared.statuses.ReportStatus.TheVariants.{CertRefused, CheckUsage, CheckScriptFault, CheckReadFault, CheckCertFault, CheckWriteFault, CheckMemory}

@@ -19,6 +19,8 @@ pub struct Request<'a> {
     pub cert: Option<&'a str>,
     /// A certificate that is judged in place of solving.
     pub judge: Option<&'a str>,
+    /// Whether certificates of version 3 are written and read.
+    pub bits: bool,
     pub explains: bool,
     pub is_quiet: bool,
 }
@@ -96,6 +98,11 @@ fn command<'a>(alloc: Global, after: &'a str) -> Result<Command<'a>, AllocError>
         .arg(steps_argument(alloc))?
         .arg(cert)?
         .arg(judge.conflicts_with("cert")?.conflicts_with("steps")?)?
+        .arg(flag(
+            alloc,
+            "bits",
+            "Reason about bits as integers, with certificates of version 3",
+        ))?
         .arg(flag(alloc, "explain", "Explain each answer in words"))?
         .arg(flag(alloc, "quiet", "Print errors alone"))
 }
@@ -107,6 +114,7 @@ fn request_of<'a>(matches: &ArgMatches<'a>) -> Request<'a> {
         steps: matches.get_str("steps").unwrap_or(DEFAULT_STEPS),
         cert: matches.get_str("cert"),
         judge: matches.get_str("judge"),
+        bits: matches.get_flag("bits"),
         explains: matches.get_flag("explain"),
         is_quiet: matches.get_flag("quiet"),
     }

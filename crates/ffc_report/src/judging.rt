@@ -1,5 +1,6 @@
 //! A certificate judged for a script, both in memory.
-ghost use Rattle.std.specs.Prelude.{◌≡◌, IfOk};
+ghost use Rattle.std.specs.Prelude.{◌≡◌, map, IfOk};
+ghost use Rattle.ffc_verify.specs.Arguments.{wants_bits};
 ghost use Rattle.ffc_report.specs.Decided.{EndsInZero, IsDecided};
 
 use ffc_base::{SureSink, SureSource};
@@ -52,22 +53,41 @@ fn source_of(alloc: Global, bytes: &[u8]) -> Result<SureSource, AllocError>
     Ok(SureSource::new(Vec::from_slice(alloc, bytes)?))
 }
 
-/// Judges a certificate for a script, as `ffcheck` does.
-pub(crate) fn judge_in_memory(
+/// Judges a certificate for a script, as `ffcheck` does with these arguments.
+fn judge_with(
     alloc: Global,
+    words: &[&str],
     script: &[u8],
     certificate: &[u8],
 ) -> Result<Judged, AllocError>
-    ensures { IfOk result (λ judged. judged.verdict ≡ Verdict.Decided → IsDecided script.now certificate.now) }
+    ensures { IfOk result (λ judged. judged.verdict ≡ Verdict.Decided
+        → IsDecided (wants_bits (map (λ w. w.now) words.now)) script.now certificate.now) }
 {
     let mut source = source_of(alloc, script)?;
     let mut cert = source_of(alloc, certificate)?;
     let mut out = SureSink::new(Vec::new(alloc));
-    let words = ["ffcheck", "certificate"];
-    let status = check_main(alloc, words.as_slice(), &mut source, &mut cert, &mut out);
+    let status = check_main(alloc, words, &mut source, &mut cert, &mut out);
     let verdict = verdict_of(status, out.bytes());
     Ok(Judged {
         verdict,
         line: out.bytes().to_vec(alloc)?,
     })
+}
+
+/// Judges a certificate for a script, as `ffcheck` does; one of version 3 only with bits.
+pub(crate) fn judge_in_memory(
+    alloc: Global,
+    bits: bool,
+    script: &[u8],
+    certificate: &[u8],
+) -> Result<Judged, AllocError>
+    ensures { IfOk result (λ judged. judged.verdict ≡ Verdict.Decided → IsDecided bits script.now certificate.now) }
+{
+    if bits {
+        let words = ["ffcheck", "certificate", "--bits"];
+        judge_with(alloc, words.as_slice(), script, certificate)
+    } else {
+        let words = ["ffcheck", "certificate"];
+        judge_with(alloc, words.as_slice(), script, certificate)
+    }
 }

@@ -17,6 +17,8 @@ pub struct Task<'a> {
     pub cert_name: &'a str,
     /// The units of work that a check may take, in decimal.
     pub steps: &'a str,
+    /// Whether certificates of version 3 are written and read.
+    pub bits: bool,
     /// Whether the entries are explained.
     pub explains: bool,
 }
@@ -137,9 +139,9 @@ fn judged_report(
     answers: &Answers,
     certificate: Vec<u8>,
 ) -> Report
-    ensures { result.status ≡ ReportStatus.Decided → IsDecided script.now result.certificate.items }
+    ensures { result.status ≡ ReportStatus.Decided → IsDecided task.now.bits script.now result.certificate.items }
 {
-    let judged = match judge_in_memory(alloc, script, certificate.as_slice()) {
+    let judged = match judge_in_memory(alloc, task.bits, script, certificate.as_slice()) {
         Ok(judged) => judged,
         Err(_) => return stopped(alloc, task, script, ReportStatus::CheckMemory),
     };
@@ -172,9 +174,9 @@ fn judged_report(
 /// All is in memory: three copies of the script at most, and two of the certificate. What is reported of checks is written once
 /// the whole certificate is judged, since only then each is known to be checked.
 pub fn report_script(alloc: Global, task: &Task<'_>, script: &[u8]) -> Report
-    ensures { result.status ≡ ReportStatus.Decided → IsDecided script.now result.certificate.items }
+    ensures { result.status ≡ ReportStatus.Decided → IsDecided task.now.bits script.now result.certificate.items }
 {
-    match solve_in_memory(alloc, script, task.steps) {
+    match solve_in_memory(alloc, script, task.steps, task.bits) {
         Ok(
             Solved {
                 answers,
@@ -192,7 +194,7 @@ pub fn report_certificate(
     script: &[u8],
     certificate: Vec<u8>,
 ) -> Report
-    ensures { result.status ≡ ReportStatus.Decided → IsDecided script.now result.certificate.items }
+    ensures { result.status ≡ ReportStatus.Decided → IsDecided task.now.bits script.now result.certificate.items }
 {
     let answers = Answers::new(alloc);
     judged_report(alloc, task, script, &answers, certificate)

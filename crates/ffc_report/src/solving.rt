@@ -25,25 +25,29 @@ impl From<AllocError> for ReportStatus {
     }
 }
 
-/// Solves a script, as `ffsolve` does, with so many units for each check.
+/// Solves a script, as `ffsolve` does, with so many units for each check, and with a certificate of version 3 where bits are
+/// asked for.
 pub(crate) fn solve_in_memory(
     alloc: Global,
     script: &[u8],
     steps: &str,
+    bits: bool,
 ) -> Result<Solved, ReportStatus>
     ensures { IfErr result IsNotDecided }
 {
     let mut script = SureSource::new(script.to_vec(alloc)?);
     let mut answers = Answers::new(alloc);
     let mut cert = SureSink::new(Vec::new(alloc));
-    let words = ["ffsolve", "--cert", "certificate", "--steps", steps];
-    let status = solve_main(
-        alloc,
-        words.as_slice(),
-        &mut script,
-        &mut answers,
-        &mut cert,
-    );
+    let words = [
+        "ffsolve",
+        "--cert",
+        "certificate",
+        "--steps",
+        steps,
+        "--bits",
+    ];
+    let count = if bits { words.len() } else { words.len() - 1 };
+    let status = solve_main(alloc, &words[..count], &mut script, &mut answers, &mut cert);
     match status_of_solver(status) {
         Some(stopped) => Err(stopped),
         None => Ok(Solved {

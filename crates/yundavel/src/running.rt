@@ -141,6 +141,7 @@ fn task_of<'a>(request: &Request<'a>) -> Task<'a> {
             None => "certificate",
         },
         steps: request.steps,
+        bits: request.bits,
         explains: request.explains,
     }
 }
