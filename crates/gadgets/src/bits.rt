@@ -2,21 +2,21 @@
 use crate::script::Part;
 
 /// Bits a.
-const BITS_A: Part = Part::Each(
+pub const BITS_A: Part = Part::Each(
     "(declare-const a{i} F)
 (assert (= (ff.mul a{i} a{i}) a{i}))
 ",
 );
 
 /// Bits b.
-const BITS_B: Part = Part::Each(
+pub const BITS_B: Part = Part::Each(
     "(declare-const b{i} F)
 (assert (= (ff.mul b{i} b{i}) b{i}))
 ",
 );
 
 /// The sum s of no bits.
-const NO_SUM: Part = Part::Once(
+pub const NO_SUM: Part = Part::Once(
     "(declare-const s0 F)
 (assert (= s0 (as ff0 F)))
 ",
@@ -30,21 +30,21 @@ const SUM_OF_B: Part = Part::Each(
 );
 
 /// The sum s of one more of the bits a.
-const SUM_OF_A: Part = Part::Each(
+pub const SUM_OF_A: Part = Part::Each(
     "(declare-const s{i+1} F)
 (assert (= s{i+1} (ff.add s{i} (ff.mul (as ff{2^i} F) a{i}))))
 ",
 );
 
 /// The sum t of no bits.
-const NO_OTHER_SUM: Part = Part::Once(
+pub const NO_OTHER_SUM: Part = Part::Once(
     "(declare-const t0 F)
 (assert (= t0 (as ff0 F)))
 ",
 );
 
 /// The sum t of one more of the bits b.
-const OTHER_SUM_OF_B: Part = Part::Each(
+pub const OTHER_SUM_OF_B: Part = Part::Each(
     "(declare-const t{i+1} F)
 (assert (= t{i+1} (ff.add t{i} (ff.mul (as ff{2^i} F) b{i}))))
 ",

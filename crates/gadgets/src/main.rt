@@ -5,11 +5,14 @@
 
 mod bits;
 mod choices;
+mod comparing;
 mod families;
+mod gates;
 mod linear;
 mod rounds;
 mod script;
 mod tests_for_zero;
+mod words;
 
 use std::{env, io};
 

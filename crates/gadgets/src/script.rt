@@ -1,17 +1,20 @@
 //! Scripts as parts, whose texts have numbers in braces.
 use std::io;
 
-/// A text, and for which numbers below the size it is printed.
+/// A text, and for which numbers it is printed: those below the size, one more, or those below its double or fourfold.
 #[derive(Clone, Copy)]
 pub enum Part {
     Once(&'static str),
     Each(&'static str),
+    OneMore(&'static str),
+    Twice(&'static str),
+    FourTimes(&'static str),
     AllButLast(&'static str),
     Last(&'static str),
 }
 
 /// What may stand in braces, for the number i and the size n.
-const NAMES: [&str; 16] = [
+const NAMES: [&str; 24] = [
     "i",
     "i+1",
     "i+2",
@@ -24,9 +27,17 @@ const NAMES: [&str; 16] = [
     "3i+4",
     "3i+5",
     "n",
+    "n+1",
+    "2n",
     "3n",
+    "4n",
+    "n+i",
+    "2n+i",
+    "3n+i",
     "2^n",
     "2^n-1",
+    "2^(2n)",
+    "2^(3n)",
     "n(n+5)/2+1",
 ];
 
@@ -42,7 +53,7 @@ fn power_of_two(i: u32) -> u64 {
 /// The number that stands for a name.
 fn value(name: &str, i: u32, size: u32) -> u64 {
     let (j, n) = (u64::from(i), u64::from(size));
-    let (power, greatest) = (power_of_two(i), power_of_two(size));
+    let (power, after) = (power_of_two(i), power_of_two(size));
     let values = [
         j,
         j + 1,
@@ -56,9 +67,17 @@ fn value(name: &str, i: u32, size: u32) -> u64 {
         3 * j + 4,
         3 * j + 5,
         n,
+        n + 1,
+        2 * n,
         3 * n,
-        greatest,
-        greatest.wrapping_sub(1),
+        4 * n,
+        n + j,
+        2 * n + j,
+        3 * n + j,
+        after,
+        after.wrapping_sub(1),
+        after.wrapping_mul(after),
+        after.wrapping_mul(after).wrapping_mul(after),
         n.wrapping_mul(n + 5) / 2 + 1,
     ];
     for (known, value) in NAMES.into_iter().zip(values) {
@@ -86,6 +105,9 @@ pub fn print<R: Print>(rt: &R, parts: &[Part], size: u32) -> io::Result<()> {
         let (text, first, end) = match *part {
             Part::Once(text) => (text, 0, 1),
             Part::Each(text) => (text, 0, size),
+            Part::OneMore(text) => (text, 0, size.saturating_add(1)),
+            Part::Twice(text) => (text, 0, size.saturating_mul(2)),
+            Part::FourTimes(text) => (text, 0, size.saturating_mul(4)),
             Part::AllButLast(text) => (text, 0, size.saturating_sub(1)),
             Part::Last(text) => (text, size.saturating_sub(1), size),
         };
