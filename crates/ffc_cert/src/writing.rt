@@ -1,12 +1,13 @@
 //! The writer of entries.
 ghost use Rattle.std.specs.Prelude.{◌≡◌, ◌<◌, ◌-◌, ◌^◌, ◌++◌, ◌⊎◌, length, min, OnOk, OnErr};
 ghost use Rattle.ffc_cert.specs.Spelling.{order_item, line_items, line_text, value_line, cause_items, clauses};
-ghost use Rattle.ffc_cert.specs.Spelling.{entry_text};
+ghost use Rattle.ffc_cert.specs.Spelling.{counted, entry_text, number, term};
 ghost use Rattle.ffc_cert.specs.WellFormed.{FitsVersion};
 ghost use Rattle.std.specs.List.{flat_map};
 ghost use Rattle.ffc_cert.specs.Extending.{Extends};
 
-use crate::entries::{Cause, CertLine, Entry};
+use crate::entries::{Cause, CertLine, Entry, Term};
+use crate::sequences::Sequence;
 use crate::spelled::{Spelled, number_len, write_number};
 use std::alloc::{AllocError, Global};
 
@@ -19,6 +20,25 @@ fn write_order(order: Option<u64>, out: &mut Vec<u8>) -> Result<(), AllocError>
         None => Ok(()),
         Some(order) => order.write(out),
     }
+}
+
+/// Appends what follows the letter of a line of bits.
+#[tactic(auto, using(crate::proofs::Appending::appending))]
+fn write_bits(
+    line: u32,
+    chosen: &Sequence<u32>,
+    polynomial: &Sequence<Term>,
+    bits: &Sequence<u32>,
+    out: &mut Vec<u8>,
+) -> Result<(), AllocError>
+    ensures ok { OnOk result (out.new.items ≡ out.old.items ++ number line ++ counted number chosen.now
+        ++ counted term polynomial.now ++ counted number bits.now) }
+    ensures err { OnErr result (Extends out.old.items out.new.items) }
+{
+    line.write(out)?;
+    chosen.write(out)?;
+    polynomial.write(out)?;
+    bits.write(out)
 }
 
 /// Appends a line without its LF.
@@ -54,10 +74,7 @@ fn write_items(line: &CertLine, out: &mut Vec<u8>) -> Result<(), AllocError>
         }
         CertLine::Bits(line, chosen, polynomial, bits) => {
             out.push(b'b')?;
-            line.write(out)?;
-            chosen.write(out)?;
-            polynomial.write(out)?;
-            bits.write(out)
+            write_bits(*line, chosen, polynomial, bits, out)
         }
         CertLine::Chain(line, variable, steps) => {
             out.push(b'p')?;
@@ -81,10 +98,7 @@ fn write_items(line: &CertLine, out: &mut Vec<u8>) -> Result<(), AllocError>
             variable.write(out)?;
             trees.write(out)
         }
-        CertLine::Close => {
-            out.push(b'z')?;
-            Ok(())
-        }
+        CertLine::Close => Ok(out.push(b'z')?),
     }
 }
 
