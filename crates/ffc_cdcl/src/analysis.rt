@@ -2,62 +2,26 @@
 //! Moskewicz and Malik 2001), with the hints by which it follows.
 use crate::answer::Hint;
 use crate::literal::Lit;
+use crate::pace::KEPT_LBD;
 use crate::packed::Packed;
 use crate::search::Search;
 use ffc_term::NodeId;
-use std::alloc::{AllocError, Global};
-use std::mem;
+use std::alloc::AllocError;
 
-/// What a conflict teaches.
-#[derive(Drop)]
-pub struct Lesson {
-    /// Its first literal is true from then on, and the second one has the level to go back to.
-    pub clause: Vec<Lit>,
-    pub hints: Vec<Hint>,
+/// Where a lesson leads.
+#[derive(Clone, Copy)]
+pub struct Turn {
+    /// The level to go back to.
     pub level: u32,
-    /// Its literal block distance.
+    /// The literal block distance of the clause.
     pub lbd: u32,
 }
 
-/// A resolution that is under way.
-#[derive(Drop)]
-struct Resolution {
-    level: u32,
-    /// How many marked literals of the level are still to be resolved.
-    open: usize,
-    marked: Vec<NodeId>,
-    /// Literals of lower levels.
-    clause: Vec<Lit>,
-    units: Vec<Hint>,
-    /// The clauses of resolved literals, the last of the trail first.
-    reasons: Vec<Hint>,
-}
-
-impl Resolution {
-    fn new(alloc: Global, level: u32) -> Self {
-        Resolution {
-            level,
-            open: 0,
-            marked: Vec::new(alloc),
-            clause: Vec::new(alloc),
-            units: Vec::new(alloc),
-            reasons: Vec::new(alloc),
-        }
+/// Clears the mark of a node.
+fn clear_at(marks: &mut [bool], node: NodeId) {
+    if (node as usize) < marks.len() {
+        marks[node as usize] = false;
     }
-}
-
-/// How many different numbers a list has.
-fn count_different(numbers: &mut Vec<u32>) -> u32 {
-    numbers.sort_unstable();
-    let mut count = 0u32;
-    let mut last = None;
-    for number in numbers.iter() {
-        if last != Some(*number) {
-            count = count.saturating_add(1);
-            last = Some(*number);
-        }
-    }
-    count
 }
 
 impl Search {
@@ -71,15 +35,26 @@ impl Search {
     }
 
     #[inline(always)]
-    fn is_marked(&self, node: NodeId) -> bool {
+    pub fn is_marked(&self, node: NodeId) -> bool {
         (node as usize) < self.marks.len() && self.marks[node as usize]
     }
 
+    /// Marks a node until the marks of the lesson are cleared.
     #[inline(always)]
-    fn set_mark(&mut self, node: NodeId, mark: bool) {
+    pub fn mark(&mut self, node: NodeId) -> Result<(), AllocError> {
+        self.lesson.marked.push(node)?;
         if (node as usize) < self.marks.len() {
-            self.marks[node as usize] = mark;
+            self.marks[node as usize] = true;
         }
+        Ok(())
+    }
+
+    /// Clears the marks of the nodes that were marked after so many.
+    pub fn clear_marks(&mut self, kept: usize) {
+        for node in self.lesson.marked.as_slice().iter().skip(kept) {
+            clear_at(self.marks.as_mut_slice(), *node);
+        }
+        self.lesson.marked.truncate(kept);
     }
 
     /// The clause of one literal for a node of level 0.
@@ -97,25 +72,60 @@ impl Search {
         }
     }
 
-    /// The hints by which one literal of a clause follows, or none, where the others are false at level 0.
-    pub fn unit_hints(&self, left: Option<Lit>, clause: u32) -> Result<Vec<Hint>, AllocError> {
-        let mut hints = Vec::new(self.alloc);
-        for word in self.arena.literals_of(clause) {
-            let literal = Packed(*word).literal();
+    /// Puts into the lesson the hints by which one literal of a clause follows, or none, where the others are false at level 0.
+    pub fn hint_units(&mut self, left: Option<Lit>, clause: u32) -> Result<(), AllocError> {
+        self.lesson.hints.truncate(0);
+        let (start, end) = self.arena.span_of(clause);
+        for k in start..end {
+            let literal = self.arena.literal_at(k);
             let is_left = match left {
                 Some(other) => other.is_same(literal),
                 None => false,
             };
             if !is_left {
                 if let Some(unit) = self.unit_of(literal.node) {
-                    hints.push(unit)?;
+                    self.lesson.hints.push(unit)?;
                 }
             }
         }
         if let Some(hint) = self.arena.hint(clause) {
-            hints.push(hint)?;
+            self.lesson.hints.push(hint)?;
         }
-        Ok(hints)
+        Ok(())
+    }
+
+    /// Whether one of these literals in the buffer is of level 0.
+    fn has_settled(&self, start: usize, end: usize) -> bool {
+        for k in start..end {
+            if self.level_of(self.arena.literal_at(k)) == 0 {
+                return true;
+            }
+        }
+        false
+    }
+
+    /// Puts into the lesson what is left of a clause without its literals of level 0, with the hints by which that follows, and
+    /// gives the clause's literal block distance; None where it has no such literal.
+    pub fn shortened(&mut self, clause: u32) -> Result<Option<u32>, AllocError> {
+        let (start, end) = self.arena.span_of(clause);
+        if !self.has_settled(start, end) {
+            return Ok(None);
+        }
+        self.lesson.shorter.truncate(0);
+        self.lesson.hints.truncate(0);
+        for k in start..end {
+            let literal = self.arena.literal_at(k);
+            if self.level_of(literal) > 0 {
+                self.lesson.shorter.push(literal)?;
+            } else if let Some(unit) = self.unit_of(literal.node) {
+                self.lesson.hints.push(unit)?;
+            }
+        }
+        let Some(record) = self.arena.record(clause) else {
+            return Ok(None);
+        };
+        self.lesson.hints.push(record.hint)?;
+        Ok(Some(record.lbd))
     }
 
     /// The highest level of a clause's literals.
@@ -127,66 +137,6 @@ impl Search {
         highest
     }
 
-    /// Takes a literal into a resolution.
-    fn take_literal(
-        &mut self,
-        resolution: &mut Resolution,
-        literal: Lit,
-    ) -> Result<(), AllocError> {
-        let node = literal.node;
-        if self.is_marked(node) {
-            return Ok(());
-        }
-        resolution.marked.push(node)?;
-        self.set_mark(node, true);
-        self.order.bump(node);
-        let level = self.level_of(literal);
-        if level >= resolution.level {
-            resolution.open = resolution.open.saturating_add(1);
-        } else if level > 0 {
-            resolution.clause.push(literal)?;
-        } else if let Some(unit) = self.unit_of(node) {
-            resolution.units.push(unit)?;
-        }
-        Ok(())
-    }
-
-    /// Takes the literals of a clause into a resolution.
-    fn take_clause(&mut self, resolution: &mut Resolution, clause: u32) -> Result<(), AllocError> {
-        for k in 0..self.arena.literals_of(clause).len() {
-            if let Some(word) = self.arena.literals_of(clause).get(k).copied() {
-                self.take_literal(resolution, Packed(word).literal())?;
-            }
-        }
-        Ok(())
-    }
-
-    /// Resolves back along the trail until one literal of the level is left, and gives it.
-    fn resolve(&mut self, resolution: &mut Resolution) -> Result<Option<Lit>, AllocError> {
-        let count = self.trail.literals().len();
-        for k in 0..count {
-            let Some(literal) = self.trail.literals().get(count - 1 - k).copied() else {
-                return Ok(None);
-            };
-            if !self.is_marked(literal.node) {
-                continue;
-            }
-            if resolution.open <= 1 {
-                return Ok(Some(literal));
-            }
-            resolution.open -= 1;
-            let Some(reason) = self.reason_of(literal) else {
-                return Ok(None);
-            };
-            let Some(hint) = self.arena.hint(reason) else {
-                return Ok(None);
-            };
-            resolution.reasons.push(hint)?;
-            self.take_clause(resolution, reason)?;
-        }
-        Ok(None)
-    }
-
     /// The clause by which a literal was propagated.
     pub fn reason_of(&self, literal: Lit) -> Option<u32> {
         match self.trail.entry(literal.node) {
@@ -195,115 +145,145 @@ impl Search {
         }
     }
 
-    /// The clause by which a literal is left out, where all other literals of that clause are marked or of level 0.
-    fn reason_left_out(&self, literal: Lit) -> Option<u32> {
-        let reason = self.reason_of(literal)?;
-        for word in self.arena.literals_of(reason) {
-            let other = Packed(*word).literal();
-            if !self.is_marked(other.node) && self.level_of(other) > 0 {
-                return None;
-            }
-        }
-        Some(reason)
-    }
-
-    /// Leaves out the literals that follow from others, and gives the clauses by which they do, by the places of the literals on
-    /// the trail.
-    fn minimize(
-        &mut self,
-        resolution: &mut Resolution,
-    ) -> Result<(Vec<Lit>, Vec<(u32, u32)>), AllocError> {
-        let mut kept = Vec::new(self.alloc);
-        let mut left_out = Vec::new(self.alloc);
-        let clause = mem::replace(&mut resolution.clause, Vec::new(self.alloc));
-        for literal in clause.as_slice() {
-            let literal = *literal;
-            let Some(reason) = self.reason_left_out(literal) else {
-                kept.push(literal)?;
+    /// Takes the literals of a clause into the lesson. Gives how many of them have this level and were not marked before.
+    fn take_clause(&mut self, clause: u32, level: u32) -> Result<usize, AllocError> {
+        self.recount_levels(clause);
+        let mut open = 0usize;
+        let (start, end) = self.arena.span_of(clause);
+        for k in start..end {
+            let literal = self.arena.literal_at(k);
+            let own = self.level_of(literal);
+            if own == 0 || self.is_marked(literal.node) {
                 continue;
-            };
-            let position = match self.trail.entry(literal.node) {
-                Some(entry) => entry.position,
-                None => 0,
-            };
-            left_out.push((position, reason))?;
-            self.take_clause(resolution, reason)?;
-        }
-        left_out.sort_unstable();
-        Ok((kept, left_out))
-    }
-
-    /// The hints of a lesson: clauses of level 0, those of literals that were left out, those of resolved literals, each in the
-    /// order of propagation, and the conflict.
-    fn gather(
-        &self,
-        resolution: &Resolution,
-        left_out: &[(u32, u32)],
-        conflict: u32,
-    ) -> Result<Vec<Hint>, AllocError> {
-        let mut hints = Vec::new(self.alloc);
-        for unit in resolution.units.as_slice() {
-            hints.push(*unit)?;
-        }
-        for (_, reason) in left_out {
-            if let Some(hint) = self.arena.hint(*reason) {
-                hints.push(hint)?;
+            }
+            self.mark(literal.node)?;
+            self.order.bump(literal.node);
+            if own >= level {
+                open = open.saturating_add(1);
+            } else {
+                self.lesson.clause.push(literal)?;
             }
         }
-        for hint in resolution.reasons.as_slice().iter().rev() {
-            hints.push(*hint)?;
-        }
-        if let Some(hint) = self.arena.hint(conflict) {
-            hints.push(hint)?;
-        }
-        Ok(hints)
+        Ok(open)
     }
 
-    /// Puts a literal of the highest level second, and gives that level and how many levels there are.
-    fn arrange(&self, clause: &mut Vec<Lit>) -> Result<(u32, u32), AllocError> {
+    /// Resolves back along the trail until one literal of the level is left, and gives it.
+    fn resolve(&mut self, conflict: u32, level: u32) -> Result<Option<Lit>, AllocError> {
+        let mut open = self.take_clause(conflict, level)?;
+        let count = self.trail.literals().len();
+        for k in 0..count {
+            let Some(literal) = self.trail.literals().get(count - 1 - k).copied() else {
+                return Ok(None);
+            };
+            if !self.is_marked(literal.node) {
+                continue;
+            }
+            if open <= 1 {
+                return Ok(Some(literal));
+            }
+            let Some(reason) = self.reason_of(literal) else {
+                return Ok(None);
+            };
+            self.lesson.reasons.push(reason)?;
+            open = (open - 1).saturating_add(self.take_clause(reason, level)?);
+        }
+        Ok(None)
+    }
+
+    /// Gives the lesson its hints: none of the clauses by which it follows has a literal of level 0 any more.
+    pub fn gather(&mut self) -> Result<(), AllocError> {
+        self.lesson.hints.truncate(0);
+        for clause in self.lesson.sources.as_slice() {
+            if let Some(hint) = self.arena.hint(*clause) {
+                self.lesson.hints.push(hint)?;
+            }
+        }
+        Ok(())
+    }
+
+    /// Begins to count levels: none has the new stamp.
+    fn begin_stamps(&mut self) {
+        self.stamp = self.stamp.saturating_add(1);
+    }
+
+    /// Stamps a level, and gives 1 where it had no stamp yet.
+    #[inline(always)]
+    fn stamp_level(&mut self, level: u32) -> u32 {
+        let level = level as usize;
+        if level < self.stamps.len() && self.stamps[level] != self.stamp {
+            self.stamps[level] = self.stamp;
+            1
+        } else {
+            0
+        }
+    }
+
+    /// How many levels the literals of the lesson have.
+    fn count_levels(&mut self) -> u32 {
+        self.begin_stamps();
+        let mut count = 0u32;
+        for k in 0..self.lesson.clause.len() {
+            let Some(literal) = self.lesson.clause.as_slice().get(k).copied() else {
+                break;
+            };
+            count = count.saturating_add(self.stamp_level(self.level_of(literal)));
+        }
+        count
+    }
+
+    /// Counts the levels of a learned clause anew where it is used, and notes them where there are fewer than before (Audemard
+    /// and Simon 2009).
+    fn recount_levels(&mut self, clause: u32) {
+        let Some(record) = self.arena.record(clause) else {
+            return;
+        };
+        if record.lbd <= KEPT_LBD {
+            return;
+        }
+        self.begin_stamps();
+        let mut count = 0u32;
+        let (start, end) = self.arena.span_of(clause);
+        for k in start..end {
+            let level = self.level_of(self.arena.literal_at(k));
+            count = count.saturating_add(self.stamp_level(level));
+        }
+        if count < record.lbd {
+            self.arena.set_lbd(clause, count);
+        }
+    }
+
+    /// Puts a literal of the highest level second, and gives that level.
+    fn arrange(&mut self) -> u32 {
         let mut highest = 0;
         let mut place = 1;
-        let mut levels = Vec::new(self.alloc);
-        for k in 0..clause.len() {
-            let level = self.level_of(clause[k]);
-            levels.push(level)?;
-            if k > 0 && level > highest {
+        for k in 1..self.lesson.clause.len() {
+            let level = self.level_of(self.lesson.clause[k]);
+            if level > highest {
                 highest = level;
                 place = k;
             }
         }
-        if place < clause.len() && clause.len() > 1 {
-            clause.as_mut_slice().swap(1, place);
+        if place < self.lesson.clause.len() && self.lesson.clause.len() > 1 {
+            self.lesson.clause.as_mut_slice().swap(1, place);
         }
-        Ok((highest, count_different(&mut levels)))
+        highest
     }
 
-    /// Clears the marks of these nodes.
-    fn clear(&mut self, marked: &[NodeId]) {
-        for node in marked {
-            self.set_mark(*node, false);
-        }
-    }
-
-    /// What a conflict teaches whose highest level is the trail's.
-    pub fn analyze(&mut self, conflict: u32) -> Result<Option<Lesson>, AllocError> {
-        let mut resolution = Resolution::new(self.alloc, self.trail.level());
-        self.take_clause(&mut resolution, conflict)?;
-        let Some(point) = self.resolve(&mut resolution)? else {
+    /// Finds what a conflict teaches whose highest level is the trail's.
+    pub fn analyze(&mut self, conflict: u32) -> Result<Option<Turn>, AllocError> {
+        self.lesson.clear();
+        let level = self.trail.level();
+        let Some(point) = self.resolve(conflict, level)? else {
             return Ok(None);
         };
-        let (mut clause, left_out) = self.minimize(&mut resolution)?;
-        let hints = self.gather(&resolution, left_out.as_slice(), conflict)?;
-        self.clear(resolution.marked.as_slice());
-        let last = clause.len();
-        clause.push(point.negated())?;
-        clause.as_mut_slice().swap(0, last);
-        let (level, lbd) = self.arrange(&mut clause)?;
-        Ok(Some(Lesson {
-            clause,
-            hints,
-            level,
-            lbd,
-        }))
+        self.minimize()?;
+        self.clear_marks(0);
+        self.lesson.list_sources(conflict)?;
+        let last = self.lesson.clause.len();
+        self.lesson.clause.push(point.negated())?;
+        self.lesson.clause.as_mut_slice().swap(0, last);
+        let level = self.arrange();
+        let lbd = self.count_levels();
+        Ok(Some(Turn { level, lbd }))
     }
 }

@@ -15,7 +15,7 @@ const HEAD: usize = 2;
 pub struct Record {
     /// Where it lies in the buffer, and None where it was dropped.
     pub place: Option<u32>,
-    /// Its literal block distance when it was learned.
+    /// The least literal block distance that it was seen to have.
     pub lbd: u32,
     /// Which clause of the solver it is.
     pub hint: Hint,
@@ -28,6 +28,8 @@ pub struct Arena {
     /// Of each clause its length, its number and its literals, each a `Packed`.
     pub words: Vec<u32>,
     pub records: Vec<Record>,
+    /// The numbers of the clauses that are left, in increasing order, and since the last `compact` of those that were dropped.
+    pub live: Vec<u32>,
 }
 
 /// The literals of the clause at a place of a buffer.
@@ -49,6 +51,15 @@ fn span_in(words: &[u32], place: u32) -> Option<(usize, usize)>
     Some((start, end))
 }
 
+/// Writes literals over the first words.
+fn write_all(words: &mut [u32], literals: &[Lit]) {
+    for k in 0..literals.len() {
+        if k < words.len() {
+            words[k] = Packed::of(literals[k]).0;
+        }
+    }
+}
+
 impl Arena {
     /// No clauses. It takes no memory.
     pub fn new(alloc: Global) -> Self {
@@ -56,6 +67,7 @@ impl Arena {
             alloc,
             words: Vec::new(alloc),
             records: Vec::new(alloc),
+            live: Vec::new(alloc),
         }
     }
 
@@ -83,11 +95,6 @@ impl Arena {
         self.records.as_slice().get(clause as usize).copied()
     }
 
-    /// How many clauses there were, also those that were dropped.
-    pub fn count(&self) -> u32 {
-        u32::try_from(self.records.len()).unwrap_or(u32::MAX)
-    }
-
     /// Where a clause lies in the buffer, and None where it was dropped.
     #[inline(always)]
     pub fn place_of(&self, clause: u32) -> Option<u32> {
@@ -102,6 +109,24 @@ impl Arena {
         match self.span(place) {
             Some((start, end)) => &self.words[start..end],
             None => &[],
+        }
+    }
+
+    /// Where the literals of a clause lie in the buffer; nowhere, where it was dropped.
+    #[inline(always)]
+    pub fn span_of(&self, clause: u32) -> (usize, usize) {
+        match self.place_of(clause) {
+            Some(place) => self.span(place).unwrap_or((0, 0)),
+            None => (0, 0),
+        }
+    }
+
+    /// The literal at a place in the buffer.
+    #[inline(always)]
+    pub fn literal_at(&self, word: usize) -> Lit {
+        match self.words.as_slice().get(word) {
+            Some(word) => Packed(*word).literal(),
+            None => Packed(0).literal(),
         }
     }
 
@@ -137,13 +162,50 @@ impl Arena {
             lbd,
             hint,
         })?;
+        self.live.push(number)?;
         Ok((place, number))
+    }
+
+    fn set_length(&mut self, place: u32, length: u32) {
+        if (place as usize) < self.words.len() {
+            self.words[place as usize] = length;
+        }
+    }
+
+    fn set_hint(&mut self, clause: u32, hint: Hint) {
+        if (clause as usize) < self.records.len() {
+            self.records[clause as usize].hint = hint;
+        }
+    }
+
+    /// Notes in how many levels a clause has literals.
+    pub fn set_lbd(&mut self, clause: u32, lbd: u32) {
+        if (clause as usize) < self.records.len() {
+            self.records[clause as usize].lbd = lbd;
+        }
     }
 
     fn set_place(&mut self, clause: u32, place: Option<u32>) {
         if (clause as usize) < self.records.len() {
             self.records[clause as usize].place = place;
         }
+    }
+
+    /// Leaves fewer literals of a clause, which then is this clause of the solver.
+    pub fn shorten(&mut self, clause: u32, literals: &[Lit], hint: Hint) {
+        let (Some(place), Ok(length)) = (self.place_of(clause), u32::try_from(literals.len()))
+        else {
+            return;
+        };
+        let Some((start, end)) = self.span(place) else {
+            return;
+        };
+        if literals.len() > end - start {
+            return;
+        }
+        write_all(&mut self.words[start..end], literals);
+        self.set_length(place, length);
+        self.set_hint(clause, hint);
     }
 
     /// Drops a clause. Its literals stay in the buffer until `compact`.
@@ -166,10 +228,13 @@ impl Arena {
     /// Moves the clauses that were not dropped together, in the order of their numbers.
     pub fn compact(&mut self) -> Result<(), AllocError> {
         let words = mem::replace(&mut self.words, Vec::new(self.alloc));
-        for clause in 0..self.count() {
+        let live = mem::replace(&mut self.live, Vec::new(self.alloc));
+        for clause in live.as_slice() {
+            let clause = *clause;
             if let Some(place) = self.place_of(clause) {
                 let copied = self.copy_from(words.as_slice(), place)?;
                 self.set_place(clause, copied);
+                self.live.push(clause)?;
             }
         }
         Ok(())

@@ -4,7 +4,6 @@ ghost use Rattle.ffc_base.specs.Metering.{Metered};
 ghost use Rattle.ffc_cdcl.specs.State.{IsKept, SameClauses};
 ghost use Rattle.ffc_cdcl.specs.Steps.{IsRefutationBy};
 
-use crate::analysis::Lesson;
 use crate::answer::{Hint, HintedClause};
 use crate::literal::{Lit, Literals};
 use crate::search::Search;
@@ -26,8 +25,9 @@ impl Solver {
             search.set_unit(literal.node, hint);
             return Ok(());
         }
-        let hints = search.unit_hints(Some(literal), reason)?;
+        search.hint_units(Some(literal), reason)?;
         let hint = Hint::Step(self.learned.len() as u64);
+        let hints = search.lesson.hints.as_slice();
         if !self.learn(&mut search.walk, &[literal], hints, 0)? {
             return Err(SearchStop::GaveUp);
         }
@@ -52,6 +52,40 @@ impl Solver {
         Ok(())
     }
 
+    /// Learns what is left of a clause without its literals of level 0, and goes on with that in its place.
+    fn shorten(&mut self, search: &mut Search, clause: u32) -> Result<(), SearchStop>
+        ensures same { SameClauses self.old self.new }
+        ensures lemmas { self.new.lemmas ≡ self.old.lemmas }
+        ensures unmetered { ¬ (IsErrOf result SearchStop.Spent) }
+    {
+        let Some(lbd) = search.shortened(clause)? else {
+            return Ok(());
+        };
+        let hint = Hint::Step(self.learned.len() as u64);
+        let shorter = search.lesson.shorter.as_slice();
+        let hints = search.lesson.hints.as_slice();
+        if !self.learn(&mut search.walk, shorter, hints, lbd)? {
+            return Err(SearchStop::GaveUp);
+        }
+        search.arena.shorten(clause, shorter, hint);
+        Ok(())
+    }
+
+    /// Shortens the clauses by which the lesson follows.
+    fn shorten_all(&mut self, search: &mut Search) -> Result<(), SearchStop>
+        ensures same { SameClauses self.old self.new }
+        ensures lemmas { self.new.lemmas ≡ self.old.lemmas }
+        ensures unmetered { ¬ (IsErrOf result SearchStop.Spent) }
+    {
+        for k in 0..search.lesson.sources.len() {
+            let Some(clause) = search.lesson.sources.as_slice().get(k).copied() else {
+                break;
+            };
+            self.shorten(search, clause)?;
+        }
+        Ok(())
+    }
+
     /// Learns the empty clause from a clause that is false at level 0, and gives the steps to it.
     pub(crate) fn refute(
         &mut self,
@@ -64,7 +98,8 @@ impl Solver {
         ensures unmetered { ¬ (IsErrOf result SearchStop.Spent) }
     {
         self.derive_units(search)?;
-        let hints = search.unit_hints(None, conflict)?;
+        search.hint_units(None, conflict)?;
+        let hints = search.lesson.hints.as_slice();
         if !self.learn(&mut search.walk, &[], hints, 0)? {
             return Err(SearchStop::GaveUp);
         }
@@ -94,20 +129,18 @@ impl Solver {
         self.conflicts = self.conflicts.saturating_add(1);
         self.derive_units(search)?;
         search.backjump(level)?;
-        let Some(lesson) = search.analyze(conflict)? else {
+        let Some(turn) = search.analyze(conflict)? else {
             return Err(SearchStop::GaveUp);
         };
-        let Lesson {
-            clause,
-            hints,
-            level,
-            lbd,
-        } = lesson;
+        self.shorten_all(search)?;
+        search.gather()?;
         let hint = Hint::Step(self.learned.len() as u64);
-        if !self.learn(&mut search.walk, clause.as_slice(), hints, lbd)? {
+        let clause = search.lesson.clause.as_slice();
+        let hints = search.lesson.hints.as_slice();
+        if !self.learn(&mut search.walk, clause, hints, turn.lbd)? {
             return Err(SearchStop::GaveUp);
         }
-        search.follow(clause.as_slice(), hint, level, lbd, meter)?;
+        search.follow(hint, turn, meter)?;
         Ok(None)
     }
 

@@ -45,18 +45,35 @@ impl Search {
         Ok(Some(kept))
     }
 
+    /// Lets a clause watch its first two literals, where it has two.
+    fn watch(&mut self, place: u32, number: u32) -> Result<(), AllocError>
+        ensures { self.new.trail ≡ self.old.trail }
+    {
+        let literals = self.arena.literals_of(number);
+        if literals.len() < 2 {
+            self.short.push(number)?;
+            return Ok(());
+        }
+        self.watches.watch(literals, place, number)
+    }
+
     /// Adds a clause whose first two literals are to be watched.
     pub fn attach(&mut self, clause: &[Lit], hint: Hint, lbd: u32) -> Result<u32, AllocError>
         ensures { self.new.trail ≡ self.old.trail }
     {
         let (place, number) = self.arena.add(clause, hint, lbd)?;
         self.order.insert_all(clause)?;
-        if clause.len() < 2 {
-            self.short.push(number)?;
-            return Ok(number);
-        }
-        let literals = self.arena.literals_of(number);
-        self.watches.watch(literals, place, number)?;
+        self.watch(place, number)?;
+        Ok(number)
+    }
+
+    /// Adds the clause of the lesson.
+    pub fn attach_lesson(&mut self, hint: Hint, lbd: u32) -> Result<u32, AllocError>
+        ensures { self.new.trail ≡ self.old.trail }
+    {
+        let clause = self.lesson.clause.as_slice();
+        let (place, number) = self.arena.add(clause, hint, lbd)?;
+        self.watch(place, number)?;
         Ok(number)
     }
 
@@ -122,6 +139,7 @@ impl Solver {
     {
         if self.learned.len() > MOST_LEARNED {
             self.learned.truncate(0);
+            self.hints.truncate(0);
         }
     }
 }

@@ -9,7 +9,7 @@ use std::alloc::AllocError;
 const SHORTEST_RUN: u64 = 100;
 
 /// Clauses of at most so many levels are never dropped (Audemard and Simon 2009).
-const KEPT_LBD: u32 = 2;
+pub const KEPT_LBD: u32 = 2;
 
 /// By how many conflicts more than before learned clauses are kept until they are dropped again.
 const PAUSE_GROWTH: u64 = 50;
@@ -68,7 +68,8 @@ impl Search {
     /// The learned clauses that may be dropped, those of many levels and the older ones first.
     fn candidates(&self) -> Result<Vec<(u32, u32)>, AllocError> {
         let mut found = Vec::new(self.alloc);
-        for clause in 0..self.arena.count() {
+        for clause in self.arena.live.as_slice() {
+            let clause = *clause;
             if let Some(record) = self.arena.record(clause) {
                 if self.is_candidate(clause, &record) {
                     found.push((u32::MAX - record.lbd, clause))?;
@@ -83,7 +84,10 @@ impl Search {
     fn compact(&mut self) -> Result<(), AllocError> {
         self.arena.compact()?;
         self.watches.clear();
-        for clause in 0..self.arena.count() {
+        for k in 0..self.arena.live.len() {
+            let Some(clause) = self.arena.live.as_slice().get(k).copied() else {
+                break;
+            };
             if let Some(place) = self.arena.place_of(clause) {
                 let literals = self.arena.literals_of(clause);
                 self.watches.watch(literals, place, clause)?;

@@ -8,7 +8,7 @@ use crate::answer::{Hint, HintedClause};
 use crate::literal::{Lit, Literals};
 use crate::solver::{Learned, Solver};
 use crate::walk::Walk;
-use std::alloc::{AllocError, Global};
+use std::alloc::AllocError;
 
 /// Marks the clauses that these hints name.
 fn mark_all(marks: &mut [bool], hints: &[Hint]) {
@@ -21,23 +21,24 @@ fn mark_all(marks: &mut [bool], hints: &[Hint]) {
     }
 }
 
-/// Which of the learned clauses the last one reaches by hints.
-fn reached(alloc: Global, learned: &[Learned]) -> Result<Vec<bool>, AllocError> {
-    let mut marks = vec![in alloc; false; learned.len()]?;
-    let mut k = learned.len();
-    while k > 0 {
-        k -= 1;
-        if k + 1 == learned.len() && k < marks.len() {
-            marks[k] = true;
-        }
-        if k < marks.len() && marks[k] {
-            mark_all(marks.as_mut_slice(), learned[k].hints.as_slice());
-        }
-    }
-    Ok(marks)
-}
-
 impl Solver {
+    /// Which of the learned clauses the last one reaches by hints.
+    fn reached(&self) -> Result<Vec<bool>, AllocError> {
+        let learned = self.learned.as_slice();
+        let mut marks = vec![in self.alloc; false; learned.len()]?;
+        let mut k = learned.len();
+        while k > 0 {
+            k -= 1;
+            if k + 1 == learned.len() && k < marks.len() {
+                marks[k] = true;
+            }
+            if k < marks.len() && marks[k] {
+                mark_all(marks.as_mut_slice(), self.hints_of(&learned[k]));
+            }
+        }
+        Ok(marks)
+    }
+
     /// A hint with the numbers of an answer, and the clause that it names.
     fn translated<'a>(
         &'a self,
@@ -80,7 +81,7 @@ impl Solver {
     {
         let mut hints = Vec::new(self.alloc);
         walk.begin(learned.clause.as_slice())?;
-        for hint in learned.hints.as_slice() {
+        for hint in self.hints_of(learned) {
             let Some((named, clause)) = self.translated(*hint, steps, numbers) else {
                 return Ok(None);
             };
@@ -102,7 +103,7 @@ impl Solver {
         ensures { IfOk result
             (λ found. IfSome found (λ steps. IsRefutationBy (IsKept self.now.lemmas) self.now.added steps.items)) }
     {
-        let marks = reached(self.alloc, self.learned.as_slice())?;
+        let marks = self.reached()?;
         let mut numbers = vec![in self.alloc; 0; self.learned.len()]?;
         let mut steps: Vec<HintedClause> = Vec::new(self.alloc);
         for (k, learned) in self.learned.iter().enumerate() {

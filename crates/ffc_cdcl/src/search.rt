@@ -5,6 +5,7 @@ ghost use Rattle.ffc_cdcl.specs.Trails.{Pays};
 
 use crate::answer::Hint;
 use crate::arena::Arena;
+use crate::lesson::Lesson;
 use crate::order::Order;
 use crate::packed::Packed;
 use crate::trail::Trail;
@@ -23,6 +24,7 @@ pub struct Search {
     pub watches: Watches,
     pub order: Order,
     pub walk: Walk,
+    pub lesson: Lesson,
     /// Which value each node had last.
     pub phases: Vec<bool>,
     /// How many of the trail's literals were propagated.
@@ -35,6 +37,9 @@ pub struct Search {
     pub derived: usize,
     /// Marks of nodes or of literals, all of them clear between calls.
     pub marks: Vec<bool>,
+    /// Stamps on levels, of which the last is the greatest.
+    pub stamps: Vec<u64>,
+    pub stamp: u64,
     /// How many of the added clauses are known to be true, and how many were when each level began.
     pub cursor: usize,
     pub cursors: Vec<usize>,
@@ -86,12 +91,15 @@ impl Search {
             watches: Watches::new(alloc, count)?,
             order: Order::new(alloc, count)?,
             walk: Walk::new(alloc),
+            lesson: Lesson::new(alloc),
             phases: vec![in alloc; false; count]?,
             propagated: 0,
             short: Vec::new(alloc),
             units: vec![in alloc; None; count]?,
             derived: 0,
             marks: vec![in alloc; false; 2 * count]?,
+            stamps: vec![in alloc; 0; count.saturating_add(1)]?,
+            stamp: 0,
             cursor: 0,
             cursors: Vec::new(alloc),
             conflicts: 0,

@@ -14,7 +14,8 @@ use std::marker::Model;
 pub struct Learned {
     pub clause: Literals,
     pub base: usize,
-    pub hints: Vec<Hint>,
+    /// Where its hints begin and end among those of all learned clauses.
+    pub hints: (usize, usize),
     /// Its literal block distance: how many decision levels its literals had (Audemard and Simon 2009).
     pub lbd: u32,
 }
@@ -28,6 +29,8 @@ pub struct Solver {
     pub(crate) scopes: Vec<usize>,
     pub(crate) lemmas: Vec<(u64, Literals)>,
     pub(crate) learned: Vec<Learned>,
+    /// The hints of all learned clauses, one after another.
+    pub(crate) hints: Vec<Hint>,
     /// How many conflicts there were in all calls.
     pub(crate) conflicts: u64,
 }
@@ -64,6 +67,14 @@ fn resting_on(learned: &[Learned], base: usize) -> usize
     learned.len()
 }
 
+/// Where the hints of the last learned clause end.
+fn end_of_hints(learned: &[Learned]) -> usize {
+    match learned.last() {
+        Some(last) => last.hints.1,
+        None => 0,
+    }
+}
+
 impl Solver {
     /// A solver over the nodes below this number, with no clauses.
     pub fn new(alloc: Global, nodes: u32) -> Result<Self, AllocError>
@@ -76,6 +87,7 @@ impl Solver {
             scopes: Vec::new(alloc),
             lemmas: Vec::new(alloc),
             learned: Vec::new(alloc),
+            hints: Vec::new(alloc),
             conflicts: 0,
         })
     }
@@ -144,6 +156,17 @@ impl Solver {
             self.learned
                 .truncate(resting_on(self.learned.as_slice(), count));
             self.added.truncate(count);
+            self.hints.truncate(end_of_hints(self.learned.as_slice()));
+        }
+    }
+
+    /// The hints of a learned clause.
+    pub(crate) fn hints_of(&self, learned: &Learned) -> &[Hint] {
+        let (start, end) = learned.hints;
+        if start <= end && end <= self.hints.len() {
+            &self.hints[start..end]
+        } else {
+            &[]
         }
     }
 
@@ -208,7 +231,7 @@ impl Solver {
         &mut self,
         walk: &mut Walk,
         clause: &[Lit],
-        hints: Vec<Hint>,
+        hints: &[Hint],
         lbd: u32,
     ) -> Result<bool, AllocError>
         ensures learned { IfOk result (λ kept. kept ≡ true → self.new
@@ -216,14 +239,16 @@ impl Solver {
         ensures refused { IfOk result (λ kept. kept ≡ false → self.new ≡ self.old) }
         ensures err { OnErr result (self.new ≡ self.old) }
     {
-        let Some(base) = self.derives(walk, clause, hints.as_slice())? else {
+        let Some(base) = self.derives(walk, clause, hints)? else {
             return Ok(false);
         };
         let clause = Literals::copied(self.alloc, clause)?;
+        let start = self.hints.len();
+        self.hints.extend_from_slice(hints)?;
         self.learned.push(Learned {
             clause,
             base,
-            hints,
+            hints: (start, self.hints.len()),
             lbd,
         })?;
         Ok(true)

@@ -5,6 +5,7 @@ ghost use Rattle.ffc_cdcl.specs.Literals.{NamesNoNodeTwice, MakesTrue};
 ghost use Rattle.ffc_cdcl.specs.Settled.{IsSettled};
 ghost use Rattle.ffc_cdcl.specs.Trails.{Pays};
 
+use crate::analysis::Turn;
 use crate::answer::Hint;
 use crate::literal::{Lit, Literals};
 use crate::search::Search;
@@ -109,23 +110,16 @@ impl Search {
     }
 
     /// Goes back to the level of a lesson, and puts its first literal on the trail.
-    pub fn follow(
-        &mut self,
-        clause: &[Lit],
-        hint: Hint,
-        level: u32,
-        lbd: u32,
-        meter: &mut Meter,
-    ) -> Result<(), SearchStop>
+    pub fn follow(&mut self, hint: Hint, turn: Turn, meter: &mut Meter) -> Result<(), SearchStop>
         ensures metered { Metered SearchStop.Spent result meter.old meter.new }
     {
-        self.backjump(level)?;
-        let number = self.attach(clause, hint, lbd)?;
-        self.order.decay();
-        self.conflicts = self.conflicts.saturating_add(1);
-        let Some(literal) = clause.first().copied() else {
+        self.backjump(turn.level)?;
+        let Some(literal) = self.lesson.clause.as_slice().first().copied() else {
             return Err(SearchStop::GaveUp);
         };
+        let number = self.attach_lesson(hint, turn.lbd)?;
+        self.order.decay();
+        self.conflicts = self.conflicts.saturating_add(1);
         if self.trail.assign(literal, Some(number), meter)? {
             Ok(())
         } else {

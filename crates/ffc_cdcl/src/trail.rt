@@ -31,6 +31,8 @@ fn short(count: usize) -> u32 {
 #[derive(Drop)]
 pub struct Trail {
     values: Vec<Option<bool>>,
+    /// Which literals are on the trail, by their places: what propagation reads.
+    truths: Vec<bool>,
     literals: Vec<Lit>,
     entries: Vec<Entry>,
     starts: Vec<usize>,
@@ -56,6 +58,14 @@ fn write_at(values: &mut Vec<Option<bool>>, node: NodeId, value: Option<bool>)
     }
 }
 
+/// Notes whether a literal is on the trail.
+fn mark_at(truths: &mut Vec<bool>, literal: Packed, truth: bool) {
+    let place = literal.place();
+    if place < truths.len() {
+        truths[place] = truth;
+    }
+}
+
 fn enter(entries: &mut Vec<Entry>, node: NodeId, entry: Entry) {
     if (node as usize) < entries.len() {
         entries[node as usize] = entry;
@@ -74,6 +84,7 @@ impl Trail {
         };
         Ok(Trail {
             values: vec![in alloc; None; nodes]?,
+            truths: vec![in alloc; false; nodes.saturating_mul(2)]?,
             literals: Vec::new(alloc),
             entries: vec![in alloc; entry; nodes]?,
             starts: Vec::new(alloc),
@@ -112,7 +123,8 @@ impl Trail {
     /// Whether the trail has a literal that a clause of the search has.
     #[inline(always)]
     pub fn has(&self, literal: Packed) -> bool {
-        self.value_of(literal.node()) == Some(literal.is_positive())
+        let place = literal.place();
+        place < self.truths.len() && self.truths[place]
     }
 
     /// Whether the trail has neither a literal of this node nor its negation.
@@ -198,6 +210,7 @@ impl Trail {
             return Err(SearchStop::Spent);
         }
         write_at(&mut self.values, literal.node, Some(literal.positive));
+        mark_at(&mut self.truths, Packed::of(literal), true);
         enter(&mut self.entries, literal.node, entry);
         Ok(true)
     }
@@ -208,6 +221,7 @@ impl Trail {
     {
         let literal = self.literals.pop()?;
         write_at(&mut self.values, literal.node, None);
+        mark_at(&mut self.truths, Packed::of(literal), false);
         Some(literal)
     }
 

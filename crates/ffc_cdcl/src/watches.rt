@@ -165,7 +165,8 @@ pub fn watch_another(trail: &Trail, literals: &mut [u32], falsified: Packed) -> 
         return Watched::Short;
     }
     if literals[0] == falsified.0 {
-        literals.swap(0, 1);
+        literals[0] = literals[1];
+        literals[1] = falsified.0;
     }
     let first = Packed(literals[0]);
     if trail.has(first) {
@@ -174,7 +175,8 @@ pub fn watch_another(trail: &Trail, literals: &mut [u32], falsified: Packed) -> 
     for k in 2..literals.len() {
         let literal = Packed(literals[k]);
         if !trail.has(literal.negated()) {
-            literals.swap(1, k);
+            literals[k] = literals[1];
+            literals[1] = literal.0;
             return Watched::Moved {
                 to: literal,
                 other: first,

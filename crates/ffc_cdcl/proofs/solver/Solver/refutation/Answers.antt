@@ -10,8 +10,8 @@ loop-k-preserved c =
     let lemmas = c.args.self.now.lemmas in
     let added = c.args.self.now.added in
     let Follows = λ (earlier : List HintedClause) (step : HintedClause). FollowsBy (Names (IsKept lemmas) added (clauses_of earlier)) step.lits step.hints.items in
-    let at_step = let P = λ (o : Option HintedClause). IfSome o (Follows c.as_slice-in-loop-k.result.now) in subst P c.in-Some.is c.in_ok-step.ensures in
-    let follows = subst (λ earlier. Follows earlier c.in-Some.step) c.as_slice-in-loop-k.ensures.value at_step in
+    let at_step = let P = λ (o : Option HintedClause). IfSome o (Follows c.as_slice.result.now) in subst P c.in-Some.is c.in_ok-step.ensures in
+    let follows = subst (λ earlier. Follows earlier c.in-Some.step) c.as_slice.ensures.value at_step in
     subst (IsDerivation (IsKept lemmas) added) (sym c.in_ok-push.ensures.items)
     (derivation_push (IsKept lemmas) added c.loop-k.steps.items c.in-Some.step c.loop-k.invariant follows)
 

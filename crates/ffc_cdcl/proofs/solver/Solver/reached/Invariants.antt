@@ -1,5 +1,5 @@
 use Rattle.std.proofs.Common.{◌≤◌, length}
-use Rattle.ffc_cdcl.proofs.refute.reached.Given as goal
+use Rattle.ffc_cdcl.proofs.solver.Solver.reached.Given as goal
 
 abbrev pub invariant-loop-k : goal.invariant-loop-k
 invariant-loop-k l = l.k ≤ length l.learned
