@@ -25,11 +25,9 @@ use Rattle.ffc_trees.specs.NodePolynomials.{product_of, node_polys, poly_at}
 use Rattle.ffc_trees.proofs.NodePolyLemmas.{boolean_field, product_by-cons}
 use Rattle.ffc_trees.proofs.BoundLemmas.{poly_at-bounded}
 use Rattle.ffc_poly.specs.Ordered.{AreWithin}
-use Rattle.ffc_encode.specs.declared.order.Visit.{Visit}
 use Rattle.ffc_trees.specs.Parts.{parts_of}
 use Rattle.ffc_trees.proofs.PartLemmas.{parts_are, sum_at, degree_at-is, part_low}
 use Rattle.ffc_encode.specs.Parts.{IsWithin, AreFactors, AreKnown}
-use Rattle.ffc_encode.specs.Waiting.{visit_of, visits_of, AreVisited}
 use Rattle.ffc_encode.proofs.LimitLemmas.{within_degree, within-product, length-product}
 
 -- ---- measures
@@ -189,37 +187,7 @@ if_some P R (Ok None) f p = tt
 if_some P R (Ok (Some x)) f p = f x p
 if_some P R (Err e) f p = tt
 
--- ---- visits
-
--- the parts of a node within the limits are to be looked at
-pub visits_within : (ns : List Node) (p id : ℕ) (n : Node) → IsTable ns → IsNodeAt ns id n → IsWithin ns p id → AreVisited ns p (visits_of n)
-visits_within ns p id n table at within = of_parts n (parts_within ns p id table n at within)
-  where
-    all_visits : (made : Bool) (ids : List ℕ) → All (IsWithin ns p) ids → AreVisited ns p (map (visit_of made) ids)
-    all_visits made ids are = All-map (λ (x : Visit). IsWithin ns p x.node) (visit_of made) ids are
-
-    of_parts : (m : Node) → All (IsWithin ns p) (parts_of m) → AreVisited ns p (visits_of m)
-    of_parts (Add ids) are = all_visits false ids are
-    of_parts (Mul ids) are = all_visits true ids are
-    of_parts (Neg a) are = all_visits false (a ∷ []) are
-    of_parts (Bitsum ids) are = all_visits false ids are
-    of_parts _ are = All-nil (λ (x : Visit). IsWithin ns p x.node)
-
-pub visits_of_node : (ns : List Node) (p id : ℕ) → IsTable ns → IsWithin ns p id → AreVisited ns p (visits_of (node_at ns id))
-visits_of_node ns p id table within = visits_within ns p id (node_at ns id) table (IsNodeAt-get_or ns id True within.field.0) within
-
--- more nodes are to be looked at
-pub more_visits : (ns : List Node) (p : ℕ) (xs old new : List Visit) → AreVisited ns p xs → AreVisited ns p old → IsPermutation (xs ++ old) new → AreVisited ns p new
-more_visits ns p xs old new some are is =
-    let Has : Visit → Type 0 = λ x. IsWithin ns p x.node in
-    All-permutation Has (xs ++ old) new is (All-append Has xs old some are)
-
--- the node that is taken, and those that are left
-pub visit_taken : (ns : List Node) (p : ℕ) (x : Visit) (old new : List Visit) → IsPermutation old (x ∷ new) → AreVisited ns p old → IsWithin ns p x.node × AreVisited ns p new
-visit_taken ns p x old new is are =
-    let Has : Visit → Type 0 = λ y. IsWithin ns p y.node in
-    let all : All Has (x ∷ new) = All-permutation Has old (x ∷ new) is are in
-    (All-head Has x new all, All-tail Has x new all)
+-- ---- results
 
 pub on_ok : {T E : Type 0} (r : Result T E) (P Q : Type 0) → (P → Q) → OnOk r P → OnOk r Q
 on_ok (Ok x) P Q f h = f h

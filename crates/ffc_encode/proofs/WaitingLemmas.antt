@@ -3,6 +3,8 @@ use Rattle.std.proofs.Common.{◌≡◌, ℕ, zero, suc, ◌+◌, ◌-◌, ◌*�
 use Rattle.std.proofs.Math.Nat.{mod-mod, mod-eq_of_lt, pow-suc, pow-zero}
 use Rattle.std.proofs.lemmas.Nat.{mul-mod_second}
 use Rattle.std.specs.List.Sorted.{IsPermutation}
+use Rattle.std.proofs.lemmas.Option.{same_Some}
+use Rattle.ffc_trees.specs.Parts.{parts_of}
 use Rattle.std.proofs.lemmas.List.Sorted.{IsPermutation-trans, IsPermutation-cons, IsPermutation-middle, IsPermutation-append_right, IsPermutation-sym, IsPermutation-pop_more, All-permutation, sum_by-IsPermutation}
 use Rattle.std.proofs.lemmas.List.Elements.{All-head, All-tail, All-append, All-cons, All-nil, All-push}
 use Rattle.std.proofs.lemmas.List.Sums.{sum_by-cons, sum_by-append, sum_by_push}
@@ -17,7 +19,7 @@ use Rattle.ffc_term.specs.Tables.{IsFieldAt}
 use Rattle.ffc_trees.specs.NodePolynomials.{poly_in, sum_of, bit_sum_of, node_polys, poly_at}
 use Rattle.ffc_encode.specs.declared.sums.Owed.{Owed}
 use Rattle.ffc_poly.specs.Ordered.{sum_of as total}
-use Rattle.ffc_encode.specs.Waiting.{owed_of, owed, AreOwed, geometric, Takes, IsOfNode}
+use Rattle.ffc_encode.specs.Waiting.{owed_of, owed, geometric, AreOpened, Takes, IsOfNode}
 use Rattle.ffc_trees.proofs.ProductLemmas.{poly_before}
 use Rattle.ffc_encode.proofs.ExpandLemmas.{node_expands}
 
@@ -75,42 +77,47 @@ taken_worth p polys old x new takes m =
     ∙ sym (sum_by-append (worth polys m) takes.taken new)
     ∙ sym (owed_worth polys m old ∙ sym (sum_by-IsPermutation (worth polys m) old (takes.taken ++ new) takes.all)))
 
-pub taken_field : (ns : List Node) (p : ℕ) (old : List Owed) (x : Owed) (new : List Owed) → Takes p old x new → AreOwed ns p old → IsFieldAt ns p x.node
-taken_field ns p old x new takes are =
-    let Has : Owed → Type 0 = λ y. IsFieldAt ns p y.node in
-    let all : All Has (takes.taken ++ new) = All-permutation Has old (takes.taken ++ new) takes.all are in
+pub taken_has : (Has : ℕ → Type 0) (p : ℕ) (old : List Owed) (x : Owed) (new : List Owed) → Takes p old x new → All (λ y. Has y.node) old → Has x.node
+taken_has Has p old x new takes are =
+    let all : All (λ (y : Owed). Has y.node) (takes.taken ++ new) = All-permutation (λ (y : Owed). Has y.node) old (takes.taken ++ new) takes.all are in
     first takes.taken takes.some takes.of_one all
   where
-    first : (ys : List Owed) → 0 < length ys → All (λ y. y.node ≡ x.node) ys → All (λ y. IsFieldAt ns p y.node) (ys ++ new) → IsFieldAt ns p x.node
+    first : (ys : List Owed) → 0 < length ys → All (λ y. y.node ≡ x.node) ys → All (λ y. Has y.node) (ys ++ new) → Has x.node
     first [] some ones all = absurd (omega arith)
     first (y ∷ ys) some ones all =
-        subst (IsFieldAt ns p) (All-head (λ (z : Owed). z.node ≡ x.node) y ys ones) (All-head (λ (z : Owed). IsFieldAt ns p z.node) y (ys ++ new) all)
+        subst Has (All-head (λ (z : Owed). z.node ≡ x.node) y ys ones) (All-head (λ (z : Owed). Has z.node) y (ys ++ new) all)
 
 all_after : {X : Type 0} (P : X → Type 0) (xs ys : List X) → All P (xs ++ ys) → All P ys
 all_after P [] ys are = are
 all_after P (x ∷ xs) ys are = all_after P xs ys (All-tail P x (xs ++ ys) are)
 
-pub left_fields : (ns : List Node) (p : ℕ) (old : List Owed) (x : Owed) (new : List Owed) → Takes p old x new → AreOwed ns p old → AreOwed ns p new
-left_fields ns p old x new takes are =
-    let Has : Owed → Type 0 = λ y. IsFieldAt ns p y.node in
-    all_after Has takes.taken new (All-permutation Has old (takes.taken ++ new) takes.all are)
+pub left_have : (Has : ℕ → Type 0) (p : ℕ) (old : List Owed) (x : Owed) (new : List Owed) → Takes p old x new → All (λ y. Has y.node) old → All (λ y. Has y.node) new
+left_have Has p old x new takes are =
+    all_after (λ (y : Owed). Has y.node) takes.taken new (All-permutation (λ (y : Owed). Has y.node) old (takes.taken ++ new) takes.all are)
 
 -- ---- parts in place of a sum
 
-geometric_fields : (ns : List Node) (p q w r : ℕ) (ids : List ℕ) → All (IsFieldAt ns p) ids → AreOwed ns p (geometric q w r ids)
-geometric_fields ns p q w r [] are = All-nil (λ (x : Owed). IsFieldAt ns p x.node)
-geometric_fields ns p q w r (c ∷ ids) are =
-    All-cons (λ (x : Owed). IsFieldAt ns p x.node) (owed_of c w) (geometric q (w * r % q) r ids) (All-head (IsFieldAt ns p) c ids are)
-    (geometric_fields ns p q (w * r % q) r ids (All-tail (IsFieldAt ns p) c ids are))
+pub geometric_nodes : (q w r : ℕ) (ids : List ℕ) → map (λ (x : Owed). x.node) (geometric q w r ids) ≡ ids
+geometric_nodes q w r [] = refl
+geometric_nodes q w r (c ∷ ids) = ap (λ l. c ∷ l) (geometric_nodes q (w * r % q) r ids)
+
+have_nodes : (Has : ℕ → Type 0) (xs : List Owed) → All Has (map (λ (x : Owed). x.node) xs) → All (λ y. Has y.node) xs
+have_nodes Has [] are = All-nil (λ (x : Owed). Has x.node)
+have_nodes Has (x ∷ xs) are =
+    All-cons (λ (y : Owed). Has y.node) x xs (All-head Has x.node (map (λ (y : Owed). y.node) xs) are) (have_nodes Has xs (All-tail Has x.node (map (λ (y : Owed). y.node) xs) are))
 
 -- more nodes wait
-pub waiting_fields : (ns : List Node) (p : ℕ) (xs old new : List Owed) → AreOwed ns p xs → AreOwed ns p old → IsPermutation (xs ++ old) new → AreOwed ns p new
-waiting_fields ns p xs old new some are is =
-    let Has : Owed → Type 0 = λ y. IsFieldAt ns p y.node in
-    All-permutation Has (xs ++ old) new is (All-append Has xs old some are)
+pub waiting_have : (Has : ℕ → Type 0) (xs old new : List Owed) → All Has (map (λ (x : Owed). x.node) xs) → All (λ y. Has y.node) old → IsPermutation (xs ++ old) new → All (λ y. Has y.node) new
+waiting_have Has xs old new some are is =
+    All-permutation (λ (y : Owed). Has y.node) (xs ++ old) new is (All-append (λ (y : Owed). Has y.node) xs old (have_nodes Has xs some) are)
 
-pub all_waiting : (ns : List Node) (p q w r : ℕ) (ids : List ℕ) (old new : List Owed) → All (IsFieldAt ns p) ids → AreOwed ns p old → IsPermutation (geometric q w r ids ++ old) new → AreOwed ns p new
-all_waiting ns p q w r ids old new fields are is = waiting_fields ns p (geometric q w r ids) old new (geometric_fields ns p q w r ids fields) are is
+-- the parts of a node wait besides
+pub opened_parts : (ns : List Node) (id : ℕ) (n : Node) (added old new : List Owed) → IsNodeAt ns id n → map (λ (x : Owed). x.node) added ≡ parts_of n → IsPermutation (added ++ old) new → AreOpened ns id old new
+opened_parts ns id n added old new at parts all = record {
+  added = added;
+  all = all;
+  parts = λ m there. parts ∙ ap parts_of (same_Some n m (sym at ∙ there));
+}
 
 -- what waits in place of a node's multiple
 pub opened : (p : ℕ) (polys : List Terms) (xs old new : List Owed) (f : Terms) → IsPermutation (xs ++ old) new → SamePolynomial p (owed polys xs) f → SamePolynomial p (owed polys new) (f ++ owed polys old)
@@ -296,10 +303,10 @@ opened_kept p w k parts new f rest e same =
     (λ m. same m ∙ same_sums p (scaled w f) (scaled k f) rest rest (weight_reduced p w k (scaled w f) f e (λ n. refl)) (λ n. refl) m)
 
 -- one node waits alone
-pub one_waits : (ns : List Node) (p id w : ℕ) (old new : List Owed) → old ≡ [] → IsFieldAt ns p id → IsPermutation (owed_of id w ∷ old) new → AreOwed ns p new
-one_waits ns p id w old new none is waits =
-    let Has : Owed → Type 0 = λ y. IsFieldAt ns p y.node in
-    waiting_fields ns p (owed_of id w ∷ []) old new (All-cons Has (owed_of id w) [] is (All-nil Has)) (subst (All Has) (sym none) (All-nil Has)) waits
+pub one_waits : (Has : ℕ → Type 0) (id w : ℕ) (old new : List Owed) → old ≡ [] → Has id → IsPermutation (owed_of id w ∷ old) new → All (λ y. Has y.node) new
+one_waits Has id w old new none is waits =
+    let P : Owed → Type 0 = λ y. Has y.node in
+    All-permutation P (owed_of id w ∷ old) new waits (All-cons P (owed_of id w) old is (subst (All P) (sym none) (All-nil P)))
 
 -- after a node was settled
 pub settled_worth : (p : ℕ) (polys : List Terms) (parts now f goal : Terms) (old rest : List Owed) (x : Owed) → Takes p old x rest → poly_in polys x.node ≡ f → SamePolynomial p now (parts ++ (scaled x.weight f ++ owed polys rest)) → SamePolynomial p (parts ++ owed polys old) goal → SamePolynomial p now goal

@@ -1,5 +1,5 @@
 -- Nodes whose polynomials are made, and the polynomials that are kept.
-use Rattle.std.specs.Prelude.{ℕ, ◌≤◌, List, All, IfSome, sum_by}
+use Rattle.std.specs.Prelude.{ℕ, ◌≤◌, List, All, IfSome, IsSome, sum_by}
 use Rattle.std.specs.Ordering.{nat_cmp}
 use Rattle.std.specs.BTreeMap.{BTreeMap, get}
 use Rattle.ffc_ring.specs.Polynomial.{Terms, SamePolynomial}
@@ -24,3 +24,8 @@ pub record AreFactors (nodes : List Node) (p : ℕ) (ids : List ℕ) : Type 0 wh
 -- each polynomial that is kept is that of its node
 abbrev pub AreKnown : ℕ → List Node → BTreeMap ℕ Terms → Type 0
 AreKnown p nodes known = (id : ℕ) → IfSome (get nat_cmp known id) (λ f. SamePolynomial p f (poly_at nodes id))
+
+-- the polynomial of a node is kept now, and those that were are
+pub record IsKept (old new : BTreeMap ℕ Terms) (id : ℕ) : Type 0 where
+  pub it : IsSome (get nat_cmp new id)
+  pub others : (q : ℕ) → IsSome (get nat_cmp old q) → IsSome (get nat_cmp new q)

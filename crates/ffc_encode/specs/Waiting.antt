@@ -1,15 +1,13 @@
--- What waits while a sum is opened: multiples of nodes' polynomials, and nodes to look at. The order in which they lie plays no
--- part.
-use Rattle.std.specs.Prelude.{◌≡◌, ℕ, ◌*◌, ◌%◌, ◌<◌, Bool, true, false, List, [], ◌∷◌, ◌++◌, length, map, All, sum_by}
+-- What waits while a sum is opened: multiples of nodes' polynomials. The order in which they lie plays no part.
+use Rattle.std.specs.Prelude.{◌≡◌, ℕ, ◌*◌, ◌%◌, ◌<◌, List, [], ◌∷◌, ◌++◌, length, map, All, sum_by}
 use Rattle.std.specs.List.Sorted.{IsPermutation}
 use Rattle.ffc_ring.specs.Polynomial.{Terms, scaled}
 use Rattle.ffc_term.specs.declared.node.Node.{Node}
-use Rattle.ffc_term.specs.declared.node.Node.TheVariants.{Add, Mul, Neg, Bitsum}
-use Rattle.ffc_term.specs.Tables.{IsFieldAt}
+use Rattle.ffc_term.specs.Nodes.{IsNodeAt}
 use Rattle.ffc_trees.specs.NodePolynomials.{poly_in}
 use Rattle.ffc_encode.specs.declared.sums.Owed.{Owed}
-use Rattle.ffc_encode.specs.declared.order.Visit.{Visit}
-use Rattle.ffc_encode.specs.Parts.{IsWithin}
+use Rattle.ffc_trees.specs.Parts.{parts_of}
+use Rattle.ffc_encode.specs.Opening.{IsOpenable, size_at}
 
 abbrev pub owed_of : ℕ → ℕ → Owed
 owed_of node weight = record { node = node; weight = weight }
@@ -19,9 +17,19 @@ abbrev pub owed : List Terms → List Owed → Terms
 owed polys [] = []
 owed polys (x ∷ xs) = scaled x.weight (poly_in polys x.node) ++ owed polys xs
 
--- all of them are nodes of the field of order p
-abbrev pub AreOwed : List Node → ℕ → List Owed → Type 0
-AreOwed nodes p xs = All (λ x. IsFieldAt nodes p x.node) xs
+-- all of them are nodes of the field of order p whose polynomials need not be made by themselves
+abbrev pub AreOwed : List Node → ℕ → (ℕ → Type 0) → List Owed → Type 0
+AreOwed nodes p has xs = All (λ x. IsOpenable nodes p has x.node) xs
+
+-- how many nodes are reached from those that wait
+abbrev pub owed_size : List Node → List Owed → ℕ
+owed_size nodes xs = sum_by (λ x. size_at nodes x.node) xs
+
+-- the parts of a node wait besides
+pub record AreOpened (nodes : List Node) (id : ℕ) (old new : List Owed) : Type 0 where
+  pub added : List Owed
+  pub all : IsPermutation (added ++ old) new
+  pub parts : (n : Node) → IsNodeAt nodes id n → map (λ x. x.node) added ≡ parts_of n
 
 -- the first with the weight w, and each further one with r times the weight before it, modulo p
 abbrev pub geometric : ℕ → ℕ → ℕ → List ℕ → List Owed
@@ -40,18 +48,3 @@ pub record Takes (p : ℕ) (old : List Owed) (x : Owed) (new : List Owed) : Type
 abbrev pub IsOfNode : ℕ → List Owed → Type 0
 IsOfNode node [] = ⊥
 IsOfNode node (x ∷ xs) = x.node ≡ node
-
-abbrev pub visit_of : Bool → ℕ → Visit
-visit_of made node = record { node = node; made = made }
-
--- the parts of a node, to be looked at; those of a product are made
-abbrev pub visits_of : Node → List Visit
-visits_of (Add ids) = map (visit_of false) ids
-visits_of (Mul ids) = map (visit_of true) ids
-visits_of (Neg a) = visit_of false a ∷ []
-visits_of (Bitsum ids) = map (visit_of false) ids
-visits_of _ = []
-
--- all of them are within the limits
-abbrev pub AreVisited : List Node → ℕ → List Visit → Type 0
-AreVisited nodes p xs = All (λ x. IsWithin nodes p x.node) xs

@@ -1,9 +1,10 @@
 //! Polynomials of single terms: those of variables and numbers.
-ghost use Rattle.std.specs.Prelude.{◌≡◌, ◌≤◌, ◌∷◌, [], IfOk, IfSome};
+ghost use Rattle.std.specs.Prelude.{◌≡◌, ◌≤◌, ◌∷◌, [], IfOk, IfSome, IfNone};
 ghost use Rattle.ffc_ring.specs.Monomial.{IsMonomial, degree};
 ghost use Rattle.ffc_ring.specs.Polynomial.{SamePolynomial, scaled};
 ghost use Rattle.ffc_term.specs.Tables.{IsFieldAt};
 ghost use Rattle.ffc_trees.specs.NodePolynomials.{poly_at};
+ghost use Rattle.ffc_encode.specs.Opening.{IsLeafAt};
 
 use ffc_field::Field;
 use ffc_mono::{Mono, MonoOrder, MonoStop};
@@ -61,8 +62,9 @@ pub fn leaf<F: Field, O: MonoOrder>(
     id: NodeId,
 ) -> Result<Option<Poly<F, O>>, AllocError>
     requires { IsFieldAt table.now F.ORDER id }
-    ensures { IfOk result
+    ensures same { IfOk result
         (λ o. IfSome o (λ r. SamePolynomial F.ORDER r (scaled (F.value weight) (poly_at table.now id)))) }
+    ensures none { IfOk result (λ o. IfNone o (IsLeafAt table.now id → ⊥)) }
 {
     match table.node(id) {
         Node::FieldConst(..) => Ok(Some(term(alloc, weight, &[(id, 1)])?)),

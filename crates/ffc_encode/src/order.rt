@@ -1,128 +1,130 @@
-//! Which polynomials are made for that of a node, and in which order. What is decided here bears on time and memory alone.
-ghost use Rattle.std.specs.Prelude.{◌≡◌, ◌<◌, ◌++◌, length, map, All, IfOk, OnOk};
-ghost use Rattle.std.specs.BinaryHeap.{heap_items};
-ghost use Rattle.std.specs.List.Sorted.{IsPermutation};
-ghost use Rattle.ffc_term.specs.Nodes.{node_at};
+//! Which polynomials are made for that of a node: those of products, and of sums that are factors. Sums that are only added
+//! are opened in place, and single terms are made where they are used.
+ghost use Rattle.std.specs.Prelude.{◌≡◌, ◌∷◌, [], ◌⊎◌, ◌<◌, true, false, length, IfSome, IfOk, OnOk};
+ghost use Rattle.ffc_term.specs.Nodes.{IsNodeAt};
+ghost use Rattle.ffc_term.specs.Tables.{IsTable};
+ghost use Rattle.ffc_term.specs.declared.node.Node.{Node as TableNode};
+ghost use Rattle.ffc_trees.specs.Parts.{parts_of};
 ghost use Rattle.ffc_encode.specs.Parts.{IsWithin};
-ghost use Rattle.ffc_encode.specs.Waiting.{visit_of, visits_of, AreVisited};
+ghost use Rattle.ffc_encode.specs.Opening.{is_leaf, is_product};
+ghost use Rattle.ffc_encode.specs.Order.{HasId, AreNoted, IsNowListed, CanBeMadeInOrder, IsListedOrLeaf};
 
 use ffc_field::Field;
 use ffc_mono::MonoOrder;
 use ffc_poly::Poly;
 use ffc_term::{Node, NodeId, NodeTable};
 use std::alloc::{AllocError, Global};
-use std::collections::{BTreeMap, BinaryHeap};
+use std::collections::{BTreeMap, BTreeSet};
 
-/// A node to look at, and whether its polynomial is made whatever node it is: it is asked for, or a factor.
-#[derive(Clone, Copy, PartialEq, Eq, PartialOrd, Ord)]
-struct Visit {
-    node: NodeId,
-    made: bool,
+/// Whether the polynomial of a node is made by itself, where it is asked for or a factor, or is not.
+fn is_made(node: &Node, factor: bool) -> bool
+    ensures { result ≡ false → (is_leaf node.now ≡ true) ⊎ ((factor ≡ false) × (is_product node.now ≡ false)) }
+{
+    match node {
+        Node::Mul(_) => true,
+        Node::FieldConst(..) | Node::IteField(..) | Node::Num(..) => false,
+        _ => factor,
+    }
 }
 
-/// Lets nodes wait to be looked at.
-fn visit_all(waiting: &mut BinaryHeap<Visit>, ids: &[NodeId], made: bool) -> Result<(), AllocError>
-    ensures { OnOk result (IsPermutation (map (visit_of made) ids.now ++ heap_items waiting.old)
-        (heap_items waiting.new)) }
+/// Whether a node is a factor of those that were looked at, where it was one before, or was not, or was not reached.
+fn is_factor(before: Option<bool>, factor: bool) -> bool
+    ensures factor { factor ≡ true → result ≡ true }
+    ensures before { IfSome before (λ b. b ≡ true → result ≡ true) }
+{
+    match before {
+        Some(before) => before || factor,
+        None => factor,
+    }
+}
+
+/// Lets a node that is not known wait, to be looked at.
+fn note_one<F: Field, O: MonoOrder>(
+    known: &BTreeMap<NodeId, Poly<F, O>>,
+    waiting: &mut BTreeMap<NodeId, bool>,
+    id: NodeId,
+    factor: bool,
+) -> Result<(), AllocError>
+    ensures { OnOk result (AreNoted known.now waiting.old waiting.new factor (id ∷ [])) }
+{
+    if known.contains_key(&id) {
+        return Ok(());
+    }
+    let noted = is_factor(waiting.get(&id).copied(), factor);
+    waiting.insert(id, noted)?;
+    Ok(())
+}
+
+/// The same for each of these nodes.
+fn note_all<F: Field, O: MonoOrder>(
+    known: &BTreeMap<NodeId, Poly<F, O>>,
+    waiting: &mut BTreeMap<NodeId, bool>,
+    ids: &[NodeId],
+    factors: bool,
+) -> Result<(), AllocError>
+    ensures { OnOk result (AreNoted known.now waiting.old waiting.new factors ids.now) }
 {
     for id in ids {
-        waiting.push(Visit { node: *id, made })?;
+        note_one(known, waiting, *id, factors)?;
     }
     Ok(())
 }
 
-/// Lets the parts of a node wait.
-fn visit_parts(
+/// The same for the parts of a node.
+fn note_parts<F: Field, O: MonoOrder>(
     table: &NodeTable,
-    waiting: &mut BinaryHeap<Visit>,
+    known: &BTreeMap<NodeId, Poly<F, O>>,
+    waiting: &mut BTreeMap<NodeId, bool>,
     id: NodeId,
 ) -> Result<(), AllocError>
     requires { id < length table.now }
-    ensures { OnOk result (IsPermutation (visits_of (node_at table.now id) ++ heap_items waiting.old)
-        (heap_items waiting.new)) }
+    ensures { OnOk result ((n : TableNode) → IsNodeAt table.now id n
+        → AreNoted known.now waiting.old waiting.new (is_product n) (parts_of n)) }
 {
     match table.node(id) {
-        Node::Add(ids) => visit_all(waiting, ids.as_slice(), false),
-        Node::Bitsum(ids) => visit_all(waiting, ids.as_slice(), false),
-        Node::Neg(a) => visit_all(waiting, &[*a], false),
-        Node::Mul(ids) => visit_all(waiting, ids.as_slice(), true),
+        Node::Add(ids) => note_all(known, waiting, ids.as_slice(), false),
+        Node::Bitsum(ids) => note_all(known, waiting, ids.as_slice(), false),
+        Node::Mul(ids) => note_all(known, waiting, ids.as_slice(), true),
+        Node::Neg(a) => note_one(known, waiting, *a, false),
         _ => Ok(()),
     }
 }
 
-/// Whether the polynomial of a node is made by itself. Those of sums that are only added are not, and single terms are
-/// made where they are used.
-fn is_made(node: &Node, visit: Visit) -> bool {
-    match node {
-        Node::Mul(_) => true,
-        Node::Add(_) | Node::Bitsum(_) | Node::Neg(_) => visit.made,
-        _ => false,
-    }
-}
-
-/// Lists a node if its polynomial is made by itself.
-fn list_made<F: Field>(
+/// Lists a node, if its polynomial is made by itself.
+fn list_made(
     table: &NodeTable,
-    found: &mut Vec<NodeId>,
-    visit: Visit,
+    to_make: &mut BTreeSet<NodeId>,
+    id: NodeId,
+    factor: bool,
 ) -> Result<(), AllocError>
-    requires within { IsWithin table.now F.ORDER visit.node }
-    requires found { All (IsWithin table.now F.ORDER) found.old.items }
-    ensures { OnOk result (All (IsWithin table.now F.ORDER) found.new.items) }
+    requires { id < length table.now }
+    ensures listed { OnOk result (IsNowListed table.now to_make.old to_make.new id factor) }
+    ensures valid { IsTable table.now }
 {
-    if !is_made(table.node(visit.node), visit) {
-        return Ok(());
+    if is_made(table.node(id), factor) {
+        to_make.insert(id)?;
     }
-    found.push(visit.node)?;
     Ok(())
 }
 
-/// Looks at a node.
-fn look<F: Field>(
-    table: &NodeTable,
-    waiting: &mut BinaryHeap<Visit>,
-    found: &mut Vec<NodeId>,
-    visit: Visit,
-) -> Result<(), AllocError>
-    requires within { IsWithin table.now F.ORDER visit.node }
-    requires waiting { AreVisited table.now F.ORDER (heap_items waiting.old) }
-    requires found { All (IsWithin table.now F.ORDER) found.old.items }
-    ensures waiting { OnOk result (AreVisited table.now F.ORDER (heap_items waiting.new)) }
-    ensures found { OnOk result (All (IsWithin table.now F.ORDER) found.new.items) }
-{
-    list_made::<F>(table, found, visit)?;
-    let _node = table.node(visit.node);
-    visit_parts(table, waiting, visit.node)
-}
-
-/// The nodes whose polynomials are made for that of a node, in increasing order, so that parts come first. Each node under
-/// it is looked at once, since nodes are taken by decreasing number and parts have lower numbers.
-pub fn made_for<F: Field, O: MonoOrder>(
+/// The nodes whose polynomials are made for that of a node, which is one of them or a single term. Each node under it is
+/// looked at once, the greatest number first, since parts have smaller numbers.
+pub fn nodes_to_make<F: Field, O: MonoOrder>(
     alloc: Global,
     table: &NodeTable,
     known: &BTreeMap<NodeId, Poly<F, O>>,
     id: NodeId,
-) -> Result<Vec<NodeId>, AllocError>
+) -> Result<BTreeSet<NodeId>, AllocError>
     requires { IsWithin table.now F.ORDER id }
-    ensures { IfOk result (λ v. All (IsWithin table.now F.ORDER) v.items) }
+    ensures made { IfOk result (CanBeMadeInOrder table.now F.ORDER known.now) }
+    ensures itself { IfOk result (λ ids. IsListedOrLeaf table.now ids id) }
 {
-    let mut found = Vec::new(alloc);
-    let mut waiting = BinaryHeap::new(alloc);
-    let mut last = None;
-    waiting.push(Visit {
-        node: id,
-        made: true,
-    })?;
-    for _ in 0..u64::MAX {
-        let Some(visit) = waiting.pop() else {
-            break;
-        };
-        if last == Some(visit.node) || known.contains_key(&visit.node) {
-            continue;
-        }
-        last = Some(visit.node);
-        look::<F>(table, &mut waiting, &mut found, visit)?;
+    let mut to_make = BTreeSet::new(alloc);
+    let mut waiting = BTreeMap::new(alloc);
+    waiting.insert(id, true)?;
+    while let Some((next, factor)) = waiting.pop_last() {
+        list_made(table, &mut to_make, next, factor)?;
+        note_parts(table, known, &mut waiting, next)?;
     }
-    found.reverse();
-    Ok(found)
+    Ok(to_make)
 }

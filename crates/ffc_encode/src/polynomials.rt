@@ -1,13 +1,16 @@
 //! Polynomials of nodes.
-ghost use Rattle.std.specs.Prelude.{◌≡◌, ◌<◌, ◌≤◌, ◌↔◌, length, IfOk, OnOk, IfErr, IfSome, IsErrOf};
+ghost use Rattle.std.specs.Prelude.{◌≡◌, ◌<◌, ◌≤◌, ◌↔◌, length, IfOk, OnOk, IfErr, IfSome, IsSome, IsErrOf};
+ghost use Rattle.std.specs.Ordering.{nat_cmp};
+ghost use Rattle.std.specs.BTreeMap.{get};
 ghost use Rattle.ffc_ring.specs.Polynomial.{SamePolynomial};
 ghost use Rattle.ffc_term.specs.Tables.{IsFieldAt};
 ghost use Rattle.ffc_term.specs.Measuring.{degree_at, length_at};
 ghost use Rattle.ffc_trees.specs.NodePolynomials.{poly_at};
-ghost use Rattle.ffc_encode.specs.Parts.{IsWithin, AreKnown};
+ghost use Rattle.ffc_encode.specs.Opening.{CanMake, IsReady};
+ghost use Rattle.ffc_encode.specs.Parts.{IsWithin, AreKnown, IsKept};
 ghost use Rattle.ffc_encode.specs.Values.{HasValues};
 
-use crate::order::made_for;
+use crate::order::nodes_to_make;
 use crate::products::product;
 use crate::stop::EncodeStop;
 use crate::sums::sum_at;
@@ -25,37 +28,22 @@ const MOST_DEGREE: u64 = 255;
 /// The greatest number of terms of such a node.
 const MOST_TERMS: u64 = 65_536;
 
-/// The polynomial of a node, or `None` where that of a node under it is not known that is not made in place.
+/// The polynomial of a node. What it is made of has to be known.
 fn made<F: Field, O: MonoOrder>(
     alloc: Global,
     table: &NodeTable,
     known: &BTreeMap<NodeId, Poly<F, O>>,
     id: NodeId,
-) -> Result<Option<Poly<F, O>>, AllocError>
+) -> Result<Poly<F, O>, AllocError>
     requires within { IsWithin table.now F.ORDER id }
     requires known { AreKnown F.ORDER table.now known.now }
-    ensures { IfOk result (λ o. IfSome o (λ r. SamePolynomial F.ORDER r (poly_at table.now id))) }
+    requires parts { CanMake table.now (IsReady table.now known.now) (IsReady table.now known.now) id }
+    ensures { IfOk result (λ r. SamePolynomial F.ORDER r (poly_at table.now id)) }
 {
     match table.node(id) {
         Node::Mul(ids) => product(alloc, table, known, ids.as_slice()),
         _ => sum_at(alloc, table, known, id),
     }
-}
-
-/// Keeps a polynomial.
-fn keep<F: Field, O: MonoOrder>(
-    table: &NodeTable,
-    known: &mut BTreeMap<NodeId, Poly<F, O>>,
-    id: NodeId,
-    found: Poly<F, O>,
-) -> Result<(), AllocError>
-    requires known { AreKnown F.ORDER table.now known.old }
-    requires found { SamePolynomial F.ORDER found (poly_at table.now id) }
-    ensures { AreKnown F.ORDER table.now known.new }
-{
-    let _nodes = table.len();
-    known.insert(id, found)?;
-    Ok(())
 }
 
 /// Makes the polynomial of a node, and keeps it.
@@ -67,12 +55,13 @@ fn make<F: Field, O: MonoOrder>(
 ) -> Result<(), AllocError>
     requires within { IsWithin table.now F.ORDER id }
     requires known { AreKnown F.ORDER table.now known.old }
-    ensures { AreKnown F.ORDER table.now known.new }
+    requires parts { CanMake table.now (IsReady table.now known.old) (IsReady table.now known.old) id }
+    ensures known { AreKnown F.ORDER table.now known.new }
+    ensures kept { OnOk result (IsKept known.old known.new id) }
 {
-    let Some(found) = made(alloc, table, known, id)? else {
-        return Ok(());
-    };
-    keep(table, known, id, found)
+    let found = made(alloc, table, known, id)?;
+    known.insert(id, found)?;
+    Ok(())
 }
 
 /// Keeps the polynomial of a node, and those that it is made of. Each node under it is looked at once.
@@ -84,14 +73,16 @@ fn learn<F: Field, O: MonoOrder>(
 ) -> Result<(), AllocError>
     requires within { IsWithin table.now F.ORDER id }
     requires known { AreKnown F.ORDER table.now known.old }
-    ensures { AreKnown F.ORDER table.now known.new }
+    ensures known { AreKnown F.ORDER table.now known.new }
+    ensures learnt { OnOk result (IsSome (get nat_cmp known.new id)) }
 {
     if known.contains_key(&id) {
         return Ok(());
     }
-    let order = made_for(alloc, table, known, id)?;
-    for next in order.as_slice() {
-        make(alloc, table, known, *next)?;
+    let mut to_make = nodes_to_make(alloc, table, known, id)?;
+    let _nodes = table.len();
+    while let Some(next) = to_make.pop_first() {
+        make(alloc, table, known, next)?;
     }
     if known.contains_key(&id) {
         return Ok(());
@@ -199,7 +190,26 @@ impl<'a, F: Field, O: MonoOrder> Polynomials<'a, F, O> {
         learn(self.alloc, self.table, &mut self.known, id)?;
         match self.known.get(&id) {
             Some(found) => Ok(found),
-            None => Err(EncodeStop::Memory),
+            None => unreachable!(),
+        }
+    }
+
+    /// A copy of the polynomial of a field node. The polynomial and those that it is made of are kept.
+    pub fn copy_of(&mut self, id: NodeId) -> Result<Poly<F, O>, EncodeStop>
+        requires { IsFieldAt self.old F.ORDER id }
+        ensures nodes { self.new ≡ self.old }
+        ensures same { IfOk result (λ r. SamePolynomial F.ORDER r (poly_at self.old id)) }
+        ensures value { IfOk result (λ r. HasValues F.ORDER self.old id r) }
+        ensures too_high { IsErrOf result EncodeStop.TooHigh ↔ (255 < degree_at self.old id) }
+        ensures too_long { IsErrOf result EncodeStop.TooLong
+            ↔ ((degree_at self.old id ≤ 255) × (65536 < length_at self.old id)) }
+    {
+        let _nodes = self.table.len();
+        is_within(self.table, id)?;
+        learn(self.alloc, self.table, &mut self.known, id)?;
+        match self.known.get(&id) {
+            Some(found) => Ok(found.clone()?),
+            None => unreachable!(),
         }
     }
 }
@@ -223,6 +233,6 @@ pub fn poly_of<F: Field, O: MonoOrder>(
     learn(alloc, table, &mut known, id)?;
     match known.remove(&id) {
         Some(found) => Ok(found),
-        None => Err(EncodeStop::Memory),
+        None => unreachable!(),
     }
 }

@@ -1,8 +1,9 @@
 //! Products of nodes' polynomials.
-ghost use Rattle.std.specs.Prelude.{◌≡◌, IfOk, IfSome};
+ghost use Rattle.std.specs.Prelude.{◌≡◌, All, IfOk};
 ghost use Rattle.ffc_ring.specs.Polynomial.{SamePolynomial, product, PassesDegree, PassesTerms};
 ghost use Rattle.ffc_term.specs.Tables.{IsFieldAt, IsTable};
 ghost use Rattle.ffc_trees.specs.NodePolynomials.{node_polys, poly_at, product_of};
+ghost use Rattle.ffc_encode.specs.Opening.{IsReady};
 ghost use Rattle.ffc_encode.specs.Parts.{AreFactors, AreKnown};
 
 use crate::leaves::{leaf, memory, term};
@@ -13,20 +14,24 @@ use ffc_term::{NodeId, NodeTable};
 use std::alloc::{AllocError, Global};
 use std::collections::BTreeMap;
 
-/// The polynomial of a factor, or `None` where it is not known and not one term.
+/// The polynomial of a factor, which is known or one term.
 fn factor<F: Field, O: MonoOrder>(
     alloc: Global,
     table: &NodeTable,
     known: &BTreeMap<NodeId, Poly<F, O>>,
     id: NodeId,
-) -> Result<Option<Poly<F, O>>, AllocError>
+) -> Result<Poly<F, O>, AllocError>
     requires field { IsFieldAt table.now F.ORDER id }
     requires known { AreKnown F.ORDER table.now known.now }
-    ensures { IfOk result (λ o. IfSome o (λ r. SamePolynomial F.ORDER r (poly_at table.now id))) }
+    requires there { IsReady table.now known.now id }
+    ensures { IfOk result (λ r. SamePolynomial F.ORDER r (poly_at table.now id)) }
 {
-    match known.get(&id) {
-        Some(part) => Ok(Some(part.clone()?)),
-        None => leaf(alloc, table, F::of(1), id),
+    if let Some(part) = known.get(&id) {
+        return Ok(part.clone()?);
+    }
+    match leaf(alloc, table, F::of(1), id)? {
+        Some(part) => Ok(part),
+        None => unreachable!(),
     }
 }
 
@@ -45,31 +50,27 @@ fn both<F: Field, O: MonoOrder>(
     }
 }
 
-/// The product of the factors' polynomials, by halves, so that a long one is multiplied seldom. `None` where one is not
-/// known.
+/// The product of the factors' polynomials, by halves, so that a long one is multiplied seldom.
 pub fn product<F: Field, O: MonoOrder>(
     alloc: Global,
     table: &NodeTable,
     known: &BTreeMap<NodeId, Poly<F, O>>,
     ids: &[NodeId],
-) -> Result<Option<Poly<F, O>>, AllocError>
+) -> Result<Poly<F, O>, AllocError>
     requires valid { IsTable table.now }
     requires known { AreKnown F.ORDER table.now known.now }
     requires factors { AreFactors table.now F.ORDER ids.now }
-    ensures { IfOk result (λ o. IfSome o (λ r. SamePolynomial F.ORDER r (product_of (node_polys table.now) ids.now))) }
+    requires there { All (IsReady table.now known.now) ids.now }
+    ensures { IfOk result (λ r. SamePolynomial F.ORDER r (product_of (node_polys table.now) ids.now)) }
 {
     match ids {
-        [] => Ok(Some(term(alloc, F::of(1), &[])?)),
+        [] => term(alloc, F::of(1), &[]),
         [id] => factor(alloc, table, known, *id),
         _ => {
             let (front, back) = ids.split_at(ids.len() / 2);
-            let Some(left) = product(alloc, table, known, front)? else {
-                return Ok(None);
-            };
-            let Some(right) = product(alloc, table, known, back)? else {
-                return Ok(None);
-            };
-            Ok(Some(both(&left, &right)?))
+            let left = product(alloc, table, known, front)?;
+            let right = product(alloc, table, known, back)?;
+            both(&left, &right)
         }
     }
 }

@@ -1,14 +1,15 @@
 //! Sums over nodes. Nested sums are opened in place: each node under a sum gives way to its parts once, with the sum of its
 //! weights, since nodes are taken by decreasing number and parts have lower numbers.
-ghost use Rattle.std.specs.Prelude.{◌≡◌, ◌+◌, ◌<◌, ◌∷◌, ◌++◌, [], length, IsTrue, IfOk, IfSome, OnOk, MatchOption};
+ghost use Rattle.std.specs.Prelude.{◌≡◌, ◌+◌, ◌<◌, ◌∷◌, ◌++◌, [], length, IsTrue, IfOk, OnOk, MatchOption};
 ghost use Rattle.std.specs.BinaryHeap.{heap_items};
 ghost use Rattle.std.specs.List.Sorted.{IsPermutation};
 ghost use Rattle.ffc_ring.specs.Polynomial.{SamePolynomial, scaled};
-ghost use Rattle.ffc_term.specs.Tables.{IsFieldAt};
+ghost use Rattle.ffc_term.specs.Tables.{IsFieldAt, IsTable};
 ghost use Rattle.ffc_poly.specs.Ordered.{sum_of};
 ghost use Rattle.ffc_trees.specs.NodePolynomials.{node_polys, poly_at};
 ghost use Rattle.ffc_encode.specs.Parts.{IsWithin, AreKnown};
-ghost use Rattle.ffc_encode.specs.Waiting.{owed_of, owed, AreOwed, geometric, Takes, IsOfNode};
+ghost use Rattle.ffc_encode.specs.Waiting.{owed_of, owed, AreOwed, AreOpened, owed_size, geometric, Takes, IsOfNode};
+ghost use Rattle.ffc_encode.specs.Opening.{IsOpenable, IsReady, IsSumAt, size_at};
 
 use crate::leaves::{leaf, memory};
 use ffc_field::Field;
@@ -96,39 +97,28 @@ fn multiple<F: Field, O: MonoOrder>(part: &Poly<F, O>, c: F) -> Result<Poly<F, O
     }
 }
 
-/// Lets the parts of a sum wait in its place. False for another node.
+/// Lets the parts of a sum wait in its place.
 fn open<F: Field>(
     table: &NodeTable,
     waiting: &mut BinaryHeap<Owed>,
     weight: F,
     id: NodeId,
-) -> Result<bool, AllocError>
+) -> Result<(), AllocError>
     requires field { IsFieldAt table.now F.ORDER id }
-    requires waiting { AreOwed table.now F.ORDER (heap_items waiting.old) }
-    ensures waiting { IfOk result (λ b. IsTrue b → AreOwed table.now F.ORDER (heap_items waiting.new)) }
-    ensures same { IfOk result
-        (λ b. IsTrue b → SamePolynomial F.ORDER (owed (node_polys table.now) (heap_items waiting.new))
+    requires sum { IsSumAt table.now id }
+    ensures waiting { OnOk result (AreOpened table.now id (heap_items waiting.old) (heap_items waiting.new)) }
+    ensures same { OnOk result (SamePolynomial F.ORDER (owed (node_polys table.now) (heap_items waiting.new))
         (scaled (F.value weight) (poly_at table.now id) ++ owed (node_polys table.now) (heap_items waiting.old))) }
 {
     match table.node(id) {
-        Node::Add(ids) => {
-            owe_all(waiting, ids.as_slice(), weight, F::of(1))?;
-            Ok(true)
-        }
-        Node::Bitsum(ids) => {
-            owe_all(waiting, ids.as_slice(), weight, F::of(2))?;
-            Ok(true)
-        }
-        Node::Neg(a) => {
-            owe(waiting, *a, weight.neg())?;
-            Ok(true)
-        }
-        _ => Ok(false),
+        Node::Add(ids) => owe_all(waiting, ids.as_slice(), weight, F::of(1)),
+        Node::Bitsum(ids) => owe_all(waiting, ids.as_slice(), weight, F::of(2)),
+        Node::Neg(a) => owe(waiting, *a, weight.neg()),
+        _ => unreachable!(),
     }
 }
 
 /// Adds a multiple of a node's polynomial: at once where it is known or one term, and else by the node's parts, which wait.
-/// False for a product that is not known.
 fn settle<F: Field, O: MonoOrder>(
     alloc: Global,
     table: &NodeTable,
@@ -136,13 +126,15 @@ fn settle<F: Field, O: MonoOrder>(
     waiting: &mut BinaryHeap<Owed>,
     parts: &mut Vec<Poly<F, O>>,
     item: Owed,
-) -> Result<bool, AllocError>
-    requires field { IsFieldAt table.now F.ORDER item.node }
+) -> Result<(), AllocError>
+    requires valid { IsTable table.now }
+    requires node { IsOpenable table.now F.ORDER (IsReady table.now known.now) item.node }
     requires known { AreKnown F.ORDER table.now known.now }
-    requires waiting { AreOwed table.now F.ORDER (heap_items waiting.old) }
-    ensures waiting { IfOk result (λ b. IsTrue b → AreOwed table.now F.ORDER (heap_items waiting.new)) }
-    ensures same { IfOk result
-        (λ b. IsTrue b → SamePolynomial F.ORDER (sum_of parts.new.items ++ owed (node_polys table.now)
+    requires waiting { AreOwed table.now F.ORDER (IsReady table.now known.now) (heap_items waiting.old) }
+    ensures waiting { OnOk result (AreOwed table.now F.ORDER (IsReady table.now known.now) (heap_items waiting.new)) }
+    ensures less { OnOk result (owed_size table.now (heap_items waiting.new)
+        < owed_size table.now (heap_items waiting.old) + size_at table.now item.node) }
+    ensures same { OnOk result (SamePolynomial F.ORDER (sum_of parts.new.items ++ owed (node_polys table.now)
         (heap_items waiting.new))
         (sum_of parts.old.items ++ (scaled item.weight (poly_at table.now item.node) ++ owed (node_polys table.now)
         (heap_items waiting.old)))) }
@@ -150,11 +142,11 @@ fn settle<F: Field, O: MonoOrder>(
     let weight = F::of(u128::from(item.weight));
     if let Some(part) = known.get(&item.node) {
         parts.push(multiple(part, weight)?)?;
-        return Ok(true);
+        return Ok(());
     }
     if let Some(part) = leaf(alloc, table, weight, item.node)? {
         parts.push(part)?;
-        return Ok(true);
+        return Ok(());
     }
     open(table, waiting, weight, item.node)
 }
@@ -178,28 +170,24 @@ fn total<F: Field, O: MonoOrder>(
     }
 }
 
-/// The polynomial of a sum, from those of the products under it. `None` where one of them is not known.
+/// The polynomial of a node that is no product. The products under it, as far as it is opened, have to be known.
 pub fn sum_at<F: Field, O: MonoOrder>(
     alloc: Global,
     table: &NodeTable,
     known: &BTreeMap<NodeId, Poly<F, O>>,
     id: NodeId,
-) -> Result<Option<Poly<F, O>>, AllocError>
+) -> Result<Poly<F, O>, AllocError>
+    requires valid { IsTable table.now }
     requires within { IsWithin table.now F.ORDER id }
     requires known { AreKnown F.ORDER table.now known.now }
-    ensures { IfOk result (λ o. IfSome o (λ r. SamePolynomial F.ORDER r (poly_at table.now id))) }
+    requires opens { IsOpenable table.now F.ORDER (IsReady table.now known.now) id }
+    ensures { IfOk result (λ r. SamePolynomial F.ORDER r (poly_at table.now id)) }
 {
     let mut parts = Vec::new(alloc);
     let mut waiting = BinaryHeap::new(alloc);
     owe(&mut waiting, id, F::of(1))?;
-    for _ in 0..u64::MAX {
-        let Some(item) = next::<F>(&mut waiting) else {
-            return Ok(Some(total(alloc, table, parts.as_slice(), id)?));
-        };
-        let settled = settle(alloc, table, known, &mut waiting, &mut parts, item)?;
-        if !settled {
-            return Ok(None);
-        }
+    while let Some(item) = next::<F>(&mut waiting) {
+        settle(alloc, table, known, &mut waiting, &mut parts, item)?;
     }
-    Ok(None)
+    total(alloc, table, parts.as_slice(), id)
 }

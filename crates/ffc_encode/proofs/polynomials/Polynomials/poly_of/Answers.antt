@@ -6,8 +6,8 @@ use Rattle.ffc_trees.specs.NodePolynomials.{poly_at}
 use Rattle.ffc_encode.proofs.ExpandLemmas.{values_of_node}
 use Rattle.ffc_encode.proofs.polynomials.Polynomials.poly_of.Goals as goal
 
-pub returns-in-Some-clause-value : goal.returns-in-Some-clause-value
-returns-in-Some-clause-value g c =
+pub returns-clause-value : goal.returns-clause-value
+returns-clause-value g c =
     let p = g.F.Field.ORDER in
     let nodes = c.args.self.now in
     let same : SamePolynomial p c.in-Some.found.now (poly_at nodes c.args.id) = first_of (search rules, grind (arith, common_steps)) in

@@ -1,0 +1,249 @@
+-- Nodes whose polynomials are made by themselves: what is noted of those under them.
+use Rattle.std.proofs.Common.{◌≡◌, ℕ, zero, suc, ◌<◌, ◌≤◌, max, Bool, true, false, cond, List, [], ◌∷◌, ◌++◌, length, get_or, All, Contains, Option, Some, None, is_some, IsSome, IfSome, ◌⊎◌, inl, inr, ⊎_elim, refl, sym, ap, ◌∙◌, subst, arith}
+use Rattle.std.specs.Ordering.{nat_cmp, is_lt}
+use Rattle.std.specs.BTreeMap.{BTreeMap, get, is_at, IsUpperBound, Updates}
+use Rattle.std.specs.Map.{lookup}
+use Rattle.std.specs.BTreeSet.{BTreeSet}
+use Rattle.std.proofs.lemmas.Bool.{cases_eq}
+use Rattle.std.proofs.lemmas.Bool.Decides.{nat_tests}
+use Rattle.std.proofs.lemmas.Option.{same_Some}
+use Rattle.std.proofs.lemmas.List.Elements.{All-append, Contains-append_left, Contains-append_right}
+use Rattle.ffc_ring.specs.Polynomial.{Terms}
+use Rattle.ffc_term.specs.declared.node.Node.{Node}
+use Rattle.ffc_term.specs.declared.node.Node.TheVariants.{Mul}
+use Rattle.ffc_term.specs.Nodes.{IsNodeAt}
+use Rattle.ffc_term.specs.Tables.{IsFieldAt, IsTable}
+use Rattle.ffc_trees.specs.Parts.{parts_of}
+use Rattle.ffc_trees.proofs.PartLemmas.{parts_are}
+use Rattle.ffc_encode.specs.Parts.{IsWithin}
+use Rattle.ffc_encode.specs.Opening.{is_product, is_leaf, IsLeafAt, IsReady, CanOpen, CanMake}
+use Rattle.ffc_encode.specs.Opening.CanOpen.{There, Opened}
+use Rattle.ffc_encode.specs.Order.{HasId, IsWaiting, AreNoted, IsNowListed, CanBeMadeInOrder, IsListedOrLeaf}
+use Rattle.ffc_encode.proofs.OpeningLemmas.{leaf_plain}
+use Rattle.ffc_encode.proofs.PartLemmas.{at_some, parts_within}
+
+pub apart : (x y : ℕ) → (x ≡ y → ⊥) → is_at (nat_cmp x) y ≡ false
+apart x y ne = grind (arith, nat_tests, ne)
+
+pub at_other : {X : Type 0} (old new : BTreeMap ℕ X) (id : ℕ) (w : Option X) → Updates nat_cmp old new id w → (q : ℕ) → (id ≡ q → ⊥) → get nat_cmp new q ≡ get nat_cmp old q
+at_other old new id w u q ne = u.2 q (apart id q ne)
+
+pub all_one : (P : ℕ → Type 0) (x : ℕ) → P x → All P (x ∷ [])
+all_one P x h zero d inside = h
+all_one P x h (suc i) d inside = absurd (omega arith)
+
+-- ---- what is noted
+
+pub noted_known : (known : BTreeMap ℕ Terms) (w : BTreeMap ℕ Bool) (factor : Bool) (id : ℕ) → IsSome (get nat_cmp known id) → AreNoted known w w factor (id ∷ [])
+noted_known known w factor id is = record {
+  each = all_one (λ q. IsSome (get nat_cmp known q) ⊎ IsWaiting w factor q) id (inl is);
+  kept = λ q b h. h;
+  only = λ q h. inl h;
+}
+
+pub one_noted : (known : BTreeMap ℕ Terms) (old new : BTreeMap ℕ Bool) (factor : Bool) (id : ℕ) (noted : Bool) → Updates nat_cmp old new id (Some noted) → (factor ≡ true → noted ≡ true)
+    → IfSome (get nat_cmp old id) (λ b. b ≡ true → noted ≡ true) → AreNoted known old new factor (id ∷ [])
+one_noted known old new factor id noted u is before = record {
+  each = all_one (λ q. IsSome (get nat_cmp known q) ⊎ IsWaiting new factor q) id (inr (record { is_factor = noted; at = u.1; noted = is }));
+  kept = λ q b w. ⊎_elim
+      (λ e. record { is_factor = noted; at = subst (λ k. get nat_cmp new k ≡ Some noted) e u.1; noted = λ t. at_some (λ (v : Bool). v ≡ true → noted ≡ true) (get nat_cmp old id) w.is_factor (ap (get nat_cmp old) e ∙ w.at) before (w.noted t) })
+      (λ ne. record { is_factor = w.is_factor; at = at_other old new id (Some noted) u q ne ∙ w.at; noted = w.noted })
+      (cases_eq id q);
+  only = λ q is. ⊎_elim (λ e. inr (0, omega arith, e)) (λ ne. inl (subst (λ o. IsSome o) (at_other old new id (Some noted) u q ne) is)) (cases_eq id q);
+}
+
+pub more_noted : (known : BTreeMap ℕ Terms) (a b c : BTreeMap ℕ Bool) (factor : Bool) (xs ys : List ℕ) → AreNoted known a b factor xs → AreNoted known b c factor ys → AreNoted known a c factor (xs ++ ys)
+more_noted known a b c factor xs ys first second = record {
+  each = All-append (λ q. IsSome (get nat_cmp known q) ⊎ IsWaiting c factor q) xs ys
+      (λ k d h. ⊎_elim (λ i. inl i) (λ w. inr (second.kept (get_or xs k d) factor w)) (first.each k d h)) second.each;
+  kept = λ q f w. second.kept q f (first.kept q f w);
+  only = λ q is. ⊎_elim
+      (λ i. ⊎_elim (λ j. inl j) (λ h. inr (Contains-append_left xs ys q h)) (first.only q i))
+      (λ h. inr (Contains-append_right xs ys q h)) (second.only q is);
+}
+
+-- ---- what can be opened
+
+pub open_through : (ns : List Node) (F G : ℕ → Type 0) → ((q : ℕ) → F q → CanOpen ns G q) → (id : ℕ) → CanOpen ns F id → CanOpen ns G id
+open_through ns F G f _ (There id h) = f id h
+open_through ns F G f _ (Opened id n at plain parts) = Opened id n at plain (λ k d inside. open_through ns F G f (get_or (parts_of n) k d) (parts k d inside))
+
+pub make_through : (ns : List Node) (F G H K : ℕ → Type 0) → ((q : ℕ) → F q → H q) → ((q : ℕ) → G q → CanOpen ns K q) → (id : ℕ) → CanMake ns F G id → CanMake ns H K id
+make_through ns F G H K f g id m = record {
+  factors = λ ids at k d inside. f (get_or ids k d) (m.factors ids at k d inside);
+  parts = λ n at plain k d inside. open_through ns G K g (get_or (parts_of n) k d) (m.parts n at plain k d inside);
+}
+
+-- what is there of smaller numbers is enough
+open_before : (ns : List Node) (p bound : ℕ) (F G : ℕ → Type 0) → IsTable ns → ((q : ℕ) → q < bound → F q → G q) → (id : ℕ) → IsFieldAt ns p id → id < bound → CanOpen ns F id → CanOpen ns G id
+open_before ns p bound F G table f _ is below (There id h) = There id (f id below h)
+open_before ns p bound F G table f _ is below (Opened id n at plain parts) = Opened id n at plain (λ k d inside.
+    let part = parts_are ns p id table is n at k d inside in
+    open_before ns p bound F G table f (get_or (parts_of n) k d) part.0 (omega (arith, part.1, below)) (parts k d inside))
+
+pub make_before : (ns : List Node) (p id : ℕ) (F G : ℕ → Type 0) → IsTable ns → IsFieldAt ns p id → ((q : ℕ) → q < id → F q → G q) → CanMake ns F F id → CanMake ns G G id
+make_before ns p id F G table is f m = record {
+  factors = λ ids at k d inside. f (get_or ids k d) (parts_are ns p id table is (Mul ids) at k d inside).1 (m.factors ids at k d inside);
+  parts = λ n at plain k d inside.
+      let part = parts_are ns p id table is n at k d inside in
+      open_before ns p id F G table f (get_or (parts_of n) k d) part.0 part.1 (m.parts n at plain k d inside);
+}
+
+-- ---- the greatest number that waits
+
+abbrev pub top : {X : Type 0} → List (ℕ × X) → ℕ
+top [] = 0
+top (e ∷ es) = max (suc e.0) (top es)
+
+top-push : {X : Type 0} (es : List (ℕ × X)) (e : ℕ × X) → e.0 < top (es ++ e ∷ [])
+top-push [] e = omega arith
+top-push (x ∷ es) e = omega (arith, top-push es e)
+
+here : {X : Type 0} (k : ℕ) (x : X) (es : List (ℕ × X)) → IsSome (lookup (is_at (nat_cmp k)) ((k, x) ∷ es))
+here k x es = grind (arith, nat_tests)
+
+further : {X : Type 0} (e : ℕ × X) (es : List (ℕ × X)) (q : ℕ) → IsSome (lookup (is_at (nat_cmp q)) (es)) → IsSome (lookup (is_at (nat_cmp q)) (e ∷ es))
+further e es q is = by_case (is_at (nat_cmp q) e.0)
+  where
+    by_case : (b : Bool) → IsSome (cond b (Some e.1) (lookup (is_at (nat_cmp q)) (es)))
+    by_case true = refl
+    by_case false = is
+
+top_below : {X : Type 0} (es : List (ℕ × X)) (n : ℕ) → ((q : ℕ) → IsSome (lookup (is_at (nat_cmp q)) (es)) → q < n) → top es ≤ n
+top_below [] n h = omega arith
+top_below (e ∷ es) n h = omega (arith, h e.0 (here e.0 e.1 es), top_below es n (λ q is. h q (further e es q is)))
+
+-- ---- the nodes that were looked at
+
+-- a node is known, or a single term, or listed, or waits
+abbrev pub IsFound : List Node → BTreeMap ℕ Terms → BTreeSet ℕ → BTreeMap ℕ Bool → Bool → ℕ → Type 0
+IsFound ns known ids waiting factor q = IsReady ns known q ⊎ (HasId ids q ⊎ IsWaiting waiting factor q)
+
+-- The nodes under `root` that were looked at: those that are listed can be made once those that wait were looked at too.
+pub record IsUnderway (ns : List Node) (p : ℕ) (known : BTreeMap ℕ Terms) (root : ℕ) (ids : BTreeSet ℕ) (waiting : BTreeMap ℕ Bool) : Type 0 where
+  pub listed : (q : ℕ) → HasId ids q → IsWithin ns p q
+  pub waits : (q : ℕ) → IsSome (get nat_cmp waiting q) → IsWithin ns p q
+  pub made : (q : ℕ) → HasId ids q → CanMake ns (IsFound ns known ids waiting true) (IsFound ns known ids waiting false) q
+  pub itself : IsLeafAt ns root ⊎ (HasId ids root ⊎ IsWaiting waiting true root)
+
+none_there : {X : Type 0} (m : BTreeMap ℕ X) (q : ℕ) → get nat_cmp m q ≡ None → IsSome (get nat_cmp m q) → ⊥
+none_there m q e is = let h = sym (ap is_some e) ∙ is in cc
+
+module _ (ns : List Node) (p : ℕ) (known : BTreeMap ℕ Terms) (root : ℕ) (ids listed_ids : BTreeSet ℕ) (w v w' : BTreeMap ℕ Bool) (next : ℕ) (factor : Bool) (n : Node)
+    (table : IsTable ns) (at : IsNodeAt ns next n) (was : get nat_cmp w next ≡ Some factor) (popped : Updates nat_cmp w v next None)
+    (listed : IsNowListed ns ids listed_ids next factor) (noted : AreNoted known v w' (is_product n) (parts_of n)) (before : IsUnderway ns p known root ids w) where
+  abbrev Now : Bool → ℕ → Type 0
+  Now b = IsFound ns known listed_ids w' b
+
+  next_within : IsWithin ns p next
+  next_within = before.waits next (ap is_some was)
+
+  -- what was noted of the node
+  as_noted : (b : Bool) → IsWaiting w b next → b ≡ true → factor ≡ true
+  as_noted b h t = let same : h.is_factor ≡ factor = same_Some h.is_factor factor (sym h.at ∙ was) in sym same ∙ h.noted t
+
+  still_waits : (q : ℕ) (b : Bool) → (next ≡ q → ⊥) → IsWaiting w b q → IsWaiting w' b q
+  still_waits q b ne h = noted.kept q b (record { is_factor = h.is_factor; at = at_other w v next None popped q ne ∙ h.at; noted = h.noted })
+
+  is_term : is_leaf n ≡ true → IsLeafAt ns next
+  is_term e = record { node = n; at = at; leaf = e }
+
+  factor_stays : (q : ℕ) → IsWaiting w true q → IsLeafAt ns q ⊎ (HasId listed_ids q ⊎ IsWaiting w' true q)
+  factor_stays q h = ⊎_elim
+      (λ e. ⊎_elim (λ l. inr (inl (subst (HasId listed_ids) e l)))
+      (λ r. ⊎_elim (λ t. inl (subst (IsLeafAt ns) e (is_term t)))
+      (λ no. let is = as_noted true (subst (IsWaiting w true) (sym e) h) refl in let never = sym is ∙ no.0 in cc) r)
+      (listed.listed n at))
+      (λ ne. inr (inr (still_waits q true ne h))) (cases_eq next q)
+
+  factors_stay : (q : ℕ) → IsFound ns known ids w true q → Now true q
+  factors_stay q (inl i) = inl i
+  factors_stay q (inr (inl h)) = inr (inl (listed.kept q h))
+  factors_stay q (inr (inr h)) = ⊎_elim (λ l. inl (inr l)) (λ r. inr r) (factor_stays q h)
+
+  parts_found : All (Now (is_product n)) (parts_of n)
+  parts_found k d inside = ⊎_elim (λ i. inl (inl i)) (λ h. inr (inr h)) (noted.each k d inside)
+
+  next_opens : CanOpen ns (Now false) next
+  next_opens = ⊎_elim (λ l. There next (inr (inl l)))
+      (λ r. ⊎_elim (λ t. There next (inl (inr (is_term t))))
+      (λ no. Opened next n at no.1 (λ k d inside. There (get_or (parts_of n) k d) (subst (λ b. Now b (get_or (parts_of n) k d)) no.1 (parts_found k d inside)))) r)
+      (listed.listed n at)
+
+  stays_open : (q : ℕ) → IsFound ns known ids w false q → CanOpen ns (Now false) q
+  stays_open q (inl i) = There q (inl i)
+  stays_open q (inr (inl h)) = There q (inr (inl (listed.kept q h)))
+  stays_open q (inr (inr h)) =
+      ⊎_elim (λ e. subst (CanOpen ns (Now false)) e next_opens) (λ ne. There q (inr (inr (still_waits q false ne h)))) (cases_eq next q)
+
+  next_parts : (m : Node) → IsNodeAt ns next m → All (Now (is_product m)) (parts_of m)
+  next_parts m there = subst (λ k. All (Now (is_product k)) (parts_of k)) (same_Some n m (sym at ∙ there)) parts_found
+
+  next_made : CanMake ns (Now true) (Now false) next
+  next_made = record {
+    factors = λ ms there. next_parts (Mul ms) there;
+    parts = λ m there plain k d inside. There (get_or (parts_of m) k d) (subst (λ b. Now b (get_or (parts_of m) k d)) plain (next_parts m there k d inside));
+  }
+
+  -- what waits now waited before, or is a part of the node
+  origin : (q : ℕ) → IsSome (get nat_cmp w' q) → ((next ≡ q → ⊥) × IsSome (get nat_cmp w q)) ⊎ Contains (parts_of n) q
+  origin q is = ⊎_elim
+      (λ h. ⊎_elim (λ e. absurd (none_there v q (subst (λ k. get nat_cmp v k ≡ None) e popped.1) h)) (λ ne. inl (ne, subst (λ o. IsSome o) (at_other w v next None popped q ne) h)) (cases_eq next q))
+      (λ h. inr h) (noted.only q is)
+
+  pub looked_at : IsUnderway ns p known root listed_ids w'
+  looked_at = record {
+    listed = λ q h. ⊎_elim (λ old. before.listed q old) (λ e. subst (IsWithin ns p) (sym e) next_within) (listed.only q h);
+    waits = λ q is. ⊎_elim (λ o. before.waits q o.1)
+        (λ h. subst (IsWithin ns p) h.2 (parts_within ns p next table n at next_within h.0 q h.1)) (origin q is);
+    made = λ q h. ⊎_elim
+        (λ old. make_through ns (IsFound ns known ids w true) (IsFound ns known ids w false) (Now true) (Now false) factors_stay stays_open q (before.made q old))
+        (λ e. subst (CanMake ns (Now true) (Now false)) (sym e) next_made) (listed.only q h);
+    itself = ⊎_elim (λ l. inl l) (λ r. ⊎_elim (λ h. inr (inl (listed.kept root h))) (λ h. factor_stays root h) r) before.itself;
+  }
+
+  pub smaller : IsUpperBound nat_cmp w next → w.entries ≡ v.entries ++ (next, factor) ∷ [] → top w'.entries < top w.entries
+  smaller greatest removed =
+      let low : top w'.entries ≤ next = top_below w'.entries next (λ q is. ⊎_elim
+      (λ o. below next q o.0 (greatest q o.1))
+      (λ h. subst (λ k. k < next) h.2 (parts_are ns p next table next_within.field n at h.0 q h.1).1) (origin q is)) in
+      let high : next < top w.entries = subst (λ es. next < top es) (sym removed) (top-push v.entries (next, factor)) in
+      omega (arith, low, high)
+    where
+      below : (x y : ℕ) → (x ≡ y → ⊥) → is_lt (nat_cmp x y) ≡ false → y < x
+      below x y ne h = grind (arith, nat_tests, ne, h)
+
+-- one node waits at first
+pub first_waits : (ns : List Node) (p : ℕ) (known : BTreeMap ℕ Terms) (root : ℕ) (ids : BTreeSet ℕ) (old w : BTreeMap ℕ Bool) → ((q : ℕ) → HasId ids q → ⊥) → ((q : ℕ) → get nat_cmp old q ≡ None) → Updates nat_cmp old w root (Some true) → IsWithin ns p root → IsUnderway ns p known root ids w
+first_waits ns p known root ids old w none empty u within = record {
+  listed = λ q h. absurd (none q h);
+  waits = λ q is. ⊎_elim (λ e. subst (IsWithin ns p) e within) (λ ne. absurd (none_there old q (empty q) (subst (λ o. IsSome o) (at_other old w root (Some true) u q ne) is))) (cases_eq root q);
+  made = λ q h. absurd (none q h);
+  itself = inr (inr (record { is_factor = true; at = u.1; noted = λ t. refl }));
+}
+
+-- nothing waits any more
+module _ (ns : List Node) (p : ℕ) (known : BTreeMap ℕ Terms) (root : ℕ) (ids : BTreeSet ℕ) (w : BTreeMap ℕ Bool) (before : IsUnderway ns p known root ids w) (none : (q : ℕ) → get nat_cmp w q ≡ None) where
+  abbrev Then : ℕ → Type 0
+  Then q = IsReady ns known q ⊎ HasId ids q
+
+  found : (b : Bool) (q : ℕ) → IsFound ns known ids w b q → Then q
+  found b q (inl i) = inl i
+  found b q (inr (inl h)) = inr h
+  found b q (inr (inr h)) = absurd (none_there w q (none q) (ap is_some h.at))
+
+  pub all_listed : CanBeMadeInOrder ns p known ids
+  all_listed = record {
+    within = before.listed;
+    made = λ q h. make_through ns (IsFound ns known ids w true) (IsFound ns known ids w false) Then Then (found true) (λ k f. There k (found false k f)) q (before.made q h);
+  }
+
+  pub root_listed : IsListedOrLeaf ns ids root
+  root_listed = ⊎_elim (λ l. inr l) (λ r. ⊎_elim (λ h. inl h) (λ h. absurd (none_there w root (none root) (ap is_some h.at))) r) before.itself
+
+nothing : {X : Type 0} (xs : List X) → length xs ≡ 0 → xs ≡ []
+nothing [] h = refl
+nothing (x ∷ xs) h = absurd (omega arith)
+
+pub none_in_empty : {X : Type 0} (m : BTreeMap ℕ X) (q : ℕ) → length m.entries ≡ 0 → get nat_cmp m q ≡ None
+none_in_empty m q e = ap (lookup (is_at (nat_cmp q))) (nothing m.entries e)

@@ -1,0 +1,15 @@
+use Rattle.std.proofs.Common.{◌∷◌, [], get_or, sym, subst}
+use Rattle.std.proofs.lemmas.List.{take_more}
+use Rattle.ffc_encode.specs.Order.{AreNoted}
+use Rattle.ffc_encode.proofs.OrderLemmas.{more_noted}
+use Rattle.ffc_encode.proofs.order.note_all.Goals as goal
+
+pub loop-id-preserved : goal.loop-id-preserved
+loop-id-preserved g c =
+    let known = c.args.known.now in
+    let old = c.args.waiting.now in
+    let new = c.note_one.new.waiting in
+    let ids = c.args.ids.now in
+    let i = c.loop-id.id-index in
+    subst (AreNoted known old new c.args.factors) (sym (take_more ids i 0 c.loop-id-test.true))
+    (more_noted known old c.loop-id.waiting new c.args.factors _ (get_or ids i 0 ∷ []) c.loop-id.invariant c.in_ok-note_one.ensures)

@@ -1,0 +1,6 @@
+use Rattle.std.proofs.Common.{take}
+use Rattle.ffc_encode.specs.Order.{AreNoted}
+use Rattle.ffc_encode.proofs.order.note_all.Given as goal
+
+abbrev pub invariant-loop-id : goal.invariant-loop-id
+invariant-loop-id g l = AreNoted l.known l.initial.waiting l.waiting l.factors (take l.id-index l.ids)

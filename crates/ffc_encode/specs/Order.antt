@@ -1,0 +1,41 @@
+-- Which nodes under a node have polynomials made by themselves, and what is noted of those that were not looked at yet.
+use Rattle.std.specs.Prelude.{◌≡◌, ℕ, Bool, true, false, List, ◌⊎◌, IsTrue, All, Contains, Some, IsSome}
+use Rattle.std.specs.Ordering.{nat_cmp}
+use Rattle.std.specs.BTreeMap.{BTreeMap, get}
+use Rattle.std.specs.BTreeSet as set
+use Rattle.std.specs.BTreeSet.{BTreeSet}
+use Rattle.ffc_ring.specs.Polynomial.{Terms}
+use Rattle.ffc_term.specs.declared.node.Node.{Node}
+use Rattle.ffc_term.specs.Nodes.{IsNodeAt}
+use Rattle.ffc_encode.specs.Parts.{IsWithin}
+use Rattle.ffc_encode.specs.Opening.{is_product, is_leaf, IsLeafAt, IsReady, CanMake}
+
+-- the set has the number
+abbrev pub HasId : BTreeSet ℕ → ℕ → Type 0
+HasId ids id = IsTrue (set.contains nat_cmp ids id)
+
+-- a node waits, and where `factor` is true it is noted as a factor
+pub record IsWaiting (waiting : BTreeMap ℕ Bool) (factor : Bool) (id : ℕ) : Type 0 where
+  pub is_factor : Bool
+  pub at : get nat_cmp waiting id ≡ Some is_factor
+  pub noted : factor ≡ true → is_factor ≡ true
+
+-- each of these nodes is known or waits now, and no other node was added to those that wait
+pub record AreNoted (known : BTreeMap ℕ Terms) (old new : BTreeMap ℕ Bool) (factor : Bool) (ids : List ℕ) : Type 0 where
+  pub each : All (λ id. IsSome (get nat_cmp known id) ⊎ IsWaiting new factor id) ids
+  pub kept : (id : ℕ) (b : Bool) → IsWaiting old b id → IsWaiting new b id
+  pub only : (id : ℕ) → IsSome (get nat_cmp new id) → IsSome (get nat_cmp old id) ⊎ Contains ids id
+
+-- the node is listed now, where it is a product, or a factor that is no single term, and no other was added
+pub record IsNowListed (nodes : List Node) (old new : BTreeSet ℕ) (id : ℕ) (factor : Bool) : Type 0 where
+  pub kept : (q : ℕ) → HasId old q → HasId new q
+  pub only : (q : ℕ) → HasId new q → HasId old q ⊎ (q ≡ id)
+  pub listed : (n : Node) → IsNodeAt nodes id n → HasId new id ⊎ ((is_leaf n ≡ true) ⊎ ((factor ≡ false) × (is_product n ≡ false)))
+
+-- The listed nodes can be made in increasing order: from what is known or a single term, and what is made of the listed ones.
+pub record CanBeMadeInOrder (nodes : List Node) (p : ℕ) (known : BTreeMap ℕ Terms) (ids : BTreeSet ℕ) : Type 0 where
+  pub within : (id : ℕ) → HasId ids id → IsWithin nodes p id
+  pub made : (id : ℕ) → HasId ids id → CanMake nodes (λ q. IsReady nodes known q ⊎ HasId ids q) (λ q. IsReady nodes known q ⊎ HasId ids q) id
+
+abbrev pub IsListedOrLeaf : List Node → BTreeSet ℕ → ℕ → Type 0
+IsListedOrLeaf nodes ids id = HasId ids id ⊎ IsLeafAt nodes id
