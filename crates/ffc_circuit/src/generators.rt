@@ -99,12 +99,9 @@ fn difference<F: Field>(
     if !is_of_order(table, F::ORDER, left) || !is_of_order(table, F::ORDER, right) {
         return Err(GeneratorStop::GaveUp);
     }
-    polys.learn(left)?;
-    polys.learn(right)?;
-    match (polys.known(left), polys.known(right)) {
-        (Some(left), Some(right)) => Ok(left.sub(right)?),
-        _ => Err(GeneratorStop::GaveUp),
-    }
+    let left = polys.copy_of(left)?;
+    let right = polys.copy_of(right)?;
+    Ok(left.sub(&right)?)
 }
 
 /// The polynomial that is a constant.
