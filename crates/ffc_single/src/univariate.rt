@@ -43,17 +43,14 @@ fn side<F: Field>(
     ensures nodes { polynomials.new ≡ polynomials.old }
     ensures same { IfOk result (λ u. SamePolynomial F.ORDER (terms_in variable u) (poly_at polynomials.old id)) }
 {
-    match polynomials.learn(id) {
-        Ok(()) => {}
+    let found = match polynomials.copy_of(id) {
+        Ok(found) => found,
         Err(EncodeStop::Memory) => return Err(AllocError),
         Err(_) => unreachable!(),
-    }
-    let Some(found) = polynomials.known(id) else {
-        return Err(AllocError);
     };
     // Reading the number of terms is what says that they are in order.
     let _terms = found.len();
-    match to_univariate(alloc, found, variable)? {
+    match to_univariate(alloc, &found, variable)? {
         Some(form) => Ok(form),
         None => unreachable!(),
     }

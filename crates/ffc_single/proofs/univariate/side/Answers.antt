@@ -9,7 +9,7 @@ use Rattle.ffc_single.proofs.univariate.side.Goals as goal
 
 pub unreachable-requires-in-None : goal.unreachable-requires-in-None
 unreachable-requires-in-None g c =
-    let f = c.in-Some.found.now in
+    let f = c.in-Ok.found in
     let other : IsInOne c.args.variable f → ⊥ = subst (λ o. IfNone o (IsInOne c.args.variable f → ⊥)) c.in-None.is c.in_ok-form.ensures.none in
     other (side_in_one g.F.Field.ORDER _ 1024 c.args.polynomials.now c.args.variable c.args.id f graded_reverse_lex_laws c.requires c.len-terms.ensures.ordered
-    (subst (λ ns. SamePolynomial g.F.Field.ORDER f (poly_at ns c.args.id)) c.in-Ok.ensures.nodes c.in-Some.ensures.same))
+    c.in-Ok.ensures.same)
