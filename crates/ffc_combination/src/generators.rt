@@ -9,7 +9,7 @@ ghost use Rattle.ffc_term.specs.Measuring.{degree_at, length_at};
 ghost use Rattle.ffc_term.specs.Nodes.{IsNodeAt, node_at};
 ghost use Rattle.ffc_term.specs.Tables.{IsFieldAt, IsTable};
 ghost use Rattle.ffc_trees.specs.FirstLines.{difference_of, first_line, first_lines};
-ghost use Rattle.ffc_trees.specs.NodePolynomials.{constant};
+ghost use Rattle.ffc_trees.specs.NodePolynomials.{constant, poly_at};
 ghost use Rattle.ffc_trees.specs.Normal.{IsNormal};
 
 use ffc_cert::Literal;
@@ -35,18 +35,19 @@ fn sides<F: Field>(table: &NodeTable, id: NodeId) -> (NodeId, NodeId)
     }
 }
 
-/// Makes the polynomial of a field node that is within the limits.
-fn learn<F: Field>(
+/// The polynomial of a field node that is within the limits.
+fn side<F: Field>(
     polynomials: &mut Polynomials<'_, F, GradedReverseLex>,
     id: NodeId,
-) -> Result<(), AllocError>
+) -> Result<Generator<F>, AllocError>
     requires field { IsFieldAt polynomials.old F.ORDER id }
     requires low { degree_at polynomials.old id ≤ 255 }
     requires short { length_at polynomials.old id ≤ 65536 }
-    ensures { polynomials.new ≡ polynomials.old }
+    ensures nodes { polynomials.new ≡ polynomials.old }
+    ensures same { IfOk result (λ r. SamePolynomial F.ORDER r (poly_at polynomials.old id)) }
 {
-    match polynomials.learn(id) {
-        Ok(()) => Ok(()),
+    match polynomials.copy_of(id) {
+        Ok(found) => Ok(found),
         Err(EncodeStop::Memory) => Err(AllocError),
         Err(_) => unreachable!(),
     }
@@ -83,15 +84,9 @@ pub(crate) fn difference_of<F: Field>(
     ensures normal { IfOk result (IsNormal F.ORDER) }
 {
     let (s, t) = sides::<F>(table, id);
-    learn(polynomials, s)?;
-    learn(polynomials, t)?;
-    let Some(left) = polynomials.known(s) else {
-        return Err(AllocError);
-    };
-    let Some(right) = polynomials.known(t) else {
-        return Err(AllocError);
-    };
-    minus(left, right)
+    let left = side(polynomials, s)?;
+    let right = side(polynomials, t)?;
+    minus(&left, &right)
 }
 
 /// A variable as a monomial.
