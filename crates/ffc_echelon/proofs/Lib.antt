@@ -13,3 +13,7 @@ pub mod Places
 pub mod Reducing
 pub mod Spanning
 pub mod UnitLemmas
+pub mod OrderingLemmas
+pub mod RestLemmas
+pub mod StepLemmas
+pub mod SolvingLemmas

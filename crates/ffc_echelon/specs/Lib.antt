@@ -6,3 +6,7 @@ pub mod Outcomes
 pub mod Placing
 pub mod Buffers
 pub mod Progress
+pub mod Ordering
+pub mod Solving
+pub mod Rests
+pub mod Resting

@@ -15,7 +15,7 @@ use ffc_field::Field;
 use std::alloc::{AllocError, Global};
 
 /// A buffer of a vector in so many columns.
-fn scattered<F: Field>(
+pub(crate) fn scattered<F: Field>(
     alloc: Global,
     columns: usize,
     vector: &Vector<F>,
