@@ -1,5 +1,5 @@
 -- The steps that decide a linear check.
-use Rattle.std.proofs.Common.{◌≡◌, ◌≢◌, ℕ, ◌+◌, ◌-◌, ◌*◌, ◌<◌, ◌≤◌, true, false, List, [], ◌∷◌, ◌++◌, length, map, get_or, All, Result, Err, sym, ap, ◌∙◌, subst, arith, Contains}
+use Rattle.std.proofs.Common.{◌≡◌, ◌≢◌, ℕ, ◌+◌, ◌-◌, ◌*◌, ◌<◌, ◌≤◌, true, false, List, [], length, map, get_or, All, Result, Err, sym, ap, ◌∙◌, subst, arith, Contains}
 use Rattle.std.specs.List.Sorted.{IsStrictlyIncreasing}
 use Rattle.ffc_base.specs.declared.stop.Stop.{Stop}
 use Rattle.ffc_base.specs.declared.stop.Stop.TheVariants.{Spent}
@@ -10,8 +10,9 @@ use Rattle.ffc_cert.specs.declared.entries.CertLine.{CertLine}
 use Rattle.ffc_clause.specs.Clauses.{Literal, minus, is_among}
 use Rattle.ffc_conjunction.specs.declared.conjunction.Conjunction.{Conjunction}
 use Rattle.ffc_conjunction.specs.Literals.{AreLiteralsOf, AreForced}
-use Rattle.ffc_echelon.specs.Forms.{Form, IsFormOf, IsContradiction, IsCombination, IsSolution, IsAvoided}
-use Rattle.ffc_echelon.specs.Vectors.{Coordinates, AreCoordinates, IsBelow, dot}
+use Rattle.ffc_echelon.specs.Forms.{IsContradiction, IsCombination}
+use Rattle.ffc_echelon.specs.Solving.{AreValues}
+use Rattle.ffc_echelon.specs.Vectors.{Coordinates, AreCoordinates, IsBelow}
 use Rattle.ffc_refutation.specs.Given.{AreReadable, AreRight}
 use Rattle.ffc_rules.specs.Cones.{atoms}
 use Rattle.ffc_rules.specs.Entries.{NodeCheck, limits}
@@ -23,13 +24,12 @@ use Rattle.ffc_term.specs.declared.node.Node.{Node}
 use Rattle.ffc_trials.specs.Known.{AreModelValuesOf}
 use Rattle.ffc_check.proofs.CaseLemmas.{within}
 use Rattle.ffc_linear.specs.Affine.{IsAffineForm, AreAffineForms}
-use Rattle.ffc_linear.specs.Decisions.{IsLinearSystem, HasCombined, HasRests, Decides}
+use Rattle.ffc_linear.specs.Decisions.{IsLinearSystem, HasCombined, Decides}
 use Rattle.ffc_linear.specs.declared.deciding.LinearAnswer.TheVariants.{Refuted}
 use Rattle.ffc_linear.specs.Forming.{IsAffineIn}
 use Rattle.ffc_linear.specs.Refuting.{IsUsable, AreForcedForms}
 use Rattle.ffc_linear.specs.Systems.{IsSystemOf, Solves}
 use Rattle.ffc_linear.specs.Units.{TakesWithin}
-use Rattle.ffc_linear.proofs.RestLemmas.{length_rests, avoided_rests, apart_vectors}
 use Rattle.ffc_linear.proofs.SystemLemmas.{each_equation, each_disequation, atom_usable, atom_in_constants, without_ite, affine_atoms, few_constants, few_literals, enough_units, enough_residues, constants_increase, length_forms, forms_below, form_at}
 
 module _ (c : NodeCheck) (p : ℕ) (conjunction : Conjunction) (constants : List ℕ) (equal unequal : List Coordinates) (s : IsLinearSystem c p conjunction constants equal unequal) where
@@ -70,17 +70,17 @@ module _ (c : NodeCheck) (p : ℕ) (conjunction : Conjunction) (constants : List
 
 -- a disequation that is a combination of the equations refutes
 module _ (c : NodeCheck) (p : ℕ) (conjunction : Conjunction) (place : ℕ) (cs : List ℕ) (h : HasCombined c p conjunction place cs) where
-  linear_system : IsLinearSystem c p conjunction h.constants h.reduced.equal h.unequal
-  linear_system = h.reduced.linear
+  linear_system : IsLinearSystem c p conjunction h.constants h.equal h.unequal
+  linear_system = h.linear
 
-  combination : IsCombination p h.reduced.equal h.combined.vector [] cs
-  combination = h.combined.combination h.reduced.equal (subst (λ n. IsFormOf p n h.reduced.equal h.form) (sym h.reduced.form_of.unknowns) h.reduced.form_of)
+  combination : IsCombination p h.equal h.combined.vector [] cs
+  combination = h.combined.combination
 
   pub combined_coefficients : length cs ≡ length conjunction.equations.items
-  combined_coefficients = combination.long ∙ sym (equation_count c p conjunction h.constants h.reduced.equal h.unequal linear_system)
+  combined_coefficients = combination.long ∙ sym (equation_count c p conjunction h.constants h.equal h.unequal linear_system)
 
   pub combined_equations : length conjunction.equations.items ≤ 4096
-  combined_equations = few_equations c p conjunction h.constants h.reduced.equal h.unequal linear_system
+  combined_equations = few_equations c p conjunction h.constants h.equal h.unequal linear_system
 
   form_there : (d : ℕ) → (place < length (disequations c.nodes c.in_force)) × IsAffineForm p c.nodes h.constants (get_or (disequations c.nodes c.in_force) place d) h.combined.vector
   form_there d = form_at p c.nodes h.constants (disequations c.nodes c.in_force) h.unequal place d h.combined.vector linear_system.system.unequal_forms h.combined.at
@@ -95,43 +95,22 @@ module _ (c : NodeCheck) (p : ℕ) (conjunction : Conjunction) (place : ℕ) (cs
       → Decides c (Refuted lines)
   combined_decides nodes d lines count is refutes units linear =
       let listed : d ≡ get_or (disequations c.nodes c.in_force) place d = is ∙ ap (λ ids. get_or ids place d) linear_system.literals.disequations_are in
-      let forced = (known c p conjunction h.constants h.reduced.equal h.unequal linear_system) in
-      let right = refutes c forced.forced h.constants h.reduced.equal h.combined.vector (sym count)
-      (forced_forms c p conjunction h.constants h.reduced.equal h.unequal linear_system)
+      let forced = (known c p conjunction h.constants h.equal h.unequal linear_system) in
+      let right = refutes c forced.forced h.constants h.equal h.combined.vector (sym count)
+      (forced_forms c p conjunction h.constants h.equal h.unequal linear_system)
       (subst (IsUsable c p) (sym listed) (linear_system.system.unequal_usable place d (form_there d).0))
       (subst (λ id. is_among forced.forced (minus id) ≡ true) (sym is) (forced.disequations_are place d combined_inside))
       (subst (λ id. IsAffineForm p c.nodes h.constants id h.combined.vector) (sym listed) (form_there d).1)
       combination in
       (linear, right.0, right.1)
 
--- values that solve what is left
-module _ (c : NodeCheck) (p : ℕ) (constants : List ℕ) (form : Form) (rests : List Coordinates) (h : HasRests c p constants form rests) where
-  linear_rests : IsLinearSystem c p h.conjunction constants h.reduced.equal h.unequal
-  linear_rests = h.reduced.linear
-
-  pub rests_avoided : All (IsAvoided form) rests
-  rests_avoided = avoided_rests p form h.unequal rests h.rests_are
-
-  pub rests_few : length rests < p
-  rests_few = let less = linear_rests.enough_values in omega (arith, length_rests p form h.unequal rests h.rests_are)
-
-  pub solution_solves : (values : List ℕ) → IsSolution p form rests values → Solves p h.reduced.equal h.unequal values
-  solution_solves values is =
-      let point = values ++ 1 ∷ [] in
-      let zeros : All (λ v. dot p point v ≡ 0) h.reduced.equal = h.reduced.form_of.zeros point is.zeros in
-      record {
-        zeros = zeros;
-        apart = apart_vectors p (length constants) point form h.reduced.equal h.unequal rests h.reduced.form_of linear_rests.system.equal_valid
-            (equal_below c p h.conjunction constants h.reduced.equal h.unequal linear_rests) zeros linear_rests.system.unequal_valid
-            (unequal_below c p h.conjunction constants h.reduced.equal h.unequal linear_rests) h.rests_are is.apart;
-      }
-
-  -- the answer of these values
-  pub values_right : (values : List ℕ) (pairs : List (ℕ × ℕ)) → IsSolution p form rests values → map (λ (x : ℕ × ℕ). x.0) pairs ≡ constants
-      → ((k : NodeCheck) (equal unequal : List Coordinates) → IsSystemOf k p constants equal unequal → Solves p equal unequal values → AreModelValuesOf k pairs)
-      → (map (λ (x : ℕ × ℕ). x.0) pairs ≡ field_constants c.nodes c.in_force) × AreModelValuesOf c pairs
-  values_right values pairs is names model =
-      (names ∙ linear_rests.system.constants_are, model c h.reduced.equal h.unequal linear_rests.system (solution_solves values is))
+-- the answer of values
+pub values_right : (c : NodeCheck) (p : ℕ) (conjunction : Conjunction) (constants : List ℕ) (equal unequal : List Coordinates) (values : List ℕ) (pairs : List (ℕ × ℕ)) → IsLinearSystem c p conjunction constants equal unequal
+    → AreValues p (length constants) equal unequal values → map (λ (x : ℕ × ℕ). x.0) pairs ≡ constants
+    → ((k : NodeCheck) (es us : List Coordinates) → IsSystemOf k p constants es us → Solves p es us values → AreModelValuesOf k pairs)
+    → (map (λ (x : ℕ × ℕ). x.0) pairs ≡ field_constants c.nodes c.in_force) × AreModelValuesOf c pairs
+values_right c p conjunction constants equal unequal values pairs linear are names model =
+    (names ∙ linear.system.constants_are, model c equal unequal linear.system (record { zeros = are.zeros; apart = are.apart }))
 
 -- A check that is linear within some units
 
@@ -206,7 +185,3 @@ pub not_spent : {A : Type 0} (bound : ℕ) (result : Result A Stop) (stop : Stop
 not_spent bound result stop old new takes within enough is spent =
     let less : old.budget < total old + bound = takes.spent_only (is ∙ ap Err spent) in
     omega (arith, less)
-
--- the units of reductions of disequations and of trials, where these are the numbers of unknowns and of rests
-pub rests_within : (d n u r : ℕ) → u ≡ n → r ≡ d → d * u + n * (r + 1) ≤ d * n + n * (d + 1)
-rests_within d n u r one two = let same : d * u + n * (r + 1) ≡ d * n + n * (d + 1) = (λ i. d * one i + n * (two i + 1)) in omega (arith, same)

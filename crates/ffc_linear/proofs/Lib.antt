@@ -9,7 +9,6 @@ pub mod LineLemmas
 pub mod LowLemmas
 pub mod ModelLemmas
 pub mod RefutingLemmas
-pub mod RestLemmas
 pub mod StepLemmas
 pub mod SumLemmas
 pub mod SuppositionLemmas

@@ -3,7 +3,5 @@ pub mod Answering
 pub mod Decisions
 pub mod Forming
 pub mod Refuting
-pub mod Resting
-pub mod Rests
 pub mod Systems
 pub mod Units

@@ -7,7 +7,7 @@ ghost use Rattle.ffc_bounds.specs.Linear.{is_linear_within};
 ghost use Rattle.ffc_check.specs.Judged.{judged_check};
 ghost use Rattle.ffc_conjunction.specs.Literals.{AreLiteralsOf};
 ghost use Rattle.ffc_linear.specs.Answering.{IsLinearAnswer};
-ghost use Rattle.ffc_linear.specs.Decisions.{Decides, IsLinearSystem, IsFormOfSystem, HasCombined, HasRests};
+ghost use Rattle.ffc_linear.specs.Decisions.{Decides, IsLinearSystem, HasCombined};
 ghost use Rattle.ffc_linear.specs.Units.{TakesWithin};
 ghost use Rattle.ffc_rules.specs.Entries.{limits};
 ghost use Rattle.ffc_rules.specs.Laws.{IsValid};
@@ -16,13 +16,12 @@ ghost use Rattle.ffc_trials.specs.Parts.{IsConeOf};
 
 use crate::affine::affine_forms;
 use crate::refuting::{refute_disequation, refute_equations};
-use crate::rests::{Rests, rests_of};
 use crate::suppositions::{field_constants, is_linear_within};
 use crate::values::model_of;
 use ffc_base::{Meter, Stop};
 use ffc_cert::{CertLine, Sequence};
 use ffc_conjunction::Conjunction;
-use ffc_echelon::{Echelon, Elimination, Vector, eliminate};
+use ffc_echelon::{Solution, Vector, solve};
 use ffc_field::{F2, Field};
 use ffc_refutation::by_conflict;
 use ffc_term::{Check, NodeId};
@@ -70,50 +69,7 @@ fn combined<F: Field>(
     Ok(LinearAnswer::Refuted(lines))
 }
 
-/// Gives the constants values at which the equations hold, and at which nothing that is left of the disequations is 0.
-fn solved<F: Field>(
-    alloc: Global,
-    check: &Check,
-    constants: &[NodeId],
-    form: &Echelon<F>,
-    rests: &[Vector<F>],
-    meter: &mut Meter,
-) -> Result<LinearAnswer, Stop>
-    requires { HasRests (judged_check check.now) F.ORDER constants.now form.now rests.now }
-    ensures answer { IfOk result (Decides (judged_check check.now)) }
-    ensures units { TakesWithin (length constants.now * (length rests.now + 1)) stops.Spent result meter.old meter.new }
-{
-    let values = form.solution(alloc, rests, meter)?;
-    let pairs = model_of(alloc, constants, values.as_slice())?;
-    Ok(LinearAnswer::Values(pairs))
-}
-
-/// Reduces the disequations by an echelon form of the equations. Where nothing is left of one of
-/// them, the check is refuted.
-fn placed<F: Field>(
-    alloc: Global,
-    check: &Check,
-    conjunction: &Conjunction,
-    constants: &[NodeId],
-    form: &Echelon<F>,
-    unequal: &[Vector<F>],
-    meter: &mut Meter,
-) -> Result<LinearAnswer, Stop>
-    requires { IsFormOfSystem (judged_check check.now) F.ORDER conjunction.now constants.now form.now unequal.now }
-    ensures answer { IfOk result (Decides (judged_check check.now)) }
-    ensures units { TakesWithin (length unequal.now * length constants.now
-        + length constants.now * (length unequal.now + 1)) stops.Spent result meter.old meter.new }
-{
-    match rests_of(alloc, form, unequal, meter)? {
-        Rests::Combined(place, coefficients) => {
-            let answer = combined(alloc, check, conjunction, place, coefficients.as_slice())?;
-            Ok(answer)
-        }
-        Rests::Apart(rests) => solved(alloc, check, constants, form, rests.as_slice(), meter),
-    }
-}
-
-/// Reduces the equations to echelon form, and refutes them where a combination is a constant other than 0.
+/// Refutes the equations or a disequation by a combination of the equations, or gives the constants values.
 fn settled<F: Field>(
     alloc: Global,
     check: &Check,
@@ -128,15 +84,20 @@ fn settled<F: Field>(
     ensures units { TakesWithin ((length equal.now + length unequal.now) * length constants.now
         + length constants.now * (length unequal.now + 1)) stops.Spent result meter.old meter.new }
 {
-    match eliminate(alloc, constants.len() as u32, equal, meter)? {
-        Elimination::Contradiction(coefficients) => {
+    match solve(alloc, constants.len() as u32, equal, unequal, meter)? {
+        Solution::Contradiction(coefficients) => {
             let reasons = conjunction.reasons.as_slice();
             let equations = conjunction.equations.as_slice();
             let lines = refute_equations(alloc, reasons, equations, coefficients.as_slice())?;
             Ok(LinearAnswer::Refuted(lines))
         }
-        Elimination::Form(form) => {
-            placed(alloc, check, conjunction, constants, &form, unequal, meter)
+        Solution::Combination(place, coefficients) => {
+            let answer = combined(alloc, check, conjunction, place, coefficients.as_slice())?;
+            Ok(answer)
+        }
+        Solution::Values(values) => {
+            let pairs = model_of(alloc, constants, values.as_slice())?;
+            Ok(LinearAnswer::Values(pairs))
         }
     }
 }
