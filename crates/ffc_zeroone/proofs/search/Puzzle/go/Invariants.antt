@@ -1,0 +1,5 @@
+use Rattle.ffc_base.specs.Metering.{Takes}
+use Rattle.ffc_zeroone.proofs.search.Puzzle.go.Given as goal
+
+abbrev pub invariant-loop : goal.invariant-loop
+invariant-loop l = Takes l.fn.meter l.meter
