@@ -23,6 +23,9 @@ pub enum Forced {
     Open(Vec<u32>, bool),
 }
 
+/// What equations that are alike have in common: how many bits, the first and the last of them, and the size of the constant.
+pub type Outline = (usize, Option<u32>, Option<u32>, u128);
+
 /// The exponent of the greatest power of two that divides a number.
 fn power_of_two(n: i128) -> u32 {
     n.trailing_zeros()
@@ -145,6 +148,13 @@ impl Equation {
             }
         }
         Ok(values)
+    }
+
+    /// Its outline, which its negation has too.
+    pub fn outline(&self) -> Outline {
+        let first = self.terms.first_key_value().map(|term| *term.0);
+        let last = self.terms.last_key_value().map(|term| *term.0);
+        (self.terms.len(), first, last, self.constant.unsigned_abs())
     }
 
     /// Whether this is the same equation, or its negation.

@@ -1,6 +1,7 @@
 //! Outputs of gates: variables that lines say by bits, with no other values than 0 and 1.
 ghost use Rattle.std.specs.Prelude.{◌≡◌, IsErrOf};
 
+use crate::cuts::{Cuts, add_cuts, inputs_of, leaves_of, table_of};
 use crate::derived::{Derived, Reason, Source};
 use crate::forms::Bits;
 use crate::rewriting::{Rewrite, rewritten, square_less};
@@ -13,13 +14,111 @@ use std::alloc::{AllocError, Global};
 use std::collections::{BTreeMap, BTreeSet};
 
 /// A gate's line has at most so many terms.
-const MOST_TERMS: usize = 10;
+pub const MOST_TERMS: usize = 10;
 
 /// And at most so many inputs.
-const MOST_INPUTS: usize = 6;
+pub const MOST_INPUTS: usize = 6;
+
+/// At most so many gates are between an output and the leaves of a cut.
+const MOST_BETWEEN: usize = 16;
 
 /// The gates that were found: the place of each output's line.
 pub type Gates = BTreeMap<u32, usize>;
+
+/// The gates that were found, in the order in which that was: each after those of its inputs.
+pub struct FoundGates {
+    pub order: Vec<u32>,
+    /// The place of each in the order.
+    pub places: BTreeMap<u32, usize>,
+    /// The places of their lines.
+    pub gates: Gates,
+    pub cuts: Cuts,
+}
+
+impl Drop for FoundGates {
+    fn drop(self) {
+        let FoundGates {
+            order: _,
+            places: _,
+            gates: _,
+            cuts: _,
+        } = self;
+    }
+}
+
+impl FoundGates {
+    /// No gates. It takes no memory.
+    pub fn none(alloc: Global) -> Self {
+        FoundGates {
+            order: Vec::new(alloc),
+            places: BTreeMap::new(alloc),
+            gates: BTreeMap::new(alloc),
+            cuts: BTreeMap::new(alloc),
+        }
+    }
+
+    /// Adds a gate, whose line is at this place.
+    fn add<F: Field, O: MonoOrder>(
+        &mut self,
+        alloc: Global,
+        lines: &[Line<F, O>],
+        output: u32,
+        place: usize,
+    ) -> Result<(), AllocError> {
+        self.places.insert(output, self.order.len())?;
+        self.order.push(output)?;
+        self.gates.insert(output, place)?;
+        if let Some(line) = lines.get(place) {
+            add_cuts(alloc, line, output, &mut self.cuts)?;
+        }
+        Ok(())
+    }
+
+    /// Adds the gates of these outputs that are no leaves.
+    fn wait_for(
+        &self,
+        waiting: &mut BTreeSet<usize>,
+        leaves: &[u32],
+        outputs: &[u32],
+    ) -> Result<(), AllocError> {
+        for x in outputs {
+            if let (Some(place), false) = (self.places.get(x), leaves.contains(x)) {
+                waiting.insert(*place)?;
+            }
+        }
+        Ok(())
+    }
+
+    /// The gates between some outputs and leaves, the last ones first, with the places of their lines, if they are not many.
+    pub fn between<F: Field, O: MonoOrder>(
+        &self,
+        alloc: Global,
+        lines: &[Line<F, O>],
+        leaves: &[u32],
+        outputs: &[u32],
+    ) -> Result<Option<Vec<(u32, usize)>>, AllocError> {
+        let mut waiting = BTreeSet::new(alloc);
+        self.wait_for(&mut waiting, leaves, outputs)?;
+        let mut between = Vec::new(alloc);
+        for _ in 0..MOST_BETWEEN {
+            let Some(place) = waiting.pop_last() else {
+                return Ok(Some(between));
+            };
+            let Some(x) = self.order.get(place) else {
+                return Ok(None);
+            };
+            let Some(number) = self.gates.get(x) else {
+                return Ok(None);
+            };
+            between.push((*x, *number))?;
+            if let Some(line) = lines.get(*number) {
+                let inputs = inputs_of(alloc, line, *x)?;
+                self.wait_for(&mut waiting, leaves, inputs.as_slice())?;
+            }
+        }
+        Ok(None)
+    }
+}
 
 /// A line that may be a gate: its only variable that is no bit, which it says, and its inputs.
 struct Shape {
@@ -37,7 +136,7 @@ impl Drop for Shape {
 }
 
 /// The variables of a short line.
-fn variables_of<F: Field, O: MonoOrder>(
+pub fn variables_of<F: Field, O: MonoOrder>(
     alloc: Global,
     poly: &Poly<F, O>,
 ) -> Result<BTreeSet<u32>, AllocError> {
@@ -95,7 +194,7 @@ fn shape_of<F: Field, O: MonoOrder>(
 }
 
 /// The value of a bit in a choice of the values of some bits.
-fn is_one(inputs: &[u32], x: u32, choice: u64) -> bool {
+pub fn is_one(inputs: &[u32], x: u32, choice: u64) -> bool {
     for (k, input) in inputs.iter().enumerate() {
         if *input == x {
             return choice
@@ -117,7 +216,7 @@ fn is_power(m: MonoRef<'_>, x: u32) -> bool {
 }
 
 /// What a line says of a variable that occurs in it alone, at a choice of the values of its other variables.
-fn value_at<F: Field, O: MonoOrder>(
+pub fn value_at<F: Field, O: MonoOrder>(
     poly: &Poly<F, O>,
     output: u32,
     inputs: &[u32],
@@ -202,31 +301,27 @@ fn is_bit<F: Field, O: MonoOrder>(
     true
 }
 
-/// The lines that rewrite the square of an output: its gate, the gates of its inputs, and that these are bits.
+/// The lines that rewrite the outputs of these gates, the last ones first, and that these inputs are bits.
 fn rewrites<'a, F: Field, O: MonoOrder>(
     alloc: Global,
     lines: &'a [Line<F, O>],
     squares: &'a [Poly<F, O>],
-    place: usize,
-    shape: &Shape,
-    inner: &[(u32, usize)],
+    gates: &[(u32, usize)],
+    inputs: &[u32],
     bits: &Bits,
 ) -> Result<Vec<Rewrite<'a, F, O>>, AllocError> {
     let mut rules = Vec::new(alloc);
-    let mut replaced = Vec::new(alloc);
-    replaced.push((shape.output, place))?;
-    replaced.extend_from_slice(inner)?;
-    for (variable, place) in replaced {
-        if let Some(line) = lines.get(place) {
+    for (variable, place) in gates {
+        if let Some(line) = lines.get(*place) {
             rules.push(Rewrite {
-                source: Source::Line(place as u64),
+                source: Source::Line(*place as u64),
                 poly: &line.poly,
-                variable,
+                variable: *variable,
                 exponent: 1,
             })?;
         }
     }
-    for (x, square) in shape.inputs.iter().zip(squares) {
+    for (x, square) in inputs.iter().zip(squares) {
         let Some(source) = bits.get(x) else {
             continue;
         };
@@ -247,23 +342,55 @@ fn rewrites<'a, F: Field, O: MonoOrder>(
     Ok(rules)
 }
 
-/// That an output is a bit, as a sum of multiples of lines.
-fn sum_for<F: Field, O: MonoOrder>(
+/// A polynomial as a sum of multiples of lines, where it is 0 at what these gates give, the last ones first, of inputs that are
+/// bits.
+pub fn sum_for<F: Field, O: MonoOrder>(
     alloc: Global,
     lines: &[Line<F, O>],
-    place: usize,
-    shape: &Shape,
-    inner: &[(u32, usize)],
+    poly: Poly<F, O>,
+    gates: &[(u32, usize)],
+    inputs: &[u32],
     bits: &Bits,
 ) -> Result<Option<Vec<(Source, Poly<F, O>)>>, SearchStop>
     ensures unmetered { ¬ (IsErrOf result SearchStop.Spent) }
 {
     let mut squares: Vec<Poly<F, O>> = Vec::new(alloc);
-    for x in &shape.inputs {
+    for x in inputs {
         squares.push(square_less(alloc, *x)?)?;
     }
-    let rules = rewrites(alloc, lines, squares.as_slice(), place, shape, inner, bits)?;
-    rewritten(alloc, square_less(alloc, shape.output)?, rules.as_slice())
+    let rules = rewrites(alloc, lines, squares.as_slice(), gates, inputs, bits)?;
+    rewritten(alloc, poly, rules.as_slice())
+}
+
+/// The gates that say the inputs of a line's output by others, the last ones first, and these others, if the output is a bit
+/// then.
+fn support<F: Field, O: MonoOrder>(
+    alloc: Global,
+    lines: &[Line<F, O>],
+    line: &Line<F, O>,
+    shape: &Shape,
+    found: &FoundGates,
+) -> Result<Option<(Vec<(u32, usize)>, Vec<u32>)>, AllocError> {
+    let inputs = shape.inputs.as_slice();
+    let mut own = Vec::new(alloc);
+    own.extend_from_slice(inputs)?;
+    if is_bit(lines, &line.poly, shape, &[]) {
+        return Ok(Some((Vec::new(alloc), own)));
+    }
+    let inner = inner_gates(alloc, lines, inputs, &found.gates)?;
+    if !inner.is_empty() && is_bit(lines, &line.poly, shape, inner.as_slice()) {
+        return Ok(Some((inner, own)));
+    }
+    for leaves in leaves_of(alloc, inputs, &found.cuts)? {
+        let table = table_of(line, shape.output, inputs, leaves.as_slice(), &found.cuts);
+        if table.is_some() {
+            let between = found.between(alloc, lines, leaves.as_slice(), inputs)?;
+            if let Some(between) = between {
+                return Ok(Some((between, leaves)));
+            }
+        }
+    }
+    Ok(None)
 }
 
 /// Derives that the output of a line is a bit, if the line is a gate, and answers the output.
@@ -272,7 +399,7 @@ fn try_gate<F: Field, O: MonoOrder>(
     lines: &[Line<F, O>],
     place: usize,
     derived: &mut Derived<F, O>,
-    gates: &mut Gates,
+    found: &mut FoundGates,
     bits: &mut Bits,
 ) -> Result<Option<u32>, SearchStop>
     ensures unmetered { ¬ (IsErrOf result SearchStop.Spent) }
@@ -283,19 +410,24 @@ fn try_gate<F: Field, O: MonoOrder>(
     let Some(shape) = shape_of(alloc, &line.poly, bits)? else {
         return Ok(None);
     };
-    let mut inner = Vec::new(alloc);
-    if !is_bit(lines, &line.poly, &shape, &[]) {
-        inner = inner_gates(alloc, lines, shape.inputs.as_slice(), gates)?;
-        if inner.is_empty() || !is_bit(lines, &line.poly, &shape, inner.as_slice()) {
-            return Ok(None);
-        }
-    }
-    let sum = sum_for(alloc, lines, place, &shape, inner.as_slice(), bits)?;
+    let Some((inner, leaves)) = support(alloc, lines, line, &shape, found)? else {
+        return Ok(None);
+    };
+    let mut gates = vec![in alloc; (shape.output, place)]?;
+    gates.extend_from_slice(inner.as_slice())?;
+    let sum = sum_for(
+        alloc,
+        lines,
+        square_less(alloc, shape.output)?,
+        gates.as_slice(),
+        leaves.as_slice(),
+        bits,
+    )?;
     let Some(parts) = sum else {
         return Ok(None);
     };
     let step = derived.push(Reason::Sum(parts), lines.len())?;
-    gates.insert(shape.output, place)?;
+    found.add(alloc, lines, shape.output, place)?;
     bits.insert(shape.output, Source::Step(step))?;
     Ok(Some(shape.output))
 }
@@ -343,10 +475,10 @@ pub fn add_gates<F: Field, O: MonoOrder>(
     lines: &[Line<F, O>],
     derived: &mut Derived<F, O>,
     bits: &mut Bits,
-) -> Result<(), SearchStop>
+) -> Result<FoundGates, SearchStop>
     ensures unmetered { ¬ (IsErrOf result SearchStop.Spent) }
 {
-    let mut gates = BTreeMap::new(alloc);
+    let mut found = FoundGates::none(alloc);
     let waiting = waiting_lines(alloc, lines, bits)?;
     let mut queue = BTreeSet::new(alloc);
     for (_, places) in &waiting {
@@ -358,7 +490,7 @@ pub fn add_gates<F: Field, O: MonoOrder>(
         let Some(place) = queue.pop_first() else {
             break;
         };
-        let Some(x) = try_gate(alloc, lines, place, derived, &mut gates, bits)? else {
+        let Some(x) = try_gate(alloc, lines, place, derived, &mut found, bits)? else {
             continue;
         };
         if let Some(places) = waiting.get(&x) {
@@ -367,5 +499,5 @@ pub fn add_gates<F: Field, O: MonoOrder>(
             }
         }
     }
-    Ok(())
+    Ok(found)
 }

@@ -2,7 +2,7 @@
 use crate::equation::Equation;
 use ffc_field::Field;
 use std::alloc::{AllocError, Global};
-use std::collections::BTreeMap;
+use std::collections::{BTreeMap, BTreeSet};
 
 /// At most so many scales are tried of a form.
 const MOST_SCALES: usize = 128;
@@ -48,65 +48,84 @@ pub fn is_read_alike<F: Field>(equation: &Equation) -> bool {
     true
 }
 
-/// A form times a scale, with the least and the greatest value that it has over the integers: none where these pass the order, or
-/// are further apart than a bound.
+/// How far a form reaches over the integers.
+#[derive(Clone, Copy)]
+struct Reach {
+    /// The distance between the least and the greatest value.
+    width: u128,
+    /// The greatest size of a coefficient.
+    heaviest: u128,
+}
+
+/// How far a form times a scale reaches over the integers: none where its values are further apart than a bound, or, without
+/// multiples of the order, pass that.
 fn reach_of<F: Field>(
     constant: F,
     terms: &BTreeMap<u32, F>,
     scale: F,
+    multiples: i128,
     bound: u128,
-) -> Option<u128> {
+) -> Option<Reach> {
     let mut low = representative(constant.mul(scale));
     let mut high = low;
+    let mut heaviest = 0;
     for (_, c) in terms {
         let weight = representative(c.mul(scale));
+        heaviest = weight.unsigned_abs().max(heaviest);
         if weight < 0 {
             low = low.saturating_add(weight);
         } else {
             high = high.saturating_add(weight);
         }
-        if !is_within::<F>(low, high) || high.abs_diff(low) >= bound {
+        let is_over = multiples == 0 && !is_within::<F>(low, high);
+        if is_over || high.abs_diff(low) >= bound {
             return None;
         }
     }
-    Some(high.abs_diff(low))
+    Some(Reach {
+        width: high.abs_diff(low),
+        heaviest,
+    })
 }
 
-/// Whether a form of so many terms has no greater reach than the sum of as many powers of two.
-fn is_natural(reach: u128, len: usize) -> bool {
-    match 1u128.checked_shl(u32::try_from(len).unwrap_or(u32::MAX)) {
-        Some(bound) => reach <= bound,
-        None => true,
+impl Reach {
+    /// Whether no coefficient is greater than the last of so many powers of two.
+    fn is_natural(self, count: usize) -> bool {
+        let last = u32::try_from(count.saturating_sub(1)).unwrap_or(u32::MAX);
+        match 1u128.checked_shl(last) {
+            Some(power) => self.heaviest <= power,
+            None => true,
+        }
     }
 }
 
-/// The scale with which a form reaches least far over the integers, of those that make a coefficient 1. None where each passes
-/// the order.
+/// The scale with which a form reaches least far over the integers, of those that make a coefficient 1 or -1. None where each
+/// passes the order, or, where it may be as many multiples of that, these. The search ends where the coefficients are like as many powers of two as they have sizes, which no scale
+/// changes.
 pub fn best_scale<F: Field>(
     alloc: Global,
     constant: F,
     terms: &BTreeMap<u32, F>,
+    multiples: i128,
 ) -> Result<Option<F>, AllocError> {
-    let one = F::of(1);
-    let mut bound = u128::MAX;
+    let sizes = distinct(alloc, terms)?;
+    let order = u128::from(F::ORDER);
+    let mut bound = order.saturating_mul(multiples.unsigned_abs().max(2));
     let mut best = None;
-    if let Some(reach) = reach_of(constant, terms, one, bound) {
-        if is_natural(reach, terms.len()) {
-            return Ok(Some(one));
+    let mut candidates = Vec::new(alloc);
+    candidates.push(F::of(1))?;
+    for size in &sizes {
+        if let Some(scale) = F::of(u128::from(*size)).inv() {
+            candidates.push(scale)?;
         }
-        bound = reach;
-        best = Some(one);
     }
-    for c in distinct(alloc, terms)? {
-        let Some(scale) = F::of(u128::from(c)).inv() else {
-            continue;
-        };
-        if let Some(reach) = reach_of(constant, terms, scale, bound) {
-            if is_natural(reach, terms.len()) {
-                return Ok(Some(scale));
-            }
-            bound = reach;
+    for scale in candidates {
+        if let Some(reach) = reach_of(constant, terms, scale, multiples, bound) {
             best = Some(scale);
+            if reach.is_natural(sizes.len()) {
+                break;
+            }
+            bound = reach.width;
         }
     }
     Ok(best)
@@ -114,12 +133,11 @@ pub fn best_scale<F: Field>(
 
 /// The sizes of the coefficients, each once, as far as they are tried.
 fn distinct<F: Field>(alloc: Global, terms: &BTreeMap<u32, F>) -> Result<Vec<u64>, AllocError> {
-    let mut seen = BTreeMap::new(alloc);
+    let mut seen = BTreeSet::new(alloc);
     let mut sizes = Vec::new(alloc);
     for (_, c) in terms {
         let size = c.residue().min(c.neg().residue());
-        if sizes.len() < MOST_SCALES && !seen.contains_key(&size) {
-            seen.insert(size, ())?;
+        if sizes.len() < MOST_SCALES && seen.insert(size)? {
             sizes.push(size)?;
         }
     }

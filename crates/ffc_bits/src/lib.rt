@@ -8,14 +8,17 @@
 
 mod clashes;
 mod combining;
+mod cuts;
 mod derived;
 mod equation;
 mod forms;
 mod gates;
 mod integers;
 mod known;
+mod models;
 mod polynomials;
 mod reasoning;
+mod relations;
 mod rewriting;
 mod system;
 

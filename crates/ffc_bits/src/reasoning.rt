@@ -5,9 +5,11 @@ ghost use Rattle.ffc_base.specs.Metering.{Metered};
 use crate::derived::{Derived, Source};
 use crate::equation::Equation;
 use crate::forms::{Bits, Form, add_bits, bit_forms};
-use crate::gates::add_gates;
+use crate::gates::{FoundGates, add_gates};
 use crate::integers::{best_scale, equation_of};
 use crate::known::Rule;
+use crate::models::find_model;
+use crate::relations::Cones;
 use crate::system::{Consequence, System};
 use ffc_base::{Meter, SearchStop};
 use ffc_basis::Line;
@@ -41,6 +43,7 @@ impl<F: Field, O: MonoOrder> Drop for Said<F, O> {
 #[derive(Drop)]
 pub struct Reasoning {
     outputs: Bits,
+    gates: FoundGates,
 }
 
 impl Reasoning {
@@ -54,10 +57,31 @@ impl Reasoning {
     {
         let mut bits = BTreeMap::new(alloc);
         add_bits(&mut bits, lines)?;
-        if !bits.is_empty() {
-            add_gates(alloc, lines, derived, &mut bits)?;
+        let gates = if bits.is_empty() {
+            FoundGates::none(alloc)
+        } else {
+            add_gates(alloc, lines, derived, &mut bits)?
+        };
+        Ok(Reasoning {
+            outputs: bits,
+            gates,
+        })
+    }
+
+    /// Linear equations between the outputs of gates and their inputs that follow from the lines before all cases, each derived.
+    pub fn equations<F: Field, O: MonoOrder>(
+        &self,
+        alloc: Global,
+        lines: &[Line<F, O>],
+        derived: &mut Derived<F, O>,
+    ) -> Result<Vec<Consequence<F, O>>, SearchStop>
+        ensures unmetered { ¬ (IsErrOf result SearchStop.Spent) }
+    {
+        if self.gates.order.is_empty() {
+            return Ok(Vec::new(alloc));
         }
-        Ok(Reasoning { outputs: bits })
+        let cones = Cones::new(alloc, lines, &self.outputs, &self.gates);
+        cones.equations(derived)
     }
 
     /// The variables that are bits.
@@ -119,6 +143,23 @@ impl Reasoning {
         said.sums = std::mem::replace(&mut system.found, Vec::new(alloc));
         Ok(said)
     }
+
+    /// Values of bits with which the lines may have a common zero, if some are found: no line follows from them. Each look at an
+    /// equation is one Reduction.
+    pub fn model<F: Field, O: MonoOrder>(
+        &self,
+        alloc: Global,
+        lines: &[Line<F, O>],
+        meter: &mut Meter,
+    ) -> Result<Vec<(u32, bool)>, SearchStop>
+        ensures metered { Metered SearchStop.Spent result meter.old meter.new }
+    {
+        let bits = self.bits(alloc, lines)?;
+        if bits.is_empty() {
+            return Ok(Vec::new(alloc));
+        }
+        find_model(alloc, lines, &bits, meter)
+    }
 }
 
 /// A form as an equation over the integers, with the parts that it is the sum of, where it does not pass the order.
@@ -126,7 +167,7 @@ fn equation<F: Field>(
     alloc: Global,
     form: &Form<F>,
 ) -> Result<Option<(Equation, Vec<(Source, F)>)>, AllocError> {
-    let Some(scale) = best_scale(alloc, form.constant, &form.terms)? else {
+    let Some(scale) = best_scale(alloc, form.constant, &form.terms, 0)? else {
         return Ok(None);
     };
     let equation = equation_of(alloc, form.constant, &form.terms, scale)?;
@@ -162,10 +203,9 @@ fn begin<'a, F: Field, O: MonoOrder>(
         }
     }
     let mut system = System::new(alloc, lines.len(), bits, rules);
+    let mut outlines = BTreeMap::new(alloc);
     for (equation, parts) in equations {
-        if !system.has_like(&equation) {
-            system.add(equation, parts)?;
-        }
+        system.add_new(&mut outlines, equation, parts)?;
     }
     Ok(system)
 }

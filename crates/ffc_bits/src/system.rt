@@ -3,7 +3,7 @@ ghost use Rattle.std.specs.Prelude.{◌≡◌, IsErrOf};
 ghost use Rattle.ffc_base.specs.Metering.{Metered};
 
 use crate::derived::{Derived, Reason, Source, StepId};
-use crate::equation::{Equation, Forced};
+use crate::equation::{Equation, Forced, Outline};
 use crate::forms::Bits;
 use crate::integers::{element, is_read_alike, is_within};
 use crate::known::{Known, Rule};
@@ -97,18 +97,44 @@ impl<'a, F: Field, O: MonoOrder> System<'a, F, O> {
         }
     }
 
-    /// Whether there is such an equation, or its negation.
-    pub fn has_like(&self, equation: &Equation) -> bool {
-        for open in &self.open {
-            if open.equation.is_like(equation) {
-                return true;
+    /// Adds an equation, where there is no such one yet, nor its negation. Equations that are alike have one outline, by which
+    /// they are found.
+    pub fn add_new(
+        &mut self,
+        outlines: &mut BTreeMap<Outline, Vec<usize>>,
+        equation: Equation,
+        parts: Vec<(Source, F)>,
+    ) -> Result<(), AllocError> {
+        let outline = equation.outline();
+        let place = self.open.len();
+        match outlines.get_mut(&outline) {
+            Some(places) => {
+                if self.has_like(places.as_slice(), &equation) {
+                    return Ok(());
+                }
+                places.push(place)?;
+            }
+            None => {
+                outlines.insert(outline, vec![in self.alloc; place]?)?;
+            }
+        }
+        self.add(equation, parts)
+    }
+
+    /// Whether there is such an equation at one of these places, or its negation.
+    fn has_like(&self, places: &[usize], equation: &Equation) -> bool {
+        for place in places {
+            if let Some(open) = self.open.get(*place) {
+                if open.equation.is_like(equation) {
+                    return true;
+                }
             }
         }
         false
     }
 
     /// Adds an equation.
-    pub fn add(&mut self, equation: Equation, parts: Vec<(Source, F)>) -> Result<(), AllocError> {
+    fn add(&mut self, equation: Equation, parts: Vec<(Source, F)>) -> Result<(), AllocError> {
         let place = self.open.len();
         for x in equation.variables(self.alloc)? {
             self.note_use(x, place)?;
