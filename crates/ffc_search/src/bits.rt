@@ -5,6 +5,7 @@ ghost use Rattle.ffc_search.specs.Above.{StaysAbove};
 
 use crate::branches::{Walk, push_consequences};
 use crate::choosing::Candidate;
+use crate::following::zero_from;
 use crate::reducing::reduced_within;
 use ffc_base::{Meter, SearchStop};
 use ffc_basis::{Line, LineId, Progress};
@@ -90,6 +91,27 @@ fn push_bit<F: Field, O: MonoOrder>(
     push_consequences(stack, walk, before, &[poly], meter)
 }
 
+/// The equations of gates that the lines do not say already, the first time that they are asked for.
+fn new_equations<F: Field, O: MonoOrder>(
+    alloc: Global,
+    stack: &mut BasisStack<F, O>,
+    walk: &mut Walk<F, O>,
+    meter: &mut Meter,
+) -> Result<Vec<Poly<F, O>>, SearchStop>
+    ensures unchanged { stack.new ≡ stack.old }
+    ensures metered { Metered SearchStop.Spent result meter.old meter.new }
+{
+    let Some(reasoning) = &walk.reasoning else {
+        return Ok(Vec::new(alloc));
+    };
+    if walk.has_equations {
+        return Ok(Vec::new(alloc));
+    }
+    let equations = reasoning.equations(alloc, stack.lines(), &mut walk.derived)?;
+    walk.has_equations = true;
+    new_ones(alloc, stack, walk, equations, meter)
+}
+
 /// Adds what equations of bits force as a level of the stack, if that is anything new.
 pub fn by_bits<F: Field, O: MonoOrder>(
     alloc: Global,
@@ -104,10 +126,16 @@ pub fn by_bits<F: Field, O: MonoOrder>(
         progress: None,
         heaviest: None,
     };
+    let before = walk.derived.len();
+    let polys = new_equations(alloc, stack, walk, meter)?;
+    if !polys.is_empty() {
+        let progress = push_consequences(stack, walk, before, polys.as_slice(), meter)?;
+        turned.progress = Some(progress);
+        return Ok(turned);
+    }
     let Some(reasoning) = &walk.reasoning else {
         return Ok(turned);
     };
-    let before = walk.derived.len();
     let mut said = reasoning.ask(alloc, stack.lines(), &mut walk.derived, meter)?;
     let polys = new_consequences(alloc, stack, walk, &mut said, meter)?;
     if !polys.is_empty() {
@@ -125,6 +153,30 @@ pub fn by_bits<F: Field, O: MonoOrder>(
         }
     }
     Ok(turned)
+}
+
+/// A common zero where bits have values that their equations allow, if such values are found: they are sought once in a round.
+pub fn zero_by_bits<F: Field, O: MonoOrder>(
+    alloc: Global,
+    lines: &[Line<F, O>],
+    walk: &mut Walk<F, O>,
+    vars: &[u32],
+    meter: &mut Meter,
+) -> Result<Option<Vec<F>>, SearchStop>
+    ensures metered { Metered SearchStop.Spent result meter.old meter.new }
+{
+    let Some(reasoning) = &walk.reasoning else {
+        return Ok(None);
+    };
+    if walk.has_tried_bits {
+        return Ok(None);
+    }
+    let values = reasoning.model(alloc, lines, meter)?;
+    walk.has_tried_bits = true;
+    if values.is_empty() {
+        return Ok(None);
+    }
+    Ok(zero_from(alloc, lines, vars, values.as_slice())?)
 }
 
 /// The line that says of a variable that it is a bit, to make cases by its roots.

@@ -55,6 +55,9 @@ pub struct Walk<F: Field, O: MonoOrder> {
     waiting: Vec<Level<F>>,
     /// Whether each branch so far was closed, so that the tree is written on.
     pub proving: bool,
+    /// Whether the equations of gates were added, and values of the bits tried.
+    pub has_equations: bool,
+    pub has_tried_bits: bool,
     /// How many units a branch is completed with.
     share: u64,
     /// How many lines of the tree there are before all cases.
@@ -68,6 +71,8 @@ impl<F: Field, O: MonoOrder> Drop for Walk<F, O> {
             tree: _,
             derived: _,
             reasoning: _,
+            has_equations: _,
+            has_tried_bits: _,
             waiting: _,
             proving: _,
             share: _,
@@ -113,6 +118,8 @@ impl<F: Field, O: MonoOrder> Walk<F, O> {
             tree,
             derived: Derived::new(alloc),
             reasoning: None,
+            has_equations: false,
+            has_tried_bits: false,
             waiting: Vec::new(alloc),
             proving: true,
             share,
@@ -168,6 +175,8 @@ impl<F: Field, O: MonoOrder> Walk<F, O> {
             tree,
             derived: _,
             reasoning: _,
+            has_equations: _,
+            has_tried_bits: _,
             waiting: _,
             proving: _,
             share: _,

@@ -4,7 +4,7 @@ ghost use Rattle.ffc_base.specs.Metering.{Metered};
 ghost use Rattle.ffc_base.specs.Metering.{Takes};
 ghost use Rattle.ffc_search.specs.Above.{StaysAbove};
 
-use crate::bits::{by_bits, candidate_of_bit};
+use crate::bits::{by_bits, candidate_of_bit, zero_by_bits};
 use crate::branches::{Walk, branch_by, leave_unneeded, next_case, pop_left};
 use crate::choosing::{Candidate, best_candidate, lines_of};
 use crate::effort::Effort;
@@ -209,6 +209,11 @@ fn advance<F: Field, O: MonoOrder>(
     ensures above { StaysAbove task.floor stack.old stack.new }
     ensures metered { Metered SearchStop.Spent result meter.old meter.new }
 {
+    let before = meter.spent();
+    if let Some(values) = zero_by_bits(alloc, stack.lines(), walk, vars, meter)? {
+        return Ok(Turn::Values(values));
+    }
+    limits.allow(before, meter);
     let before = meter.spent();
     let said = by_bits(alloc, stack, walk, meter)?;
     if let Some(progress) = said.progress {
