@@ -1,4 +1,4 @@
-//! The search over one field for values of the equalities' variables.
+//! The equalities of one field, group by group: evaluation, then lines of a basis, then the search by cases.
 ghost use Rattle.ffc_base.specs.Metering.{Metered};
 
 use ffc_base::{Meter, SearchStop, Unit};

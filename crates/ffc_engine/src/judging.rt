@@ -1,4 +1,4 @@
-//! Equalities as they are on a trail, judged field by field.
+//! Equalities as they are on a trail, judged field by field: values of all fields, or what one field refutes or leaves.
 ghost use Rattle.std.specs.Prelude.{◌≡◌};
 ghost use Rattle.ffc_base.specs.Metering.{Metered};
 

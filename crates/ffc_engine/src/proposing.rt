@@ -1,4 +1,4 @@
-//! Proposing an entry.
+//! Rounds of a search over the clauses, and the entry that one of them ends with.
 ghost use Rattle.std.specs.Prelude.{◌≡◌, All};
 ghost use Rattle.ffc_base.specs.Metering.{Metered};
 ghost use Rattle.ffc_base.specs.Metering.{Takes};

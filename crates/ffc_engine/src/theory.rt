@@ -1,4 +1,4 @@
-//! The theory of finite fields over the nodes of a check.
+//! The theory: which equalities of a trail are judged, and the model or the lemma that comes of it.
 ghost use Rattle.std.specs.Prelude.{◌≡◌, ◌++◌, ◌∷◌, [], IfOk, OnOk, OnErr, IsErrOf};
 ghost use Rattle.ffc_base.specs.Metering.{Metered};
 ghost use Rattle.ffc_cdcl.specs.Theories.{KeepsLemmas, NamesLemma, IsFalseOn};
