@@ -1,5 +1,7 @@
 //! The order in which pairs are reduced. Reductions of lines come first: a pair simplifies where both lines are linear, or
-//! where a line's leading monomial divides that of another line and the line is no longer than the other. Other pairs follow
+//! where a line's leading monomial divides that of another line and the line is no longer than the other. Of these, lines that
+//! say that a variable is a value or another variable come first, so that a circuit is evaluated, and no line is made by one
+//! that is still to become shorter. Other pairs follow
 //! as S-polynomials: those that cancel a leading term by a divisor, then those of low degree (Cox, Little and O'Shea, chapter
 //! 2, section 10). A pair that the chain criterion leaves out (Gebauer and Möller 1988) comes after all others.
 //!
@@ -21,6 +23,8 @@ use std::mem;
 pub(crate) struct Turn {
     /// Whether it simplifies.
     simplifies: bool,
+    /// Whether one line says that a variable is a variable or a value, and the other is led by a multiple of the variable.
+    replaces: bool,
     /// Whether one leading monomial divides the other.
     divides: bool,
     /// How far the degree of the least common multiple is below all numbers.
@@ -205,6 +209,7 @@ fn turn_of<F: Field, O: MonoOrder>(
 ) -> Result<Turn, AllocError> {
     let mut turn = Turn {
         simplifies: false,
+        replaces: false,
         divides: false,
         ease: 0,
         age: usize::MAX - place,
@@ -215,6 +220,8 @@ fn turn_of<F: Field, O: MonoOrder>(
                 let by_first = lcm.as_ref() == n;
                 let by_second = lcm.as_ref() == m;
                 turn.divides = by_first || by_second;
+                turn.replaces = by_first && is_replacing(lines, pair.first)
+                    || by_second && is_replacing(lines, pair.second);
                 turn.simplifies = lcm.degree() <= 1
                     || by_first && is_no_longer(lines, pair.first, pair.second)
                     || by_second && is_no_longer(lines, pair.second, pair.first);
@@ -231,6 +238,17 @@ fn is_no_longer<F: Field, O: MonoOrder>(lines: &[Line<F, O>], line: usize, other
     match (lines.get(line), lines.get(other)) {
         (Some(line), Some(other)) => line.poly.len() <= other.poly.len().max(2),
         _ => false,
+    }
+}
+
+/// Whether a line says that a variable is a variable or a value.
+fn is_replacing<F: Field, O: MonoOrder>(lines: &[Line<F, O>], line: usize) -> bool {
+    match lines.get(line) {
+        Some(line) => match line.poly.lead() {
+            Some((_, m)) => m.degree() <= 1 && line.poly.len() <= 2,
+            None => false,
+        },
+        None => false,
     }
 }
 
