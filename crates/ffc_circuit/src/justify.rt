@@ -52,6 +52,8 @@ pub struct Walk<'a> {
     choices: Vec<NodeId>,
     /// Whether it waits for a value.
     waits: bool,
+    /// The needed equalities so far that have values, in the order in which they were come upon.
+    found: Vec<Lit>,
 }
 
 impl<'a> Walk<'a> {
@@ -65,6 +67,7 @@ impl<'a> Walk<'a> {
             open: Vec::new(alloc),
             choices: Vec::new(alloc),
             waits: false,
+            found: Vec::new(alloc),
         })
     }
 
@@ -76,12 +79,18 @@ impl<'a> Walk<'a> {
         }
         self.open.clear();
         self.choices.clear();
+        self.found.clear();
         self.want_all(assertions)
     }
 
     /// Takes over the values of further literals of the trail.
     pub fn follow(&mut self, literals: &[Lit]) {
         self.truths.set_all(literals);
+    }
+
+    /// The needed equalities that it has come upon so far, with their values.
+    pub fn found(&self) -> &[Lit] {
+        self.found.as_slice()
     }
 
     /// The values so far.
@@ -182,7 +191,13 @@ impl<'a> Walk<'a> {
             Node::True | Node::False | Node::BoolConst(_) | Node::FieldConst(..) | Node::Num(..) =>
                 Ok(()),
             Node::Not(a) | Node::Neg(a) => self.want(*a),
-            Node::Iff(a, b) | Node::Xor(a, b) | Node::Eq(a, b) => self.want_all(&[*a, *b]),
+            Node::Iff(a, b) | Node::Xor(a, b) => self.want_all(&[*a, *b]),
+            Node::Eq(a, b) => {
+                if let Some(positive) = self.truths.get(id) {
+                    self.found.push(Lit { node: id, positive })?;
+                }
+                self.want_all(&[*a, *b])
+            }
             Node::IteBool(c, a, b) => self.want_branch(id, *c, *a, *b),
             Node::IteField(c, _, _) => {
                 let (first, second) = table.branches(id);

@@ -7,7 +7,9 @@
 //!    the nodes, and a solver of clauses looks for truth values with which all are true. Its theory is that of finite fields
 //!    (Nieuwenhuis, Oliveras and Tinelli 2006: DPLL modulo theories; Ozdemir, Kremer, Tinelli and Barrett 2023).
 //! 2. **A trail** (theory.rt) says which equalities hold and which do not. A walk from the assertions down finds those on which
-//!    their truth rests. As long as one of them has no value, the theory agrees to the trail; then it judges them.
+//!    their truth rests. Those that it has come upon fix values of nodes (`ffc_fixed`), and where two values clash, the few that
+//!    the clash rests on are judged. As long as one that matters has no value, the theory agrees to the trail; then it judges
+//!    all of them.
 //! 3. **Judging** (judging.rt) goes from field to field. Over one field (fields.rt) the equalities are polynomials, in groups
 //!    that share no variable, each with a part of the units. Of a group, inputs are guessed and the circuit evaluated; then the
 //!    equalities that hold are lines of a basis, which is completed further and further until it settles the others; then the

@@ -9,6 +9,7 @@ use ffc_cdcl::{Lit, Literals, Theory, TheoryAnswer};
 use ffc_cert::Entry;
 use ffc_circuit::{Truths, Walk};
 use ffc_entries::{Origin, Residues, model};
+use ffc_fixed::Fixed;
 use ffc_term::Check;
 use std::alloc::{AllocError, Global};
 
@@ -24,6 +25,9 @@ pub struct FieldTheory<'a> {
     /// Whether bits are reasoned about as integers.
     bits: bool,
     walk: Walk<'a>,
+    /// What the equalities fix that the walk has come upon, of which so many were looked at.
+    fixed: Fixed<'a>,
+    looked: usize,
     /// How many literals the walk has followed, and how many units had been taken for literals then.
     followed: usize,
     taken: u64,
@@ -54,6 +58,8 @@ impl<'a> FieldTheory<'a> {
             share,
             bits,
             walk,
+            fixed: Fixed::new(alloc, check.table)?,
+            looked: 0,
             followed: 0,
             taken: 0,
             clauses: Vec::new(alloc),
@@ -84,6 +90,8 @@ impl<'a> FieldTheory<'a> {
             share: _,
             bits: _,
             walk: _,
+            fixed: _,
+            looked: _,
             followed: _,
             taken: _,
             clauses: _,
@@ -114,26 +122,34 @@ impl<'a> FieldTheory<'a> {
         } else {
             self.walk.begin(self.check.in_force)?;
             self.walk.follow(trail);
+            self.fixed.clear();
+            self.looked = 0;
         }
         self.taken = taken;
         self.followed = trail.len();
         self.walk.go_on()
     }
 
-    /// Judges the equalities that the walk has found. It is one Trial, besides what the searches take.
-    fn judged(&self, meter: &mut Meter) -> Result<Judgement, SearchStop>
+    /// Judges equalities. It is one Trial, besides what the searches take.
+    fn judged(&self, equalities: &[Lit], meter: &mut Meter) -> Result<Judgement, SearchStop>
         ensures metered { Metered SearchStop.Spent result meter.old meter.new }
     {
         meter.take(Unit::Trial)?;
-        let equalities = self.walk.equalities()?;
         judge(
             self.alloc,
             &self.check,
-            equalities.as_slice(),
+            equalities,
             self.share,
             self.bits,
             meter,
         )
+    }
+
+    /// Equalities among those that the walk has come upon whose values clash.
+    fn clash(&mut self) -> Result<Option<Vec<Lit>>, AllocError>
+        ensures { self.new.clauses ≡ self.old.clauses }
+    {
+        next_clash(&mut self.fixed, self.walk.found(), &mut self.looked)
     }
 
     /// Keeps a lemma.
@@ -184,7 +200,8 @@ impl<'a> FieldTheory<'a> {
         ensures same { self.new.clauses ≡ self.old.clauses }
         ensures metered { Metered SearchStop.Spent result meter.old meter.new }
     {
-        if let Judgement::Values(residues) = self.judged(meter)? {
+        let equalities = self.walk.equalities()?;
+        if let Judgement::Values(residues) = self.judged(equalities.as_slice(), meter)? {
             self.keep_model(&residues)?;
         }
         Ok(self.take_model())
@@ -215,6 +232,21 @@ impl<'a> FieldTheory<'a> {
     }
 }
 
+/// Adds equalities from a place on, until their values clash; then the place is behind the last one that was added.
+fn next_clash(
+    fixed: &mut Fixed<'_>,
+    equalities: &[Lit],
+    place: &mut usize,
+) -> Result<Option<Vec<Lit>>, AllocError> {
+    for next in *place..equalities.len() {
+        *place = next.saturating_add(1);
+        if let Some(clash) = fixed.add(equalities[next])? {
+            return Ok(Some(clash));
+        }
+    }
+    Ok(None)
+}
+
 /// The negations of literals.
 fn negations(alloc: Global, literals: &[Lit]) -> Result<Literals, AllocError> {
     let mut negated = Literals::new(alloc);
@@ -234,10 +266,16 @@ impl Theory for FieldTheory<'_> {
             return Ok(TheoryAnswer::Agreed);
         }
         self.follow(trail, meter)?;
+        if let Some(equalities) = self.clash()? {
+            if let Judgement::Refuted(lemma) = self.judged(equalities.as_slice(), meter)? {
+                return self.answer(trail, Judgement::Refuted(lemma));
+            }
+        }
         if self.walk.waits() {
             return Ok(TheoryAnswer::Agreed);
         }
-        let judgement = self.judged(meter)?;
+        let equalities = self.walk.equalities()?;
+        let judgement = self.judged(equalities.as_slice(), meter)?;
         self.answer(trail, judgement)
     }
 }
