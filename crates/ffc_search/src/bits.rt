@@ -190,7 +190,7 @@ pub fn candidate_of_bit<F: Field, O: MonoOrder>(
             if let Some(poly) = to_univariate(alloc, &line.poly, x)? {
                 if poly.coefs().len() == 3 {
                     return Ok(Some(Candidate {
-                        line: place as LineId,
+                        line: Some(place as LineId),
                         parts: Vec::new(alloc),
                         variable: x,
                         poly,

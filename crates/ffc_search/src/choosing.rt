@@ -20,10 +20,10 @@ use std::mem;
 /// Lines of so many terms replace a variable wherever it leads (`ffc_basis` does that before all else).
 const SHORT: usize = 2;
 
-/// A polynomial in one variable: a line less multiples of other lines.
+/// A polynomial in one variable: a line less multiples of other lines, or a sum of multiples of lines.
 pub struct Candidate<F: Field, O: MonoOrder> {
-    pub line: LineId,
-    /// What the other lines are multiplied by.
+    pub line: Option<LineId>,
+    /// What the other lines are multiplied by, or all of them, where there is no line of its own.
     pub parts: Vec<(LineId, Poly<F, O>)>,
     pub variable: u32,
     pub poly: Uni<F>,
@@ -85,7 +85,7 @@ fn candidate_of<F: Field, O: MonoOrder>(
     };
     if let Some(poly) = to_univariate(alloc, &line.poly, x)? {
         return Ok(Some(Candidate {
-            line: place as LineId,
+            line: Some(place as LineId),
             parts: Vec::new(alloc),
             variable: x,
             poly,
@@ -108,7 +108,7 @@ fn candidate_of<F: Field, O: MonoOrder>(
         return Ok(None);
     };
     Ok(Some(Candidate {
-        line: place as LineId,
+        line: Some(place as LineId),
         parts: mem::replace(&mut reduced.parts, Vec::new(alloc)),
         variable: x,
         poly,
@@ -151,7 +151,9 @@ pub fn lines_of<F: Field, O: MonoOrder>(
     candidate: &Candidate<F, O>,
 ) -> Result<Vec<LineId>, AllocError> {
     let mut lines = Vec::new(alloc);
-    lines.push(candidate.line)?;
+    if let Some(line) = candidate.line {
+        lines.push(line)?;
+    }
     for part in &candidate.parts {
         lines.push(part.0)?;
     }

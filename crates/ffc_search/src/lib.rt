@@ -8,6 +8,7 @@ mod bits;
 mod branches;
 mod choosing;
 mod effort;
+mod few;
 mod following;
 mod points;
 mod reducing;

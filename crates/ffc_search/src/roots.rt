@@ -37,7 +37,11 @@ fn write_candidate<F: Field, O: MonoOrder>(
     candidate: &Candidate<F, O>,
 ) -> Result<u32, AllocError> {
     write_lines(alloc, tree, lines, derived, &lines_of(alloc, candidate)?)?;
-    let number = tree.number_of(candidate.line).unwrap_or(u32::MAX);
+    let Some(line) = candidate.line else {
+        let multiples = multiples_of(alloc, tree, &candidate.parts)?;
+        return write_sum(alloc, tree, multiples, None);
+    };
+    let number = tree.number_of(line).unwrap_or(u32::MAX);
     if candidate.parts.is_empty() {
         return Ok(number);
     }

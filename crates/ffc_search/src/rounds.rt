@@ -8,6 +8,7 @@ use crate::bits::{by_bits, candidate_of_bit, zero_by_bits};
 use crate::branches::{Walk, branch_by, leave_unneeded, next_case, pop_left};
 use crate::choosing::{Candidate, best_candidate, lines_of};
 use crate::effort::Effort;
+use crate::few::minimal_candidate;
 use crate::points::zero_at_hand;
 use crate::roots::write_split;
 use crate::survey::{Linear, earliest, linear_lines, most_used};
@@ -237,6 +238,8 @@ fn advance<F: Field, O: MonoOrder>(
     }
     if left {
         limits.reached = true;
+    } else if let Some(candidate) = minimal_candidate(alloc, stack, meter)? {
+        return by_roots(alloc, stack, walk, &candidate, task.floor, meter);
     }
     by_values(alloc, stack, walk, limits, &linear, task, meter)
 }
