@@ -4,19 +4,9 @@ use Rattle.ffc_ring.specs.Polynomial.{Terms, coefficient, SamePolynomial, produc
 use Rattle.ffc_ring.proofs.PolynomialLemmas.{same_sums}
 use Rattle.ffc_basis.specs.declared.line.Line.{Line}
 use Rattle.ffc_basis.specs.Lines.{Parts, polys_of, combination, AreBefore}
+use Rattle.ffc_basis.proofs.LineLemmas.{taken_more}
 use Rattle.ffc_basis.proofs.Lists.{poly_at}
 use Rattle.ffc_basis.proofs.PartLemmas.{combination-append}
-
-taken_more : (ts : Parts) (i : ℕ) (t : ℕ × Terms) → i < length ts → t ≡ get_or ts i t → take (i + 1) ts ≡ take i ts ++ t ∷ []
-taken_more [] i t h is = absurd (omega arith)
-taken_more (s ∷ ts) zero t h is = ap (λ r. r ∷ []) (sym is)
-taken_more (s ∷ ts) (suc i) t h is = ap (λ l. s ∷ l) (taken_more ts i t (omega arith) is)
-
-taken_all : (ts : Parts) (i : ℕ) → length ts ≤ i → take i ts ≡ ts
-taken_all [] zero h = refl
-taken_all [] (suc i) h = refl
-taken_all (t ∷ ts) zero h = absurd (omega arith)
-taken_all (t ∷ ts) (suc i) h = ap (λ l. t ∷ l) (taken_all ts i (omega arith))
 
 before_push : (n : ℕ) (ts : Parts) (t : ℕ × Terms) → AreBefore n ts → t.0 < n → AreBefore n (ts ++ t ∷ [])
 before_push n [] t v h = (h, tt)
@@ -38,10 +28,3 @@ sum_next p lines ts i t l sum next low is within at more so_far m =
 
 pub before_next : (n : ℕ) (ts : Parts) (i : ℕ) (t : ℕ × Terms) → i < length ts → t ≡ get_or ts i t → t.0 < n → AreBefore n (take i ts) → AreBefore n (take (i + 1) ts)
 before_next n ts i t low is h v = subst (AreBefore n) (sym (taken_more ts i t low is)) (before_push n (take i ts) t v h)
-
--- all parts
-pub sum_all : (p : ℕ) (gs : List Terms) (ts : Parts) (i : ℕ) (sum : Terms) → length ts ≤ i → SamePolynomial p sum (combination gs (take i ts)) → SamePolynomial p sum (combination gs ts)
-sum_all p gs ts i sum h v = subst (λ k. SamePolynomial p sum (combination gs k)) (taken_all ts i h) v
-
-pub before_all : (n : ℕ) (ts : Parts) (i : ℕ) → length ts ≤ i → AreBefore n (take i ts) → AreBefore n ts
-before_all n ts i h v = subst (AreBefore n) (taken_all ts i h) v

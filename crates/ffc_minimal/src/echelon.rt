@@ -51,6 +51,28 @@ fn first_nonzero<F: Field>(values: &[F]) -> Option<(usize, F)> {
     None
 }
 
+/// Subtracts the multiple of a row that leaves nothing in the column of its pivot.
+fn subtract<F: Field>(
+    row: &Row<F>,
+    values: &mut Vec<F>,
+    powers: &mut Vec<F>,
+    meter: &mut Meter,
+) -> Result<(), Stop>
+    ensures metered { Metered Stop.Spent result meter.old meter.new }
+{
+    let factor = match values.get(row.pivot) {
+        Some(c) => c.neg(),
+        None => F::of(0),
+    };
+    if factor.residue() == 0 {
+        return Ok(());
+    }
+    meter.take(Unit::Reduction)?;
+    add_multiple(values, factor, row.values.as_slice());
+    add_multiple(powers, factor, row.powers.as_slice());
+    Ok(())
+}
+
 impl<F: Field> Echelon<F> {
     /// No rows. It takes no memory.
     pub(crate) fn new(alloc: Global) -> Self {
@@ -95,14 +117,7 @@ impl<F: Field> Echelon<F> {
         powers.resize(self.rows.len(), F::of(0))?;
         powers.push(F::of(1))?;
         for row in self.rows.as_slice() {
-            if let Some(c) = values.get(row.pivot) {
-                if c.residue() != 0 {
-                    meter.take(Unit::Reduction)?;
-                    let factor = c.neg();
-                    add_multiple(&mut values, factor, row.values.as_slice());
-                    add_multiple(&mut powers, factor, row.powers.as_slice());
-                }
-            }
+            subtract(row, &mut values, &mut powers, meter)?;
         }
         let Some((pivot, inverse)) = first_nonzero(values.as_slice()) else {
             return Ok(Some(powers));
