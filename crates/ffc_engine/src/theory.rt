@@ -13,9 +13,10 @@ use ffc_fixed::Fixed;
 use ffc_term::Check;
 use std::alloc::{AllocError, Global};
 
-/// Judges trails by the equalities on which the truth of the assertions rests. It agrees as long as one of them has no value,
-/// since more of the trail decides them. Once it has values of the constants with which they hold, those are a model whatever
-/// the other nodes are, and it agrees to everything.
+/// Judges trails by the equalities on which the truth of the assertions rests. Where those so far fix values that clash, it judges
+/// the few that the clash rests on. Else it agrees as long as one of them has no value, since more of the trail decides them. Once
+/// it has values of the constants with which they hold, those are a model whatever the other nodes are, and it agrees to
+/// everything.
 #[derive(Drop)]
 pub struct FieldTheory<'a> {
     alloc: Global,

@@ -1,7 +1,8 @@
 //! The equalities that a clash rests on.
 use crate::known::{Reason, Values};
-use crate::users::{children, sides};
+use crate::users::children;
 use ffc_cdcl::Lit;
+use ffc_circuit::sides;
 use ffc_term::{NodeId, NodeTable};
 use std::alloc::{AllocError, Global};
 use std::collections::BTreeMap;

@@ -2,8 +2,9 @@
 use crate::arithmetic::{inverse, negative, product, sum};
 use crate::explaining::{Clash, explained};
 use crate::known::{Known, Reason, Values, order_of};
-use crate::users::{Users, children, sides};
+use crate::users::{Users, children};
 use ffc_cdcl::Lit;
+use ffc_circuit::sides;
 use ffc_term::{Node, NodeId, NodeTable};
 use std::alloc::{AllocError, Global};
 

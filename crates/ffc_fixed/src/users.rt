@@ -1,4 +1,5 @@
 //! Which nodes have a node as a child.
+use ffc_circuit::sides;
 use ffc_term::{Node, NodeId, NodeTable};
 use std::alloc::{AllocError, Global};
 
@@ -11,17 +12,6 @@ pub fn children(table: &NodeTable, id: NodeId) -> &[NodeId] {
         Node::Add(ids) | Node::Mul(ids) | Node::Bitsum(ids) => ids.as_slice(),
         Node::Neg(a) => std::slice::from_ref(a),
         _ => &[],
-    }
-}
-
-/// The sides of an equality of field nodes.
-pub fn sides(table: &NodeTable, id: NodeId) -> Option<(NodeId, NodeId)> {
-    if id >= table.len() {
-        return None;
-    }
-    match table.node(id) {
-        Node::Eq(a, b) => Some((*a, *b)),
-        _ => None,
     }
 }
 

@@ -15,8 +15,9 @@ use std::alloc::{AllocError, Global};
 /// The greatest degree of a minimal polynomial.
 const MOST_DEGREE: usize = 512;
 
-/// Of the units that are left, a minimal polynomial may take one part in so many.
-const PARTS: u64 = 4;
+/// Of the units that a round has left, a minimal polynomial may take one part in so many: where it is not found, values are tried
+/// with the others.
+const PARTS: u64 = 2;
 
 /// The variable whose minimal polynomial is sought: the one that leads last among those that are not linear. Products with it
 /// are least often reducible.
@@ -33,10 +34,11 @@ fn finite_variable<F: Field, O: MonoOrder>(
     Ok(last)
 }
 
-/// The minimal polynomial of such a variable modulo the lines, which are a Gröbner basis.
+/// The minimal polynomial of such a variable modulo the lines, which are a Gröbner basis, where the round has so many units left.
 pub fn minimal_candidate<F: Field, O: MonoOrder>(
     alloc: Global,
     stack: &mut BasisStack<F, O>,
+    units: u64,
     meter: &mut Meter,
 ) -> Result<Option<Candidate<F, O>>, SearchStop>
     ensures unchanged { stack.new ≡ stack.old }
@@ -45,7 +47,7 @@ pub fn minimal_candidate<F: Field, O: MonoOrder>(
     let Some(x) = finite_variable(alloc, stack.lines())? else {
         return Ok(None);
     };
-    let mut own = Meter::new(meter.left() / PARTS);
+    let mut own = Meter::new(meter.left().min(units / PARTS));
     let found = minimal_polynomial(alloc, stack, x, MOST_DEGREE, &mut own);
     meter.charge(Unit::Reduction, own.count(Unit::Reduction))?;
     match found {

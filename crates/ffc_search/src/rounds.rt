@@ -68,6 +68,11 @@ struct Limits {
 }
 
 impl Limits {
+    /// How many of the round's units are left.
+    fn left(&self, meter: &Meter) -> u64 {
+        self.end.saturating_sub(meter.spent())
+    }
+
     /// Leaves out of the round's units what was taken since so many were. What follows without a choice is no part of them.
     fn allow(&mut self, before: u64, meter: &Meter) {
         let taken = meter.spent().saturating_sub(before);
@@ -238,8 +243,11 @@ fn advance<F: Field, O: MonoOrder>(
     }
     if left {
         limits.reached = true;
-    } else if let Some(candidate) = minimal_candidate(alloc, stack, meter)? {
-        return by_roots(alloc, stack, walk, &candidate, task.floor, meter);
+    } else {
+        let units = limits.left(meter);
+        if let Some(candidate) = minimal_candidate(alloc, stack, units, meter)? {
+            return by_roots(alloc, stack, walk, &candidate, task.floor, meter);
+        }
     }
     by_values(alloc, stack, walk, limits, &linear, task, meter)
 }
