@@ -10,6 +10,8 @@ pub mod Values
 pub mod UnivariateLemmas
 pub mod DegreeLemmas
 pub mod PartLemmas
+pub mod MultipleLemmas
 pub mod OpeningLemmas
+pub mod MultiplePolys
 pub mod UseLemmas
 pub mod SideLemmas

@@ -20,8 +20,10 @@ use Rattle.ffc_trees.proofs.NodePolyLemmas.{poly_at-is, boolean_field}
 use Rattle.ffc_trees.specs.Parts.{parts_of}
 use Rattle.ffc_trees.proofs.PartLemmas.{parts_are}
 use Rattle.ffc_ckpoly.specs.Parts.{weighted, owed}
-use Rattle.ffc_ckpoly.specs.Opening.{is_product, waiting_ids, size_of_node, sizes, size_at, CanOpen, CanMake, IsOpenable}
+use Rattle.ffc_ckpoly.specs.Multiples.{is_product, operands}
+use Rattle.ffc_ckpoly.specs.Opening.{waiting_ids, size_of_node, sizes, size_at, CanOpen, CanMake, IsOpenable}
 use Rattle.ffc_ckpoly.specs.Opening.CanOpen.{There, Opened}
+use Rattle.ffc_ckpoly.proofs.MultipleLemmas.{operands_are, operands_less}
 use Rattle.ffc_ckpoly.proofs.PartLemmas.{weights_alike, as_sum, as_bits, as_negation, reduced, sums_alike}
 
 -- a node's polynomial is the one that is written from those of its parts
@@ -130,24 +132,20 @@ all_last P (y ∷ ys) x h = all_last P ys x (λ i e j. h (suc i) e (omega (arith
 
 -- ---- what opens
 
--- a node that is not there is no product, and its parts can be opened
-pub opened : (ns : List Node) (has : ℕ → Type 0) (id : ℕ) (n : Node) → IsNodeAt ns id n → (has id → ⊥) → CanOpen ns has id → (is_product n ≡ false) × All (CanOpen ns has) (parts_of n)
+-- a node that is not there is no product, and its operands can be opened
+pub opened : (ns : List Node) (has : ℕ → Type 0) (id : ℕ) (n : Node) → IsNodeAt ns id n → (has id → ⊥) → CanOpen ns has id → (is_product ns n ≡ false) × All (CanOpen ns has) (operands ns n)
 opened ns has _ n at none (There id h) = absurd (none h)
 opened ns has _ n at none (Opened id m there plain parts) =
-    subst (λ k. (is_product k ≡ false) × All (CanOpen ns has) (parts_of k)) (same_Some m n (sym there ∙ at)) (plain, parts)
+    subst (λ k. (is_product ns k ≡ false) × All (CanOpen ns has) (operands ns k)) (same_Some m n (sym there ∙ at)) (plain, parts)
 
-pub parts_openable : (ns : List Node) (p : ℕ) (has : ℕ → Type 0) (id : ℕ) (n : Node) → IsTable ns → IsNodeAt ns id n → (has id → ⊥) → IsOpenable ns p has id → All (IsOpenable ns p has) (parts_of n)
-parts_openable ns p has id n table at none is = λ k d inside. record {
-  field = (parts_are ns p id table is.field n at k d inside).0;
+pub operands_openable : (ns : List Node) (p : ℕ) (has : ℕ → Type 0) (id : ℕ) (n : Node) → IsTable ns → IsNodeAt ns id n → (has id → ⊥) → IsOpenable ns p has id → All (IsOpenable ns p has) (operands ns n)
+operands_openable ns p has id n table at none is = λ k d inside. record {
+  field = (operands_are ns p id table is.field n at k d inside).0;
   opens = (opened ns has id n at none is.opens).1 k d inside;
 }
 
-pub no_product : (n : Node) → ((ids : List ℕ) → n ≡ Mul ids → ⊥) → is_product n ≡ false
-no_product (Mul ids) h = absurd (h ids refl)
-no_product _ h = refl
-
--- a node that is no product can be opened, where its parts can
-pub openable : (ns : List Node) (p : ℕ) (has : ℕ → Type 0) (id : ℕ) (n : Node) → IsFieldAt ns p id → IsNodeAt ns id n → is_product n ≡ false → CanMake ns has has id → IsOpenable ns p has id
+-- a node that is no product can be opened, where its operands can
+pub openable : (ns : List Node) (p : ℕ) (has : ℕ → Type 0) (id : ℕ) (n : Node) → IsFieldAt ns p id → IsNodeAt ns id n → is_product ns n ≡ false → CanMake ns has has id → IsOpenable ns p has id
 openable ns p has id n is at plain can = record { field = is; opens = Opened id n at plain (can.parts n at plain) }
 
 -- ---- sizes
@@ -161,6 +159,10 @@ pub size_at-parts : (ns : List Node) (p id : ℕ) (n : Node) → IsTable ns → 
 size_at-parts ns p id n table is at =
     size_at-is ns id n at
     ∙ ap suc (sums_alike (number_in (take id (sizes ns))) (size_at ns) (parts_of n) (λ i d inside. get_or-take id (sizes ns) (get_or (parts_of n) i d) 0 (parts_are ns p id table is n at i d inside).1))
+
+-- and so more than its operands together
+pub size_at-operands : (ns : List Node) (p id : ℕ) (n : Node) → IsTable ns → IsFieldAt ns p id → IsNodeAt ns id n → sum_by (size_at ns) (operands ns n) < size_at ns id
+size_at-operands ns p id n table is at = omega (arith, size_at-parts ns p id n table is at, operands_less (size_at ns) ns n)
 
 pub some_size : (ns : List Node) (p id : ℕ) → IsFieldAt ns p id → 0 < size_at ns id
 some_size ns p id is = omega (arith, size_at-is ns id (get_or ns id True) (slice_get-get_or ns id True is.0))

@@ -27,7 +27,8 @@ use Rattle.ffc_trees.specs.Parts.{parts_of}
 use Rattle.ffc_trees.proofs.PartLemmas.{parts_are, degree_at-is, part_low}
 use Rattle.ffc_trees.proofs.ProductLemmas.{poly_before, product_before}
 use Rattle.ffc_ckpoly.specs.Parts.{weighted, IsWithin, AreKnown}
-use Rattle.ffc_ckpoly.specs.Opening.{this_or, part_at}
+use Rattle.ffc_ckpoly.specs.Multiples.{this_or}
+use Rattle.ffc_ckpoly.specs.Opening.{part_at}
 use Rattle.ffc_ckpoly.proofs.DegreeLemmas.{AreWithin, within-append}
 
 -- ---- weights
@@ -38,7 +39,7 @@ products_mod p a b c d e f =
     ∙ ap (λ k. k % p) (let turned : b * c ≡ c * b = omega arith in turned) ∙ times_alike p c d b f
     ∙ ap (λ k. k % p) (let turned : d * b ≡ b * d = omega arith in turned)
 
-scaled_alike : (p a b : ℕ) (f : Terms) → a % p ≡ b % p → SamePolynomial p (scaled a f) (scaled b f)
+pub scaled_alike : (p a b : ℕ) (f : Terms) → a % p ≡ b % p → SamePolynomial p (scaled a f) (scaled b f)
 scaled_alike p a b f e m = ap (λ k. k % p) (written-scaled a f m) ∙ times_alike p a b (written f m) e ∙ ap (λ k. k % p) (sym (written-scaled b f m))
 
 -- weights that are the same modulo p

@@ -13,7 +13,8 @@ use Rattle.ffc_term.specs.Tables.{IsTable}
 use Rattle.ffc_trees.specs.NodePolynomials.{poly_at}
 use Rattle.ffc_trees.specs.Same.{IsSameLine}
 use Rattle.ffc_ckpoly.specs.Parts.{IsWithin, AreKnown}
-use Rattle.ffc_ckpoly.specs.Opening.{this_or, IsThere, CanMake}
+use Rattle.ffc_ckpoly.specs.Multiples.{this_or}
+use Rattle.ffc_ckpoly.specs.Opening.{IsThere, CanMake}
 use Rattle.ffc_ckpoly.specs.Opening.CanOpen.{There}
 use Rattle.ffc_ckpoly.specs.Uses.{HasId, CanBeMadeInOrder}
 use Rattle.ffc_ckpoly.proofs.UseLemmas.{apart, at_other, make_through, make_before}

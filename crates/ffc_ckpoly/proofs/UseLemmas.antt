@@ -10,16 +10,15 @@ use Rattle.std.proofs.lemmas.Option.{same_Some}
 use Rattle.std.proofs.lemmas.List.Elements.{All-append, Contains-append_left, Contains-append_right}
 use Rattle.ffc_ring.specs.Polynomial.{Terms}
 use Rattle.ffc_term.specs.declared.node.Node.{Node}
-use Rattle.ffc_term.specs.declared.node.Node.TheVariants.{Mul}
 use Rattle.ffc_term.specs.Nodes.{IsNodeAt}
 use Rattle.ffc_term.specs.Tables.{IsFieldAt, IsTable}
-use Rattle.ffc_trees.specs.Parts.{parts_of}
-use Rattle.ffc_trees.proofs.PartLemmas.{parts_are}
 use Rattle.ffc_ckpoly.specs.declared.uses.Use.{Use}
 use Rattle.ffc_ckpoly.specs.Parts.{IsWithin}
-use Rattle.ffc_ckpoly.specs.Opening.{is_product, CanOpen, CanMake}
+use Rattle.ffc_ckpoly.specs.Multiples.{is_product, operands}
+use Rattle.ffc_ckpoly.specs.Opening.{CanOpen, CanMake}
 use Rattle.ffc_ckpoly.specs.Opening.CanOpen.{There, Opened}
 use Rattle.ffc_ckpoly.specs.Uses.{HasId, IsWaiting, AreNoted, IsNowListed, CanBeMadeInOrder}
+use Rattle.ffc_ckpoly.proofs.MultipleLemmas.{operands_all, operands_are}
 use Rattle.ffc_ckpoly.proofs.PartLemmas.{all_one, at_some, parts_within}
 use Rattle.ffc_ckpoly.proofs.OpeningLemmas.{nothing_waits}
 
@@ -63,27 +62,27 @@ more_noted known a b c factor xs ys first second = record {
 
 pub open_through : (ns : List Node) (F G : ℕ → Type 0) → ((q : ℕ) → F q → CanOpen ns G q) → (id : ℕ) → CanOpen ns F id → CanOpen ns G id
 open_through ns F G f _ (There id h) = f id h
-open_through ns F G f _ (Opened id n at plain parts) = Opened id n at plain (λ k d inside. open_through ns F G f (get_or (parts_of n) k d) (parts k d inside))
+open_through ns F G f _ (Opened id n at plain parts) = Opened id n at plain (λ k d inside. open_through ns F G f (get_or (operands ns n) k d) (parts k d inside))
 
 pub make_through : (ns : List Node) (F G H K : ℕ → Type 0) → ((q : ℕ) → F q → H q) → ((q : ℕ) → G q → CanOpen ns K q) → (id : ℕ) → CanMake ns F G id → CanMake ns H K id
 make_through ns F G H K f g id m = record {
-  factors = λ ids at k d inside. f (get_or ids k d) (m.factors ids at k d inside);
-  parts = λ n at plain k d inside. open_through ns G K g (get_or (parts_of n) k d) (m.parts n at plain k d inside);
+  factors = λ n at is k d inside. f (get_or (operands ns n) k d) (m.factors n at is k d inside);
+  parts = λ n at plain k d inside. open_through ns G K g (get_or (operands ns n) k d) (m.parts n at plain k d inside);
 }
 
 -- what is there of smaller numbers is enough
 pub open_before : (ns : List Node) (p bound : ℕ) (F G : ℕ → Type 0) → IsTable ns → ((q : ℕ) → q < bound → F q → G q) → (id : ℕ) → IsFieldAt ns p id → id < bound → CanOpen ns F id → CanOpen ns G id
 open_before ns p bound F G table f _ is below (There id h) = There id (f id below h)
 open_before ns p bound F G table f _ is below (Opened id n at plain parts) = Opened id n at plain (λ k d inside.
-    let part = parts_are ns p id table is n at k d inside in
-    open_before ns p bound F G table f (get_or (parts_of n) k d) part.0 (omega (arith, part.1, below)) (parts k d inside))
+    let part = operands_are ns p id table is n at k d inside in
+    open_before ns p bound F G table f (get_or (operands ns n) k d) part.0 (omega (arith, part.1, below)) (parts k d inside))
 
 pub make_before : (ns : List Node) (p id : ℕ) (F G : ℕ → Type 0) → IsTable ns → IsFieldAt ns p id → ((q : ℕ) → q < id → F q → G q) → CanMake ns F F id → CanMake ns G G id
 make_before ns p id F G table is f m = record {
-  factors = λ ids at k d inside. f (get_or ids k d) (parts_are ns p id table is (Mul ids) at k d inside).1 (m.factors ids at k d inside);
+  factors = λ n at product k d inside. f (get_or (operands ns n) k d) (operands_are ns p id table is n at k d inside).1 (m.factors n at product k d inside);
   parts = λ n at plain k d inside.
-      let part = parts_are ns p id table is n at k d inside in
-      open_before ns p id F G table f (get_or (parts_of n) k d) part.0 part.1 (m.parts n at plain k d inside);
+      let part = operands_are ns p id table is n at k d inside in
+      open_before ns p id F G table f (get_or (operands ns n) k d) part.0 part.1 (m.parts n at plain k d inside);
 }
 
 -- ---- the greatest number that waits
@@ -128,7 +127,7 @@ none_there m q e is = let h = sym (ap is_some e) ∙ is in cc
 
 module _ (ns : List Node) (p : ℕ) (known : BTreeMap ℕ Terms) (root : ℕ) (ids listed_ids : BTreeSet ℕ) (w v w' : BTreeMap ℕ Use) (next : ℕ) (uses : Use) (n : Node)
     (table : IsTable ns) (at : IsNodeAt ns next n) (was : get nat_cmp w next ≡ Some uses) (popped : Updates nat_cmp w v next None)
-    (listed : IsNowListed ns ids listed_ids next uses) (noted : AreNoted known v w' (is_product n) (parts_of n)) (before : IsUnderway ns p known root ids w) where
+    (listed : IsNowListed ns ids listed_ids next uses) (noted : AreNoted known v w' (is_product ns n) (operands ns n)) (before : IsUnderway ns p known root ids w) where
   abbrev Now : Bool → ℕ → Type 0
   Now b = IsFound known listed_ids w' b
 
@@ -154,12 +153,12 @@ module _ (ns : List Node) (p : ℕ) (known : BTreeMap ℕ Terms) (root : ℕ) (i
   factors_stay q (inr (inl h)) = inr (inl (listed.kept q h))
   factors_stay q (inr (inr h)) = inr (factor_stays q h)
 
-  parts_found : All (Now (is_product n)) (parts_of n)
+  parts_found : All (Now (is_product ns n)) (operands ns n)
   parts_found k d inside = ⊎_elim (λ i. inl i) (λ h. inr (inr h)) (noted.each k d inside)
 
   next_opens : CanOpen ns (Now false) next
   next_opens = ⊎_elim (λ l. There next (inr (inl l)))
-      (λ no. Opened next n at no.1 (λ k d inside. There (get_or (parts_of n) k d) (subst (λ b. Now b (get_or (parts_of n) k d)) no.1 (parts_found k d inside))))
+      (λ no. Opened next n at no.1 (λ k d inside. There (get_or (operands ns n) k d) (subst (λ b. Now b (get_or (operands ns n) k d)) no.1 (parts_found k d inside))))
       (listed.listed n at)
 
   stays_open : (q : ℕ) → IsFound known ids w false q → CanOpen ns (Now false) q
@@ -168,17 +167,17 @@ module _ (ns : List Node) (p : ℕ) (known : BTreeMap ℕ Terms) (root : ℕ) (i
   stays_open q (inr (inr h)) =
       ⊎_elim (λ e. subst (CanOpen ns (Now false)) e next_opens) (λ ne. There q (inr (inr (still_waits q false ne h)))) (cases_eq next q)
 
-  next_parts : (m : Node) → IsNodeAt ns next m → All (Now (is_product m)) (parts_of m)
-  next_parts m there = subst (λ k. All (Now (is_product k)) (parts_of k)) (same_Some n m (sym at ∙ there)) parts_found
+  next_parts : (m : Node) → IsNodeAt ns next m → All (Now (is_product ns m)) (operands ns m)
+  next_parts m there = subst (λ k. All (Now (is_product ns k)) (operands ns k)) (same_Some n m (sym at ∙ there)) parts_found
 
   next_made : CanMake ns (Now true) (Now false) next
   next_made = record {
-    factors = λ ms there. next_parts (Mul ms) there;
-    parts = λ m there plain k d inside. There (get_or (parts_of m) k d) (subst (λ b. Now b (get_or (parts_of m) k d)) plain (next_parts m there k d inside));
+    factors = λ m there product k d inside. subst (λ b. Now b (get_or (operands ns m) k d)) product (next_parts m there k d inside);
+    parts = λ m there plain k d inside. There (get_or (operands ns m) k d) (subst (λ b. Now b (get_or (operands ns m) k d)) plain (next_parts m there k d inside));
   }
 
-  -- what waits now waited before, or is a part of the node
-  origin : (q : ℕ) → IsSome (get nat_cmp w' q) → ((next ≡ q → ⊥) × IsSome (get nat_cmp w q)) ⊎ Contains (parts_of n) q
+  -- what waits now waited before, or is an operand of the node
+  origin : (q : ℕ) → IsSome (get nat_cmp w' q) → ((next ≡ q → ⊥) × IsSome (get nat_cmp w q)) ⊎ Contains (operands ns n) q
   origin q is = ⊎_elim
       (λ h. ⊎_elim (λ e. absurd (none_there v q (subst (λ k. get nat_cmp v k ≡ None) e popped.1) h)) (λ ne. inl (ne, subst (λ o. IsSome o) (at_other w v next None popped q ne) h)) (cases_eq next q))
       (λ h. inr h) (noted.only q is)
@@ -187,7 +186,7 @@ module _ (ns : List Node) (p : ℕ) (known : BTreeMap ℕ Terms) (root : ℕ) (i
   looked_at = record {
     listed = λ q h. ⊎_elim (λ old. before.listed q old) (λ e. subst (IsWithin ns p) (sym e) next_within) (listed.only q h);
     waits = λ q is. ⊎_elim (λ o. before.waits q o.1)
-        (λ h. subst (IsWithin ns p) h.2 (parts_within ns p next n table at next_within h.0 q h.1)) (origin q is);
+        (λ h. subst (IsWithin ns p) h.2 (operands_all (IsWithin ns p) ns n (parts_within ns p next n table at next_within) h.0 q h.1)) (origin q is);
     made = λ q h. ⊎_elim
         (λ old. make_through ns (IsFound known ids w true) (IsFound known ids w false) (Now true) (Now false) factors_stay stays_open q (before.made q old))
         (λ e. subst (CanMake ns (Now true) (Now false)) (sym e) next_made) (listed.only q h);
@@ -198,7 +197,7 @@ module _ (ns : List Node) (p : ℕ) (known : BTreeMap ℕ Terms) (root : ℕ) (i
   smaller greatest removed =
       let low : top w'.entries ≤ next = top_below w'.entries next (λ q is. ⊎_elim
       (λ o. below next q o.0 (greatest q o.1))
-      (λ h. subst (λ k. k < next) h.2 (parts_are ns p next table next_within.field n at h.0 q h.1).1) (origin q is)) in
+      (λ h. subst (λ k. k < next) h.2 (operands_are ns p next table next_within.field n at h.0 q h.1).1) (origin q is)) in
       let high : next < top w.entries = subst (λ es. next < top es) (sym removed) (top-push v.entries (next, uses)) in
       omega (arith, low, high)
     where

@@ -1,33 +1,25 @@
 -- Which polynomials have to be there so that a node's is made from them: for a product those of its factors, and for another
--- node those of its parts, where a part that is no product may be opened in place of that.
-use Rattle.std.specs.Prelude.{◌≡◌, ℕ, suc, ◌<◌, Bool, true, false, List, length, get_or, map, sum_by, All, Option, Some, None, IsSome}
+-- node those of its operands, where an operand that is no product may be opened in place of that.
+use Rattle.std.specs.Prelude.{◌≡◌, ℕ, suc, ◌<◌, true, false, List, length, get_or, map, sum_by, All, Option, IsSome}
 use Rattle.std.specs.Ordering.{nat_cmp}
 use Rattle.std.specs.BTreeMap.{BTreeMap, get}
 use Rattle.ffc_ring.specs.Polynomial.{Terms}
 use Rattle.ffc_term.specs.declared.node.Node.{Node}
-use Rattle.ffc_term.specs.declared.node.Node.TheVariants.{Mul}
 use Rattle.ffc_term.specs.Nodes.{IsNodeAt, in_turn}
 use Rattle.ffc_term.specs.Tables.{IsFieldAt}
 use Rattle.ffc_term.specs.Measuring.{number_in}
 use Rattle.ffc_trees.specs.Parts.{parts_of}
+use Rattle.ffc_ckpoly.specs.Multiples.{is_product, operands, this_or}
 
-abbrev pub is_product : Node → Bool
-is_product (Mul ids) = true
-is_product _ = false
-
--- A node's polynomial need not be made by itself: it is there, or the node is no product and the same holds of its parts.
+-- A node's polynomial need not be made by itself: it is there, or the node is no product and the same holds of its operands.
 pub data CanOpen (nodes : List Node) (has : ℕ → Type 0) : ℕ → Type 0 where
   There : (id : ℕ) → has id → CanOpen nodes has id
-  Opened : (id : ℕ) (n : Node) → IsNodeAt nodes id n → is_product n ≡ false → ((k d : ℕ) → k < length (parts_of n) → CanOpen nodes has (get_or (parts_of n) k d)) → CanOpen nodes has id
+  Opened : (id : ℕ) (n : Node) → IsNodeAt nodes id n → is_product nodes n ≡ false → ((k d : ℕ) → k < length (operands nodes n) → CanOpen nodes has (get_or (operands nodes n) k d)) → CanOpen nodes has id
 
--- A node's polynomial can be made: its factors are there, where it is a product, and else its parts can be opened.
+-- A node's polynomial can be made: its factors are there, where it is a product, and else its operands can be opened.
 pub record CanMake (nodes : List Node) (factor has : ℕ → Type 0) (id : ℕ) : Type 0 where
-  pub factors : (ids : List ℕ) → IsNodeAt nodes id (Mul ids) → All factor ids
-  pub parts : (n : Node) → IsNodeAt nodes id n → is_product n ≡ false → All (CanOpen nodes has) (parts_of n)
-
-abbrev pub this_or : {A : Type 0} → Option A → Option A → Option A
-this_or None o = o
-this_or (Some x) o = Some x
+  pub factors : (n : Node) → IsNodeAt nodes id n → is_product nodes n ≡ true → All factor (operands nodes n)
+  pub parts : (n : Node) → IsNodeAt nodes id n → is_product nodes n ≡ false → All (CanOpen nodes has) (operands nodes n)
 
 -- the polynomial of a node, among those that are kept and those that were made besides
 abbrev pub part_at : BTreeMap ℕ Terms → BTreeMap ℕ Terms → ℕ → Option Terms

@@ -9,7 +9,8 @@ use Rattle.ffc_term.specs.declared.node.Node.{Node}
 use Rattle.ffc_term.specs.Nodes.{IsNodeAt}
 use Rattle.ffc_ckpoly.specs.declared.uses.Use.{Use}
 use Rattle.ffc_ckpoly.specs.Parts.{IsWithin}
-use Rattle.ffc_ckpoly.specs.Opening.{is_product, CanMake}
+use Rattle.ffc_ckpoly.specs.Multiples.{is_product}
+use Rattle.ffc_ckpoly.specs.Opening.{CanMake}
 
 -- the set has the number
 abbrev pub HasId : BTreeSet ℕ → ℕ → Type 0
@@ -31,7 +32,7 @@ pub record AreNoted (known : BTreeMap ℕ Terms) (old new : BTreeMap ℕ Use) (f
 pub record IsNowListed (nodes : List Node) (old new : BTreeSet ℕ) (id : ℕ) (uses : Use) : Type 0 where
   pub kept : (q : ℕ) → HasId old q → HasId new q
   pub only : (q : ℕ) → HasId new q → HasId old q ⊎ (q ≡ id)
-  pub listed : (n : Node) → IsNodeAt nodes id n → HasId new id ⊎ ((uses.factor ≡ false) × (is_product n ≡ false))
+  pub listed : (n : Node) → IsNodeAt nodes id n → HasId new id ⊎ ((uses.factor ≡ false) × (is_product nodes n ≡ false))
 
 -- The listed nodes can be made in increasing order: from what is known, and what is made of the listed ones.
 pub record CanBeMadeInOrder (nodes : List Node) (p : ℕ) (known : BTreeMap ℕ Terms) (ids : BTreeSet ℕ) : Type 0 where

@@ -3,6 +3,7 @@
 
 mod buffer;
 mod merge;
+mod multiples;
 mod nodes;
 mod opening;
 mod poly;

@@ -14,12 +14,13 @@ ghost use Rattle.ffc_ckpoly.specs.Parts.{IsWithin, AreKnown};
 ghost use Rattle.ffc_ckpoly.specs.Opening.{IsThere, CanMake};
 
 use crate::buffer::Buffer;
+use crate::multiples::factors_of;
 use crate::opening::{opened_sum, part_of};
 use crate::poly::CkPoly;
 use crate::powers::Power;
 use crate::uses::nodes_to_make;
 use ffc_field::Field;
-use ffc_term::{Node, NodeId, NodeTable};
+use ffc_term::{NodeId, NodeTable};
 use std::alloc::{AllocError, Global};
 use std::collections::BTreeMap;
 use std::marker::Model;
@@ -93,9 +94,9 @@ fn polynomial_of<F: Field>(
     requires parts { CanMake table.now (IsThere known.now made.now) (IsThere known.now made.now) id }
     ensures { IfOk result (λ r. IsSameLine F.ORDER r (poly_at table.now id)) }
 {
-    match table.node(id) {
-        Node::Mul(ids) => product(alloc, table, known, made, ids.as_slice()),
-        _ => opened_sum(alloc, table, known, made, id),
+    match factors_of(table, id) {
+        Some(ids) => product(alloc, table, known, made, ids),
+        None => opened_sum(alloc, table, known, made, id),
     }
 }
 
@@ -112,8 +113,8 @@ fn keep<F: Field>(
     Ok(())
 }
 
-/// The polynomial of a node. Each node under it is looked at once; sums under it are opened in place, and the polynomials
-/// of products, of their factors and of sums that are used more than once are kept until it is made.
+/// The polynomial of a node. Each node under it is looked at once; sums and multiples under it are opened in place, and the
+/// polynomials of products, of their factors and of sums that are used more than once are kept until it is made.
 fn side_of<F: Field>(
     alloc: Global,
     table: &NodeTable,

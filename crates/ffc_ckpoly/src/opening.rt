@@ -1,16 +1,16 @@
 //! Sums over nodes, with nested sums opened in place.
-ghost use Rattle.std.specs.Prelude.{◌≡◌, ℕ, ◌+◌, ◌^◌, ◌<◌, ◌++◌, ◌∷◌, [], List, All, sum_by, IfOk, OnOk, option_copied};
+ghost use Rattle.std.specs.Prelude.{◌≡◌, ◌+◌, ◌^◌, ◌<◌, ◌++◌, ◌∷◌, [], false, All, sum_by, IfOk, OnOk, option_copied};
 ghost use Rattle.ffc_ring.specs.Polynomial.{SamePolynomial, scaled};
 ghost use Rattle.ffc_term.specs.declared.node.Node.{Node as TableNode};
-ghost use Rattle.ffc_term.specs.declared.node.Node.TheVariants as node_is;
 ghost use Rattle.ffc_term.specs.Nodes.{IsNodeAt};
 ghost use Rattle.ffc_term.specs.Tables.{IsFieldAt, IsTable};
 ghost use Rattle.ffc_trees.specs.Normal.{IsNormal};
 ghost use Rattle.ffc_trees.specs.NodePolynomials.{node_polys, poly_at};
-ghost use Rattle.ffc_trees.specs.Parts.{parts_of};
 ghost use Rattle.ffc_ckpoly.specs.Parts.{weighted, owed, AreKnown};
+ghost use Rattle.ffc_ckpoly.specs.Multiples.{is_product, operands};
 ghost use Rattle.ffc_ckpoly.specs.Opening.{part_at, size_at, waiting_ids, IsThere, IsOpenable};
 
+use crate::multiples::multiple_of;
 use crate::poly::CkPoly;
 use crate::products::CkSum;
 use ffc_field::Field;
@@ -53,8 +53,8 @@ fn push_weighted<F: Field>(
     Ok(())
 }
 
-/// Adds a multiple of the polynomial of a node that is no product: that of a variable or a number at once, and for a sum its
-/// parts wait.
+/// Adds a multiple of the polynomial of a node that is no product: that of a variable or a number at once, and for a sum or
+/// a multiple its operands wait.
 fn open<F: Field>(
     table: &NodeTable,
     sum: CkSum<F>,
@@ -63,9 +63,9 @@ fn open<F: Field>(
     id: NodeId,
 ) -> Result<CkSum<F>, AllocError>
     requires field { IsFieldAt table.now F.ORDER id }
-    requires plain { (ids : List ℕ) → IsNodeAt table.now id (node_is.Mul ids) → ⊥ }
+    requires plain { (n : TableNode) → IsNodeAt table.now id n → is_product table.now n ≡ false }
     ensures waiting { OnOk result ((n : TableNode) → IsNodeAt table.now id n
-        → waiting_ids waiting.new.items ≡ waiting_ids waiting.old.items ++ parts_of n) }
+        → waiting_ids waiting.new.items ≡ waiting_ids waiting.old.items ++ operands table.now n) }
     ensures same { IfOk result
         (λ r. SamePolynomial F.ORDER (r ++ owed F.value (node_polys table.now) waiting.new.items)
         (sum ++ (owed F.value (node_polys table.now) waiting.old.items
@@ -88,6 +88,14 @@ fn open<F: Field>(
             push_weighted(table, waiting, weight.mul(one.neg()), one, &[*a])?;
             Ok(sum)
         }
+        Node::Mul(ids) => match multiple_of(table, ids.as_slice()) {
+            Some((n, part)) => {
+                let number = F::of(u128::from(n));
+                push_weighted(table, waiting, weight.mul(number), one, &[part])?;
+                Ok(sum)
+            }
+            None => unreachable!(),
+        },
         _ => unreachable!(),
     }
 }
@@ -122,8 +130,8 @@ fn add_node<F: Field>(
     sum.with_product(item.0.residue(), &[], part)
 }
 
-/// The polynomial of a node, with the sums under it opened in place, so that no polynomial is made for them. The products
-/// under it, as far as it is opened, have to be there.
+/// The polynomial of a node, with the sums and multiples under it opened in place, so that no polynomial is made for them. The
+/// products under it, as far as it is opened, have to be there.
 pub fn opened_sum<F: Field>(
     alloc: Global,
     table: &NodeTable,

@@ -1,13 +1,14 @@
 //! Which nodes under a node have polynomials made by themselves.
-ghost use Rattle.std.specs.Prelude.{◌≡◌, ◌∷◌, [], ◌<◌, true, false, length, IfSome, IfOk, OnOk};
+ghost use Rattle.std.specs.Prelude.{◌≡◌, ◌∷◌, [], ◌<◌, true, false, length, All, IfSome, IfOk, OnOk};
 ghost use Rattle.ffc_term.specs.Nodes.{IsNodeAt};
 ghost use Rattle.ffc_term.specs.Tables.{IsTable};
 ghost use Rattle.ffc_term.specs.declared.node.Node.{Node as TableNode};
 ghost use Rattle.ffc_trees.specs.Parts.{parts_of};
 ghost use Rattle.ffc_ckpoly.specs.Parts.{IsWithin};
-ghost use Rattle.ffc_ckpoly.specs.Opening.{is_product};
+ghost use Rattle.ffc_ckpoly.specs.Multiples.{is_product, operands};
 ghost use Rattle.ffc_ckpoly.specs.Uses.{HasId, AreNoted, IsNowListed, CanBeMadeInOrder};
 
+use crate::multiples::{is_single, multiple_of};
 use crate::poly::CkPoly;
 use ffc_field::Field;
 use ffc_term::{Node, NodeId, NodeTable};
@@ -23,12 +24,16 @@ pub struct Use {
 
 impl Use {
     /// Whether the polynomial of a node is made by itself: that of a product, of a factor, and of a sum that is used more
-    /// than once.
-    fn is_made(self, node: &Node) -> bool
-        ensures { result ≡ false → (self.factor ≡ false) × (is_product node.now ≡ false) }
+    /// than once, or a multiple of a sum or a product.
+    fn is_made(self, table: &NodeTable, node: &Node) -> bool
+        requires { All (λ c. c < length table.now) (parts_of node.now) }
+        ensures { result ≡ false → (self.factor ≡ false) × (is_product table.now node.now ≡ false) }
     {
         match node {
-            Node::Mul(_) => true,
+            Node::Mul(ids) => match multiple_of(table, ids.as_slice()) {
+                Some((_, part)) => self.factor || (self.many && !is_single(table, part)),
+                None => true,
+            },
             Node::Add(_) => self.factor || self.many,
             Node::Bitsum(_) => self.factor || self.many,
             Node::Neg(_) => self.factor || self.many,
@@ -86,20 +91,24 @@ fn note_all<F: Field>(
     Ok(())
 }
 
-/// The same for the parts of a node.
-fn note_parts<F: Field>(
+/// The same for the operands of a node.
+fn note_operands<F: Field>(
     table: &NodeTable,
     known: &BTreeMap<NodeId, CkPoly<F>>,
     waiting: &mut BTreeMap<NodeId, Use>,
     id: NodeId,
 ) -> Result<(), AllocError>
     requires { id < length table.now }
-    ensures { OnOk result ((n : TableNode) → IsNodeAt table.now id n → AreNoted known.now waiting.old waiting.new (is_product n) (parts_of n)) }
+    ensures { OnOk result ((n : TableNode) → IsNodeAt table.now id n → AreNoted known.now waiting.old waiting.new
+        (is_product table.now n) (operands table.now n)) }
 {
     match table.node(id) {
         Node::Add(ids) => note_all(known, waiting, ids.as_slice(), false),
         Node::Bitsum(ids) => note_all(known, waiting, ids.as_slice(), false),
-        Node::Mul(ids) => note_all(known, waiting, ids.as_slice(), true),
+        Node::Mul(ids) => match multiple_of(table, ids.as_slice()) {
+            Some((_, part)) => note_one(known, waiting, part, false),
+            None => note_all(known, waiting, ids.as_slice(), true),
+        },
         Node::Neg(a) => note_one(known, waiting, *a, false),
         _ => Ok(()),
     }
@@ -116,7 +125,7 @@ fn list_made(
     ensures listed { OnOk result (IsNowListed table.now to_make.old to_make.new id uses) }
     ensures valid { IsTable table.now }
 {
-    if uses.is_made(table.node(id)) {
+    if uses.is_made(table, table.node(id)) {
         to_make.insert(id)?;
     }
     Ok(())
@@ -145,7 +154,7 @@ pub fn nodes_to_make<F: Field>(
     )?;
     while let Some((next, uses)) = waiting.pop_last() {
         list_made(table, &mut to_make, next, uses)?;
-        note_parts(table, known, &mut waiting, next)?;
+        note_operands(table, known, &mut waiting, next)?;
     }
     Ok(to_make)
 }

@@ -8,14 +8,20 @@ use Rattle.ffc_ring.proofs.PolynomialLemmas.{same_sums, same_term_products}
 use Rattle.ffc_term.specs.declared.node.Node.{Node}
 use Rattle.ffc_term.specs.declared.node.Node.TheVariants.{True}
 use Rattle.ffc_term.specs.Nodes.{IsNodeAt}
-use Rattle.ffc_trees.specs.Parts.{parts_of}
 use Rattle.ffc_trees.specs.NodePolynomials.{node_polys, poly_at}
 use Rattle.ffc_trees.specs.Same.{IsSameLine}
 use Rattle.ffc_ckpoly.specs.Parts.{owed}
+use Rattle.ffc_ckpoly.specs.Multiples.{operands}
 use Rattle.ffc_ckpoly.specs.Opening.{size_at, waiting_ids, IsThere, IsOpenable}
 use Rattle.ffc_ckpoly.proofs.PartLemmas.{found_line, on_ok_always}
-use Rattle.ffc_ckpoly.proofs.OpeningLemmas.{term_added, parts_openable, size_at-parts, some_size}
+use Rattle.ffc_ckpoly.proofs.OpeningLemmas.{term_added, opened, operands_openable, size_at-operands, some_size}
 use Rattle.ffc_ckpoly.proofs.opening.add_node.Goals as goal
+
+pub open-requires-clause-plain : goal.open-requires-clause-plain
+open-requires-clause-plain g c =
+    let has = IsThere c.args.known.now c.args.made.now in
+    let none : has c.args.item.1 → ⊥ = λ h. let never = ap is_some c.in_default.ensures ∙ h in cc in
+    λ n at. (opened c.args.table.now has c.args.item.1 n at none c.requires.node.opens).0
 
 pub returns-in_default-clause-waiting : goal.returns-in_default-clause-waiting
 returns-in_default-clause-waiting g c =
@@ -28,7 +34,7 @@ returns-in_default-clause-waiting g c =
     let none : has id → ⊥ = λ h. let never = ap is_some c.in_default.ensures ∙ h in cc in
     on_ok_weaker c.open.result
     (λ e. subst (All (IsOpenable nodes p has)) (sym (e n at))
-    (All-append (IsOpenable nodes p has) (waiting_ids c.args.waiting.now.items) (parts_of n) c.requires.waiting (parts_openable nodes p has id n c.requires.valid at none c.requires.node)))
+    (All-append (IsOpenable nodes p has) (waiting_ids c.args.waiting.now.items) (operands nodes n) c.requires.waiting (operands_openable nodes p has id n c.requires.valid at none c.requires.node)))
     c.open.ensures.waiting
 
 pub returns-in_default-clause-less : goal.returns-in_default-clause-less
@@ -41,7 +47,7 @@ returns-in_default-clause-less g c =
     let at : IsNodeAt nodes id n = slice_get-get_or nodes id True c.requires.node.field.0 in
     on_ok_weaker c.open.result
     (λ e. let sum = ap (sum_by (size_at nodes)) (e n at) in
-    omega (arith, sum, sum_by-append (size_at nodes) old (parts_of n), size_at-parts nodes p id n c.requires.valid c.requires.node.field at))
+    omega (arith, sum, sum_by-append (size_at nodes) old (operands nodes n), size_at-operands nodes p id n c.requires.valid c.requires.node.field at))
     c.open.ensures.waiting
 
 pub returns-clause-less : goal.returns-clause-less

@@ -1,4 +1,5 @@
-use Rattle.std.proofs.Common.{◌≡◌, ℕ, List, ◌*◌, ◌%◌, ◌++◌, ◌∷◌, [], ap, ◌∙◌, subst, arith}
+use Rattle.std.proofs.Common.{◌≡◌, ℕ, ◌*◌, ◌<◌, ◌%◌, ◌++◌, ◌∷◌, [], length, All, Some, None, true, false, sym, ap, ◌∙◌, subst, arith}
+use Rattle.std.specs.Prelude.{is_none}
 use Rattle.std.proofs.Math.Nat.{mod-mod}
 use Rattle.std.proofs.lemmas.Nat.{mul-mod_second}
 use Rattle.ffc_ring.specs.Monomial.{Monomial}
@@ -7,6 +8,9 @@ use Rattle.ffc_term.specs.declared.node.Node.TheVariants.{FieldConst, Num, IteFi
 use Rattle.ffc_term.specs.Nodes.{IsNodeAt}
 use Rattle.ffc_trees.specs.NodePolynomials.{node_polys, poly_at}
 use Rattle.ffc_ckpoly.specs.Parts.{weighted, owed}
+use Rattle.ffc_ckpoly.specs.Multiples.{multiple_of}
+use Rattle.ffc_ckpoly.proofs.MultipleLemmas.{parts_inside}
+use Rattle.ffc_ckpoly.proofs.MultiplePolys.{multiple_expands}
 use Rattle.ffc_ckpoly.proofs.SortedLemmas.{minus_one}
 use Rattle.ffc_trees.proofs.PartLemmas.{parts_are}
 use Rattle.ffc_ckpoly.proofs.OpeningLemmas.{node_expands, parts_owed, sum_kept, term_added, term_scaled, sum_expands, bits_expand, negation_expands, nothing_else}
@@ -117,10 +121,46 @@ returns-in_ok-push_weighted-in-Neg-clause-same g c =
     let is = negation_expands nodes p id c.requires.field a r part at (parts 0 0 (omega arith)).1 (minus_one p r a g.met.F.Field.prime.least c.of-one.ensures c.neg.ensures) in
     sum_kept p c.args.sum new (old ++ scaled w (poly_at nodes id)) (parts_owed p w v a r polys id (part ∷ []) new old c.mul-in-Neg.ensures is c.in_ok-push_weighted-in-Neg.ensures.owed)
 
+pub multiple_of-requires : goal.multiple_of-requires
+multiple_of-requires g c =
+    let nodes = c.args.table.now in
+    let id = c.args.id in
+    let ids = c.in-Mul.ids in
+    let at : IsNodeAt nodes id (Mul ids) = subst (IsNodeAt nodes id) c.in-Mul.is c.node.ensures.at in
+    subst (All (λ k. k < length nodes)) (sym c.as_slice-in-Mul.ensures) (parts_inside nodes id (Mul ids) c.node.ensures.valid at)
+
+pub returns-in_ok-push_weighted-in-Some-clause-same : goal.returns-in_ok-push_weighted-in-Some-clause-same
+returns-in_ok-push_weighted-in-Some-clause-same g c =
+    let value = g.F.Field.value in
+    let p = g.F.Field.ORDER in
+    let nodes = c.args.table.now in
+    let id = c.args.id in
+    let polys = node_polys nodes in
+    let ids = c.in-Mul.ids in
+    let at : IsNodeAt nodes id (Mul ids) = subst (IsNodeAt nodes id) c.in-Mul.is c.node.ensures.at in
+    let x : ℕ × ℕ = (c.in-Some.n, c.in-Some.part) in
+    let found : multiple_of nodes ids ≡ Some x = ap (multiple_of nodes) (sym c.as_slice-in-Mul.ensures) ∙ sym c.in-Some.ensures in
+    let w = value c.args.weight in
+    let v = value c.mul-in-Some.result in
+    let a = value c.of-number.result in
+    let r = value c.of-one.result in
+    let old = owed value polys c.args.waiting.now.items in
+    let new = owed value polys c.push_weighted-in-Some.new.waiting.items in
+    let reduced : a ≡ c.in-Some.n % p = c.of-number.ensures ∙ ap (λ k. k % p) c.from-in-Some.ensures in
+    let is = multiple_expands nodes p c.node.ensures.valid id a r ids x c.requires.field at found reduced in
+    sum_kept p c.args.sum new (old ++ scaled w (poly_at nodes id)) (parts_owed p w v a r polys id (c.in-Some.part ∷ []) new old c.mul-in-Some.ensures is c.in_ok-push_weighted-in-Some.ensures.owed)
+
 pub unreachable-requires : goal.unreachable-requires
 unreachable-requires g c =
     let nodes = c.args.table.now in
     let id = c.args.id in
-    let product : (ids : List ℕ) → c.node.result.now ≡ Mul ids → ⊥ = λ ids e. c.requires.plain ids (subst (IsNodeAt nodes id) e c.node.ensures.at) in
-    nothing_else nodes g.F.Field.ORDER id c.node.result.now c.requires.field c.node.ensures.at
-    c.in_default.not-FieldConst c.in_default.not-Num c.in_default.not-IteField c.in_default.not-Add product c.in_default.not-Neg c.in_default.not-Bitsum
+    let ids = c.in-Mul.ids in
+    let at : IsNodeAt nodes id (Mul ids) = subst (IsNodeAt nodes id) c.in-Mul.is c.node.ensures.at in
+    let none : multiple_of nodes ids ≡ None = ap (multiple_of nodes) (sym c.as_slice-in-Mul.ensures) ∙ sym c.in-None.ensures in
+    let never : true ≡ false = sym (ap is_none none) ∙ c.requires.plain (Mul ids) at in
+    cc
+
+pub unreachable-requires-in_default : goal.unreachable-requires-in_default
+unreachable-requires-in_default g c =
+    nothing_else c.args.table.now g.F.Field.ORDER c.args.id c.node.result.now c.requires.field c.node.ensures.at
+    c.in_default.not-FieldConst c.in_default.not-Num c.in_default.not-IteField c.in_default.not-Add c.in_default.not-Mul c.in_default.not-Neg c.in_default.not-Bitsum

@@ -12,8 +12,8 @@ loop-next-smaller g c =
     let next = c.in-Some.next in
     let n : Node = get_or nodes next True in
     let at : IsNodeAt nodes next n = slice_get-get_or nodes next True (c.loop-next.invariant.waits next (ap is_some c.in-Some.ensures.value)).field.0 in
-    smaller nodes g.F.Field.ORDER c.args.known.now c.args.id c.loop-next.to_make c.list_made.new.to_make c.loop-next.waiting c.pop_last.new.self c.note_parts.new.waiting next c.in-Some.uses n
-    c.list_made.ensures.valid at c.in-Some.ensures.value c.in-Some.ensures.updates c.in_ok-list_made.ensures.listed (c.in_ok-note_parts.ensures n at) c.loop-next.invariant c.in-Some.ensures.greatest c.in-Some.ensures.removal
+    smaller nodes g.F.Field.ORDER c.args.known.now c.args.id c.loop-next.to_make c.list_made.new.to_make c.loop-next.waiting c.pop_last.new.self c.note_operands.new.waiting next c.in-Some.uses n
+    c.list_made.ensures.valid at c.in-Some.ensures.value c.in-Some.ensures.updates c.in_ok-list_made.ensures.listed (c.in_ok-note_operands.ensures n at) c.loop-next.invariant c.in-Some.ensures.greatest c.in-Some.ensures.removal
 
 pub loop-next-preserved : goal.loop-next-preserved
 loop-next-preserved g c =
@@ -21,8 +21,8 @@ loop-next-preserved g c =
     let next = c.in-Some.next in
     let n : Node = get_or nodes next True in
     let at : IsNodeAt nodes next n = slice_get-get_or nodes next True (c.loop-next.invariant.waits next (ap is_some c.in-Some.ensures.value)).field.0 in
-    looked_at nodes g.F.Field.ORDER c.args.known.now c.args.id c.loop-next.to_make c.list_made.new.to_make c.loop-next.waiting c.pop_last.new.self c.note_parts.new.waiting next c.in-Some.uses n
-    c.list_made.ensures.valid at c.in-Some.ensures.value c.in-Some.ensures.updates c.in_ok-list_made.ensures.listed (c.in_ok-note_parts.ensures n at) c.loop-next.invariant
+    looked_at nodes g.F.Field.ORDER c.args.known.now c.args.id c.loop-next.to_make c.list_made.new.to_make c.loop-next.waiting c.pop_last.new.self c.note_operands.new.waiting next c.in-Some.uses n
+    c.list_made.ensures.valid at c.in-Some.ensures.value c.in-Some.ensures.updates c.in_ok-list_made.ensures.listed (c.in_ok-note_operands.ensures n at) c.loop-next.invariant
 
 pub returns-clause-made : goal.returns-clause-made
 returns-clause-made g c =

@@ -1,0 +1,12 @@
+use Rattle.std.proofs.Common.{◌<◌, length, All, sym, subst}
+use Rattle.ffc_term.specs.declared.node.Node.TheVariants.{Mul}
+use Rattle.ffc_term.specs.Nodes.{IsNodeAt}
+use Rattle.ffc_ckpoly.proofs.MultipleLemmas.{parts_inside}
+use Rattle.ffc_ckpoly.proofs.uses.note_operands.Goals as goal
+
+pub multiple_of-requires : goal.multiple_of-requires
+multiple_of-requires g c =
+    let nodes = c.args.table.now in
+    let id = c.args.id in
+    subst (All (λ k. k < length nodes)) (sym c.as_slice-in-Mul.ensures)
+    (parts_inside nodes id (Mul c.in-Mul.ids) c.node.ensures.valid (subst (IsNodeAt nodes id) c.in-Mul.is c.node.ensures.at))
