@@ -10,3 +10,4 @@ pub mod KeptLemmas
 pub mod GoesOnLemmas
 pub mod DepthLemmas
 pub mod OrderLemmas
+pub mod NameLemmas

@@ -73,10 +73,23 @@ pub const THEORY_SYMBOLS: [&str; 14] = [
     "ff.bitsum",
 ];
 
+/// Whether a name is this word. Most words differ from it in their length already.
+#[inline(always)]
+#[tactic(auto, using(crate::proofs::NameLemmas::other_length))]
+fn is_spelled(word: &str, name: &[u8]) -> bool
+    ensures { result ≡ bytes_eq word.now name.now }
+{
+    let bytes = word.as_bytes();
+    if bytes.len() != name.len() {
+        return false;
+    }
+    bytes == name
+}
+
 fn is_among(words: &[&str], name: &[u8]) -> bool
     ensures { result ≡ list_any (λ word. bytes_eq word.now name.now) words.now }
 {
-    words.iter().any(|word| word.as_bytes() == name)
+    words.iter().any(|word| is_spelled(word, name))
 }
 
 /// Whether a name is a reserved word. A quoted symbol never is one: ask only of a symbol without bars.

@@ -1,0 +1,8 @@
+-- Names that differ in their length.
+use Rattle.std.proofs.Common.{◌≡◌, ℕ, false, List, length, sym, ap}
+use Rattle.std.specs.Str.{bytes_eq}
+use Rattle.std.proofs.lemmas.Bool.{false_from_ne_true}
+use Rattle.std.proofs.lemmas.Slice.Eq.{bytes_eq-Decides}
+
+pub other_length : (a b : List ℕ) → (length a ≡ length b → ⊥) → false ≡ bytes_eq a b
+other_length a b h = sym (false_from_ne_true (bytes_eq a b) (λ e. h (ap length ((bytes_eq-Decides a b).0 e))))
