@@ -1,15 +1,17 @@
 -- Multiples of nodes: which products they are, and that their operands are parts.
-use Rattle.std.proofs.Common.{◌≡◌, ℕ, true, false, ◌<◌, ◌≤◌, List, [], ◌∷◌, length, take, get_or, sum_by, All, Option, Some, None, refl, ap, arith, length-take}
+use Rattle.std.proofs.Common.{◌≡◌, ℕ, true, false, ◌<◌, ◌≤◌, List, [], ◌∷◌, length, take, get_or, sum_by, All, Option, Some, None, refl, sym, ap, subst, arith, length-take}
 use Rattle.std.proofs.lemmas.List.Sums.{sum_by-cons}
 use Rattle.std.proofs.lemmas.Option.{same_Some}
 use Rattle.std.specs.Prelude.{slice_get, is_none}
 use Rattle.ffc_term.specs.declared.node.Node.{Node}
-use Rattle.ffc_term.specs.declared.node.Node.TheVariants.{Num, Add, Mul, Neg, Bitsum}
+use Rattle.ffc_term.specs.declared.node.Node.TheVariants.{FieldConst, Num, IteField, Add, Mul, Neg, Bitsum}
 use Rattle.ffc_term.specs.Nodes.{IsNodeAt}
 use Rattle.ffc_term.specs.Tables.{Fits, IsFieldAt, IsTable}
 use Rattle.ffc_trees.specs.Parts.{parts_of}
 use Rattle.ffc_trees.proofs.PartLemmas.{parts_are}
-use Rattle.ffc_ckpoly.specs.Multiples.{number_of, number_found, number_at, this_or, with_node, multiple_of_two, multiple_of, multiplied_or, is_product, operands}
+use Rattle.ffc_ckpoly.specs.Multiples.{is_single, number_of, number_found, number_at, this_or, with_node, multiple_of_two, multiple_of, multiplied_or, is_product, operands}
+use Rattle.ffc_ckpoly.specs.Opening.{CanOpen, OpensAlone}
+use Rattle.ffc_ckpoly.specs.Opening.CanOpen.{Opened}
 use Rattle.ffc_ckpoly.proofs.PartLemmas.{all_one}
 
 pub no_product : (ns : List Node) (n : Node) → ((ids : List ℕ) → n ≡ Mul ids → ⊥) → is_product ns n ≡ false
@@ -84,6 +86,23 @@ multiplied_less f ns (a ∷ b ∷ c ∷ ids) = omega arith
 pub operands_less : (f : ℕ → ℕ) (ns : List Node) (n : Node) → sum_by f (operands ns n) ≤ sum_by f (parts_of n)
 operands_less f ns (Mul ids) = multiplied_less f ns ids
 operands_less f ns _ = omega arith
+
+-- ---- what opens alone
+
+pub single_opens : (ns : List Node) (id : ℕ) (n : Node) → IsNodeAt ns id n → is_single n ≡ true → OpensAlone ns id
+single_opens ns id (FieldConst k q) at h = Opened id (FieldConst k q) at refl (λ i d inside. absurd (omega (arith, inside)))
+single_opens ns id (Num k q) at h = Opened id (Num k q) at refl (λ i d inside. absurd (omega (arith, inside)))
+single_opens ns id (IteField c a b) at h = Opened id (IteField c a b) at refl (λ i d inside. absurd (omega (arith, inside)))
+single_opens ns id _ at h = absurd (cc)
+
+pub multiple_opens : (ns : List Node) (id : ℕ) (ids : List ℕ) (x : ℕ × ℕ) → IsNodeAt ns id (Mul ids) → multiple_of ns ids ≡ Some x → OpensAlone ns x.1 → OpensAlone ns id
+multiple_opens ns id ids x at e h = Opened id (Mul ids) at (ap is_none e) (subst (λ o. All (CanOpen ns (λ q. ⊥)) (multiplied_or o ids)) (sym e) (all_one (CanOpen ns (λ q. ⊥)) x.1 h))
+
+-- the node of a multiple is one of its factors
+pub multiplied_inside : (P : ℕ → Type 0) (ns : List Node) (ids : List ℕ) (x : ℕ × ℕ) → All P ids → multiple_of ns ids ≡ Some x → P x.1
+multiplied_inside P ns ids x h e = (subst (λ o. All P (multiplied_or o ids)) e (multiplied_all P ns ids h)) 0 0 (omega arith)
+
+-- ---- the parts of a node
 
 -- they are of the node's field, and before it
 pub operands_are : (ns : List Node) (p id : ℕ) → IsTable ns → IsFieldAt ns p id → (n : Node) → IsNodeAt ns id n → All (λ c. IsFieldAt ns p c × (c < id)) (operands ns n)

@@ -17,7 +17,7 @@ use Rattle.ffc_ckpoly.specs.Parts.{IsWithin}
 use Rattle.ffc_ckpoly.specs.Multiples.{is_product, operands}
 use Rattle.ffc_ckpoly.specs.Opening.{CanOpen, CanMake}
 use Rattle.ffc_ckpoly.specs.Opening.CanOpen.{There, Opened}
-use Rattle.ffc_ckpoly.specs.Uses.{HasId, IsWaiting, AreNoted, IsNowListed, CanBeMadeInOrder}
+use Rattle.ffc_ckpoly.specs.Uses.{HasId, IsWaiting, IsLight, IsNoted, AreNoted, IsNowListed, CanBeMadeInOrder}
 use Rattle.ffc_ckpoly.proofs.MultipleLemmas.{operands_all, operands_are}
 use Rattle.ffc_ckpoly.proofs.PartLemmas.{all_one, at_some, parts_within}
 use Rattle.ffc_ckpoly.proofs.OpeningLemmas.{nothing_waits}
@@ -30,17 +30,24 @@ at_other old new id w u q ne = u.2 q (apart id q ne)
 
 -- ---- what is noted
 
-pub noted_known : (known : BTreeMap ℕ Terms) (w : BTreeMap ℕ Use) (factor : Bool) (id : ℕ) → IsSome (get nat_cmp known id) → AreNoted known w w factor (id ∷ [])
-noted_known known w factor id is = record {
-  each = all_one (λ q. IsSome (get nat_cmp known q) ⊎ IsWaiting w factor q) id (inl is);
+pub noted_known : (ns : List Node) (known : BTreeMap ℕ Terms) (w : BTreeMap ℕ Use) (factor : Bool) (id : ℕ) → IsSome (get nat_cmp known id) → AreNoted ns known w w factor (id ∷ [])
+noted_known ns known w factor id is = record {
+  each = all_one (IsNoted ns known w factor) id (inl is);
   kept = λ q b h. h;
   only = λ q h. inl h;
 }
 
-pub one_noted : (known : BTreeMap ℕ Terms) (old new : BTreeMap ℕ Use) (factor : Bool) (id : ℕ) (uses : Use) → Updates nat_cmp old new id (Some uses) → (factor ≡ true → uses.factor ≡ true)
-    → IfSome (get nat_cmp old id) (λ u. u.factor ≡ true → uses.factor ≡ true) → AreNoted known old new factor (id ∷ [])
-one_noted known old new factor id uses u noted before = record {
-  each = all_one (λ q. IsSome (get nat_cmp known q) ⊎ IsWaiting new factor q) id (inr (record { uses = uses; at = u.1; noted = noted }));
+pub noted_light : (ns : List Node) (known : BTreeMap ℕ Terms) (w : BTreeMap ℕ Use) (factor : Bool) (id : ℕ) → IsLight ns factor id → AreNoted ns known w w factor (id ∷ [])
+noted_light ns known w factor id light = record {
+  each = all_one (IsNoted ns known w factor) id (inr (inr light));
+  kept = λ q b h. h;
+  only = λ q h. inl h;
+}
+
+pub one_noted : (ns : List Node) (known : BTreeMap ℕ Terms) (old new : BTreeMap ℕ Use) (factor : Bool) (id : ℕ) (uses : Use) → Updates nat_cmp old new id (Some uses) → (factor ≡ true → uses.factor ≡ true)
+    → IfSome (get nat_cmp old id) (λ u. u.factor ≡ true → uses.factor ≡ true) → AreNoted ns known old new factor (id ∷ [])
+one_noted ns known old new factor id uses u noted before = record {
+  each = all_one (IsNoted ns known new factor) id (inr (inl (record { uses = uses; at = u.1; noted = noted })));
   kept = λ q b w. ⊎_elim
       (λ e. record { uses = uses; at = subst (λ k. get nat_cmp new k ≡ Some uses) e u.1; noted = λ t. at_some (λ (v : Use). v.factor ≡ true → uses.factor ≡ true) (get nat_cmp old id) w.uses (ap (get nat_cmp old) e ∙ w.at) before (w.noted t) })
       (λ ne. record { uses = w.uses; at = at_other old new id (Some uses) u q ne ∙ w.at; noted = w.noted })
@@ -48,10 +55,10 @@ one_noted known old new factor id uses u noted before = record {
   only = λ q is. ⊎_elim (λ e. inr (0, omega arith, e)) (λ ne. inl (subst (λ o. IsSome o) (at_other old new id (Some uses) u q ne) is)) (cases_eq id q);
 }
 
-pub more_noted : (known : BTreeMap ℕ Terms) (a b c : BTreeMap ℕ Use) (factor : Bool) (xs ys : List ℕ) → AreNoted known a b factor xs → AreNoted known b c factor ys → AreNoted known a c factor (xs ++ ys)
-more_noted known a b c factor xs ys first second = record {
-  each = All-append (λ q. IsSome (get nat_cmp known q) ⊎ IsWaiting c factor q) xs ys
-      (λ k d h. ⊎_elim (λ i. inl i) (λ w. inr (second.kept (get_or xs k d) factor w)) (first.each k d h)) second.each;
+pub more_noted : (ns : List Node) (known : BTreeMap ℕ Terms) (a b c : BTreeMap ℕ Use) (factor : Bool) (xs ys : List ℕ) → AreNoted ns known a b factor xs → AreNoted ns known b c factor ys → AreNoted ns known a c factor (xs ++ ys)
+more_noted ns known a b c factor xs ys first second = record {
+  each = All-append (IsNoted ns known c factor) xs ys
+      (λ k d h. ⊎_elim (λ i. inl i) (λ o. inr (⊎_elim (λ w. inl (second.kept (get_or xs k d) factor w)) (λ l. inr l) o)) (first.each k d h)) second.each;
   kept = λ q f w. second.kept q f (first.kept q f w);
   only = λ q is. ⊎_elim
       (λ i. ⊎_elim (λ j. inl j) (λ h. inr (Contains-append_left xs ys q h)) (first.only q i))
@@ -111,15 +118,18 @@ top_below (e ∷ es) n h = omega (arith, h e.0 (here e.0 e.1 es), top_below es n
 
 -- ---- the nodes that were looked at
 
--- a node is known, or listed, or waits
-abbrev pub IsFound : BTreeMap ℕ Terms → BTreeSet ℕ → BTreeMap ℕ Use → Bool → ℕ → Type 0
-IsFound known ids waiting factor q = IsSome (get nat_cmp known q) ⊎ (HasId ids q ⊎ IsWaiting waiting factor q)
+-- a node is known, or listed, or waits, or is light
+abbrev pub IsFound : List Node → BTreeMap ℕ Terms → BTreeSet ℕ → BTreeMap ℕ Use → Bool → ℕ → Type 0
+IsFound ns known ids waiting factor q = IsSome (get nat_cmp known q) ⊎ (HasId ids q ⊎ (IsWaiting waiting factor q ⊎ IsLight ns factor q))
+
+no_light_factor : (ns : List Node) (q : ℕ) → IsLight ns true q → ⊥
+no_light_factor ns q l = let never : true ≡ false = l.no_factor in cc
 
 -- The nodes under `root` that were looked at: those that are listed can be made once those that wait were looked at too.
 pub record IsUnderway (ns : List Node) (p : ℕ) (known : BTreeMap ℕ Terms) (root : ℕ) (ids : BTreeSet ℕ) (waiting : BTreeMap ℕ Use) : Type 0 where
   pub listed : (q : ℕ) → HasId ids q → IsWithin ns p q
   pub waits : (q : ℕ) → IsSome (get nat_cmp waiting q) → IsWithin ns p q
-  pub made : (q : ℕ) → HasId ids q → CanMake ns (IsFound known ids waiting true) (IsFound known ids waiting false) q
+  pub made : (q : ℕ) → HasId ids q → CanMake ns (IsFound ns known ids waiting true) (IsFound ns known ids waiting false) q
   pub itself : HasId ids root ⊎ IsWaiting waiting true root
 
 none_there : {X : Type 0} (m : BTreeMap ℕ X) (q : ℕ) → get nat_cmp m q ≡ None → IsSome (get nat_cmp m q) → ⊥
@@ -127,9 +137,9 @@ none_there m q e is = let h = sym (ap is_some e) ∙ is in cc
 
 module _ (ns : List Node) (p : ℕ) (known : BTreeMap ℕ Terms) (root : ℕ) (ids listed_ids : BTreeSet ℕ) (w v w' : BTreeMap ℕ Use) (next : ℕ) (uses : Use) (n : Node)
     (table : IsTable ns) (at : IsNodeAt ns next n) (was : get nat_cmp w next ≡ Some uses) (popped : Updates nat_cmp w v next None)
-    (listed : IsNowListed ns ids listed_ids next uses) (noted : AreNoted known v w' (is_product ns n) (operands ns n)) (before : IsUnderway ns p known root ids w) where
+    (listed : IsNowListed ns ids listed_ids next uses) (noted : AreNoted ns known v w' (is_product ns n) (operands ns n)) (before : IsUnderway ns p known root ids w) where
   abbrev Now : Bool → ℕ → Type 0
-  Now b = IsFound known listed_ids w' b
+  Now b = IsFound ns known listed_ids w' b
 
   next_within : IsWithin ns p next
   next_within = before.waits next (ap is_some was)
@@ -148,10 +158,11 @@ module _ (ns : List Node) (p : ℕ) (known : BTreeMap ℕ Terms) (root : ℕ) (i
       (listed.listed n at))
       (λ ne. inr (still_waits q true ne h)) (cases_eq next q)
 
-  factors_stay : (q : ℕ) → IsFound known ids w true q → Now true q
+  factors_stay : (q : ℕ) → IsFound ns known ids w true q → Now true q
   factors_stay q (inl i) = inl i
   factors_stay q (inr (inl h)) = inr (inl (listed.kept q h))
-  factors_stay q (inr (inr h)) = inr (factor_stays q h)
+  factors_stay q (inr (inr (inl h))) = inr (⊎_elim (λ l. inl l) (λ v. inr (inl v)) (factor_stays q h))
+  factors_stay q (inr (inr (inr l))) = absurd (no_light_factor ns q l)
 
   parts_found : All (Now (is_product ns n)) (operands ns n)
   parts_found k d inside = ⊎_elim (λ i. inl i) (λ h. inr (inr h)) (noted.each k d inside)
@@ -161,11 +172,12 @@ module _ (ns : List Node) (p : ℕ) (known : BTreeMap ℕ Terms) (root : ℕ) (i
       (λ no. Opened next n at no.1 (λ k d inside. There (get_or (operands ns n) k d) (subst (λ b. Now b (get_or (operands ns n) k d)) no.1 (parts_found k d inside))))
       (listed.listed n at)
 
-  stays_open : (q : ℕ) → IsFound known ids w false q → CanOpen ns (Now false) q
+  stays_open : (q : ℕ) → IsFound ns known ids w false q → CanOpen ns (Now false) q
   stays_open q (inl i) = There q (inl i)
   stays_open q (inr (inl h)) = There q (inr (inl (listed.kept q h)))
-  stays_open q (inr (inr h)) =
-      ⊎_elim (λ e. subst (CanOpen ns (Now false)) e next_opens) (λ ne. There q (inr (inr (still_waits q false ne h)))) (cases_eq next q)
+  stays_open q (inr (inr (inl h))) =
+      ⊎_elim (λ e. subst (CanOpen ns (Now false)) e next_opens) (λ ne. There q (inr (inr (inl (still_waits q false ne h))))) (cases_eq next q)
+  stays_open q (inr (inr (inr l))) = There q (inr (inr (inr l)))
 
   next_parts : (m : Node) → IsNodeAt ns next m → All (Now (is_product ns m)) (operands ns m)
   next_parts m there = subst (λ k. All (Now (is_product ns k)) (operands ns k)) (same_Some n m (sym at ∙ there)) parts_found
@@ -188,7 +200,7 @@ module _ (ns : List Node) (p : ℕ) (known : BTreeMap ℕ Terms) (root : ℕ) (i
     waits = λ q is. ⊎_elim (λ o. before.waits q o.1)
         (λ h. subst (IsWithin ns p) h.2 (operands_all (IsWithin ns p) ns n (parts_within ns p next n table at next_within) h.0 q h.1)) (origin q is);
     made = λ q h. ⊎_elim
-        (λ old. make_through ns (IsFound known ids w true) (IsFound known ids w false) (Now true) (Now false) factors_stay stays_open q (before.made q old))
+        (λ old. make_through ns (IsFound ns known ids w true) (IsFound ns known ids w false) (Now true) (Now false) factors_stay stays_open q (before.made q old))
         (λ e. subst (CanMake ns (Now true) (Now false)) (sym e) next_made) (listed.only q h);
     itself = ⊎_elim (λ h. inl (listed.kept root h)) (λ h. factor_stays root h) before.itself;
   }
@@ -208,16 +220,23 @@ module _ (ns : List Node) (p : ℕ) (known : BTreeMap ℕ Terms) (root : ℕ) (i
 pub all_listed : (ns : List Node) (p : ℕ) (known : BTreeMap ℕ Terms) (root : ℕ) (ids : BTreeSet ℕ) (w : BTreeMap ℕ Use) → IsUnderway ns p known root ids w → ((q : ℕ) → get nat_cmp w q ≡ None) → CanBeMadeInOrder ns p known ids
 all_listed ns p known root ids w before none = record {
   within = before.listed;
-  made = λ q h. make_through ns (IsFound known ids w true) (IsFound known ids w false) Then Then (found true) (λ k f. There k (found false k f)) q (before.made q h);
+  made = λ q h. make_through ns (IsFound ns known ids w true) (IsFound ns known ids w false) Then Then found opens q (before.made q h);
 }
   where
     Then : ℕ → Type 0
     Then q = IsSome (get nat_cmp known q) ⊎ HasId ids q
 
-    found : (b : Bool) (q : ℕ) → IsFound known ids w b q → Then q
-    found b q (inl i) = inl i
-    found b q (inr (inl h)) = inr h
-    found b q (inr (inr h)) = absurd (none_there w q (none q) (ap is_some h.at))
+    found : (q : ℕ) → IsFound ns known ids w true q → Then q
+    found q (inl i) = inl i
+    found q (inr (inl h)) = inr h
+    found q (inr (inr (inl h))) = absurd (none_there w q (none q) (ap is_some h.at))
+    found q (inr (inr (inr l))) = absurd (no_light_factor ns q l)
+
+    opens : (q : ℕ) → IsFound ns known ids w false q → CanOpen ns Then q
+    opens q (inl i) = There q (inl i)
+    opens q (inr (inl h)) = There q (inr h)
+    opens q (inr (inr (inl h))) = absurd (none_there w q (none q) (ap is_some h.at))
+    opens q (inr (inr (inr l))) = open_through ns (λ k. ⊥) Then (λ k f. absurd f) q l.opens
 
 pub none_in_empty : {X : Type 0} (m : BTreeMap ℕ X) (q : ℕ) → length m.entries ≡ 0 → get nat_cmp m q ≡ None
 none_in_empty m q e = ap (lookup (is_at (nat_cmp q))) (nothing_waits m.entries e)

@@ -1,8 +1,15 @@
 -- Multiples of nodes: products of two nodes of which one is a number.
-use Rattle.std.specs.Prelude.{ℕ, Bool, false, List, [], ◌∷◌, Option, Some, None, is_none, slice_get}
+use Rattle.std.specs.Prelude.{ℕ, Bool, true, false, List, [], ◌∷◌, Option, Some, None, is_none, slice_get}
 use Rattle.ffc_term.specs.declared.node.Node.{Node}
-use Rattle.ffc_term.specs.declared.node.Node.TheVariants.{Num, Mul}
+use Rattle.ffc_term.specs.declared.node.Node.TheVariants.{FieldConst, Num, IteField, Mul}
 use Rattle.ffc_trees.specs.Parts.{parts_of}
+
+-- a variable or a number
+abbrev pub is_single : Node → Bool
+is_single (FieldConst k p) = true
+is_single (Num n p) = true
+is_single (IteField c a b) = true
+is_single _ = false
 
 -- the number that a node is, if it is one
 abbrev pub number_of : Node → Option ℕ

@@ -16,6 +16,10 @@ pub data CanOpen (nodes : List Node) (has : ℕ → Type 0) : ℕ → Type 0 whe
   There : (id : ℕ) → has id → CanOpen nodes has id
   Opened : (id : ℕ) (n : Node) → IsNodeAt nodes id n → is_product nodes n ≡ false → ((k d : ℕ) → k < length (operands nodes n) → CanOpen nodes has (get_or (operands nodes n) k d)) → CanOpen nodes has id
 
+-- no polynomial has to be there
+abbrev pub OpensAlone : List Node → ℕ → Type 0
+OpensAlone nodes id = CanOpen nodes (λ q. ⊥) id
+
 -- A node's polynomial can be made: its factors are there, where it is a product, and else its operands can be opened.
 pub record CanMake (nodes : List Node) (factor has : ℕ → Type 0) (id : ℕ) : Type 0 where
   pub factors : (n : Node) → IsNodeAt nodes id n → is_product nodes n ≡ true → All factor (operands nodes n)

@@ -10,7 +10,7 @@ use Rattle.ffc_term.specs.Nodes.{IsNodeAt}
 use Rattle.ffc_ckpoly.specs.declared.uses.Use.{Use}
 use Rattle.ffc_ckpoly.specs.Parts.{IsWithin}
 use Rattle.ffc_ckpoly.specs.Multiples.{is_product}
-use Rattle.ffc_ckpoly.specs.Opening.{CanMake}
+use Rattle.ffc_ckpoly.specs.Opening.{OpensAlone, CanMake}
 
 -- the set has the number
 abbrev pub HasId : BTreeSet ℕ → ℕ → Type 0
@@ -22,9 +22,17 @@ pub record IsWaiting (waiting : BTreeMap ℕ Use) (factor : Bool) (id : ℕ) : T
   pub at : get nat_cmp waiting id ≡ Some uses
   pub noted : factor ≡ true → uses.factor ≡ true
 
--- each of these nodes is known or waits now, and no other node was added to those that wait
-pub record AreNoted (known : BTreeMap ℕ Terms) (old new : BTreeMap ℕ Use) (factor : Bool) (ids : List ℕ) : Type 0 where
-  pub each : All (λ id. IsSome (get nat_cmp known id) ⊎ IsWaiting new factor id) ids
+-- a node that is no factor, and opens without any polynomial that is there
+pub record IsLight (nodes : List Node) (factor : Bool) (id : ℕ) : Type 0 where
+  pub no_factor : factor ≡ false
+  pub opens : OpensAlone nodes id
+
+abbrev pub IsNoted : List Node → BTreeMap ℕ Terms → BTreeMap ℕ Use → Bool → ℕ → Type 0
+IsNoted nodes known waiting factor id = IsSome (get nat_cmp known id) ⊎ (IsWaiting waiting factor id ⊎ IsLight nodes factor id)
+
+-- each of these nodes is known, waits now or is light, and no other node was added to those that wait
+pub record AreNoted (nodes : List Node) (known : BTreeMap ℕ Terms) (old new : BTreeMap ℕ Use) (factor : Bool) (ids : List ℕ) : Type 0 where
+  pub each : All (IsNoted nodes known new factor) ids
   pub kept : (id : ℕ) (b : Bool) → IsWaiting old b id → IsWaiting new b id
   pub only : (id : ℕ) → IsSome (get nat_cmp new id) → IsSome (get nat_cmp old id) ⊎ Contains ids id
 

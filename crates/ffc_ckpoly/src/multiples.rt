@@ -1,10 +1,11 @@
 //! Multiples of nodes: products of two nodes of which one is a number. They are opened in place, as sums are.
-ghost use Rattle.std.specs.Prelude.{◌≡◌, ◌<◌, length, true, false, All, MatchOption};
+ghost use Rattle.std.specs.Prelude.{◌≡◌, ◌<◌, length, true, false, All, MatchOption, IfSome, IsTrue};
 ghost use Rattle.ffc_term.specs.declared.node.Node.{Node as TableNode};
 ghost use Rattle.ffc_term.specs.declared.node.Node.TheVariants as node_is;
 ghost use Rattle.ffc_term.specs.Nodes.{IsNodeAt};
 ghost use Rattle.ffc_term.specs.Tables.{IsTable};
-ghost use Rattle.ffc_ckpoly.specs.Multiples.{number_at, multiple_of_two, multiple_of, is_product};
+ghost use Rattle.ffc_ckpoly.specs.Multiples.{is_single, number_at, multiple_of_two, multiple_of, is_product};
+ghost use Rattle.ffc_ckpoly.specs.Opening.{OpensAlone};
 
 use ffc_term::{Node, NodeId, NodeTable};
 
@@ -65,9 +66,36 @@ pub fn factors_of(table: &NodeTable, id: NodeId) -> Option<&[NodeId]>
 /// Whether a node is a variable or a number.
 pub fn is_single(table: &NodeTable, id: NodeId) -> bool
     requires { id < length table.now }
+    ensures { (n : TableNode) → IsNodeAt table.now id n → result ≡ is_single n }
 {
     matches!(
         table.node(id),
         Node::FieldConst(..) | Node::Num(..) | Node::IteField(..)
     )
+}
+
+/// The node that is multiplied, where a node is a multiple.
+fn multiplied(table: &NodeTable, id: NodeId) -> Option<NodeId>
+    requires { id < length table.now }
+    ensures alone { IfSome result (λ part. OpensAlone table.now part → OpensAlone table.now id) }
+    ensures inside { IfSome result (λ part. part < length table.now) }
+{
+    let Node::Mul(ids) = table.node(id) else {
+        return None;
+    };
+    match multiple_of(table, ids.as_slice()) {
+        Some((_, part)) => Some(part),
+        None => None,
+    }
+}
+
+/// Whether a node is a variable or a number, or a multiple of one, which is opened as fast as a polynomial that is there is found.
+pub fn opens_alone(table: &NodeTable, id: NodeId) -> bool
+    requires { id < length table.now }
+    ensures { IsTrue result → OpensAlone table.now id }
+{
+    match multiplied(table, id) {
+        Some(part) => is_single(table, part),
+        None => is_single(table, id),
+    }
 }

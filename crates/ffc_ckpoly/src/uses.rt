@@ -8,7 +8,7 @@ ghost use Rattle.ffc_ckpoly.specs.Parts.{IsWithin};
 ghost use Rattle.ffc_ckpoly.specs.Multiples.{is_product, operands};
 ghost use Rattle.ffc_ckpoly.specs.Uses.{HasId, AreNoted, IsNowListed, CanBeMadeInOrder};
 
-use crate::multiples::{is_single, multiple_of};
+use crate::multiples::{is_single, multiple_of, opens_alone};
 use crate::poly::CkPoly;
 use ffc_field::Field;
 use ffc_term::{Node, NodeId, NodeTable};
@@ -59,15 +59,20 @@ fn one_more(before: Option<Use>, factor: bool) -> Use
     }
 }
 
-/// Notes a use of a node that is not known.
+/// Notes a use of a node that is not known. A variable or a number, or a multiple of one, is only noted as a factor.
 fn note_one<F: Field>(
+    table: &NodeTable,
     known: &BTreeMap<NodeId, CkPoly<F>>,
     waiting: &mut BTreeMap<NodeId, Use>,
     id: NodeId,
     factor: bool,
 ) -> Result<(), AllocError>
-    ensures { OnOk result (AreNoted known.now waiting.old waiting.new factor (id ∷ [])) }
+    requires { id < length table.now }
+    ensures { OnOk result (AreNoted table.now known.now waiting.old waiting.new factor (id ∷ [])) }
 {
+    if !factor && opens_alone(table, id) {
+        return Ok(());
+    }
     if known.contains_key(&id) {
         return Ok(());
     }
@@ -78,15 +83,17 @@ fn note_one<F: Field>(
 
 /// The same for each of these nodes.
 fn note_all<F: Field>(
+    table: &NodeTable,
     known: &BTreeMap<NodeId, CkPoly<F>>,
     waiting: &mut BTreeMap<NodeId, Use>,
     ids: &[NodeId],
     factors: bool,
 ) -> Result<(), AllocError>
-    ensures { OnOk result (AreNoted known.now waiting.old waiting.new factors ids.now) }
+    requires { All (λ id. id < length table.now) ids.now }
+    ensures { OnOk result (AreNoted table.now known.now waiting.old waiting.new factors ids.now) }
 {
     for id in ids {
-        note_one(known, waiting, *id, factors)?;
+        note_one(table, known, waiting, *id, factors)?;
     }
     Ok(())
 }
@@ -99,17 +106,17 @@ fn note_operands<F: Field>(
     id: NodeId,
 ) -> Result<(), AllocError>
     requires { id < length table.now }
-    ensures { OnOk result ((n : TableNode) → IsNodeAt table.now id n → AreNoted known.now waiting.old waiting.new
+    ensures { OnOk result ((n : TableNode) → IsNodeAt table.now id n → AreNoted table.now known.now waiting.old waiting.new
         (is_product table.now n) (operands table.now n)) }
 {
     match table.node(id) {
-        Node::Add(ids) => note_all(known, waiting, ids.as_slice(), false),
-        Node::Bitsum(ids) => note_all(known, waiting, ids.as_slice(), false),
+        Node::Add(ids) => note_all(table, known, waiting, ids.as_slice(), false),
+        Node::Bitsum(ids) => note_all(table, known, waiting, ids.as_slice(), false),
         Node::Mul(ids) => match multiple_of(table, ids.as_slice()) {
-            Some((_, part)) => note_one(known, waiting, part, false),
-            None => note_all(known, waiting, ids.as_slice(), true),
+            Some((_, part)) => note_one(table, known, waiting, part, false),
+            None => note_all(table, known, waiting, ids.as_slice(), true),
         },
-        Node::Neg(a) => note_one(known, waiting, *a, false),
+        Node::Neg(a) => note_one(table, known, waiting, *a, false),
         _ => Ok(()),
     }
 }

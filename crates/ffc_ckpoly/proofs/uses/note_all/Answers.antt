@@ -11,5 +11,5 @@ loop-id-preserved g c =
     let new = c.note_one.new.waiting in
     let ids = c.args.ids.now in
     let i = c.loop-id.id-index in
-    subst (AreNoted known old new c.args.factors) (sym (take_more ids i 0 c.loop-id-test.true))
-    (more_noted known old c.loop-id.waiting new c.args.factors _ (get_or ids i 0 ∷ []) c.loop-id.invariant c.in_ok-note_one.ensures)
+    subst (AreNoted c.args.table.now known old new c.args.factors) (sym (take_more ids i 0 c.loop-id-test.true))
+    (more_noted c.args.table.now known old c.loop-id.waiting new c.args.factors _ (get_or ids i 0 ∷ []) c.loop-id.invariant c.in_ok-note_one.ensures)
