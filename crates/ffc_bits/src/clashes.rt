@@ -2,7 +2,8 @@
 ghost use Rattle.std.specs.Prelude.{◌≡◌, IsErrOf};
 
 use crate::derived::{Derived, Reason, Source};
-use crate::known::Rule;
+use crate::integers::of_residue;
+use crate::known::{Rule, Rules};
 use crate::polynomials::{constant, within};
 use crate::rewriting::Rewrite;
 use crate::system::{Consequence, System};
@@ -12,7 +13,7 @@ use ffc_field::Field;
 use ffc_mono::MonoOrder;
 use ffc_poly::Poly;
 use std::alloc::Global;
-use std::collections::{BTreeMap, BTreeSet};
+use std::collections::BTreeSet;
 
 /// Only lines with so few terms are looked at.
 const MOST_TERMS: usize = 10;
@@ -33,13 +34,10 @@ fn has_any<F: Field, O: MonoOrder>(poly: &Poly<F, O>, variables: &BTreeSet<u32>)
 }
 
 /// The first variable of a polynomial that a rule replaces, with the rule.
-fn first_rule<F: Field, O: MonoOrder>(
-    poly: &Poly<F, O>,
-    rules: &BTreeMap<u32, Rule<F>>,
-) -> Option<(u32, Rule<F>)> {
+fn first_rule<F: Field, O: MonoOrder>(poly: &Poly<F, O>, rules: &Rules) -> Option<(u32, Rule)> {
     for (_, m) in poly.iter() {
         for power in m.pairs() {
-            if let Some(rule) = rules.get(&power.0) {
+            if let Some(rule) = rules.get(power.0) {
                 return Some((power.0, *rule));
             }
         }
@@ -52,7 +50,7 @@ fn replaced<F: Field, O: MonoOrder>(
     alloc: Global,
     place: usize,
     poly: &Poly<F, O>,
-    rules: &BTreeMap<u32, Rule<F>>,
+    rules: &Rules,
 ) -> Result<(Poly<F, O>, Vec<(Source, Poly<F, O>)>), SearchStop>
     ensures unmetered { ¬ (IsErrOf result SearchStop.Spent) }
 {
@@ -63,7 +61,7 @@ fn replaced<F: Field, O: MonoOrder>(
         let Some((x, rule)) = first_rule(&rest, rules) else {
             break;
         };
-        let Some(inverse) = rule.factor.inv() else {
+        let Some(inverse) = of_residue::<F>(rule.factor).inv() else {
             break;
         };
         let known = rule.known.poly(alloc, x)?;

@@ -111,7 +111,7 @@ impl<F: Field, O: MonoOrder> System<'_, F, O> {
         let Some(open) = self.open.get_mut(choice.longer) else {
             return Ok(false);
         };
-        if !open.subtract(alloc, choice.factor, &other, source)? {
+        if !open.subtract::<F>(alloc, choice.factor, &other, source)? {
             return Ok(false);
         }
         self.note_uses(choice.longer)?;

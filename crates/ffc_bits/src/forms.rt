@@ -1,12 +1,14 @@
 //! The linear lines of a stack, without the variables that are no bits.
 use crate::derived::Source;
-use crate::known::{Known, Rule};
+use crate::integers::of_residue;
+use crate::known::{Known, Rule, Rules};
 use ffc_basis::Line;
 use ffc_field::Field;
 use ffc_mono::MonoOrder;
 use ffc_poly::Poly;
 use std::alloc::{AllocError, Global};
 use std::collections::BTreeMap;
+use std::mem;
 
 /// Lines with more variables that are no bits are left out.
 const MOST_OTHERS: usize = 16;
@@ -14,21 +16,13 @@ const MOST_OTHERS: usize = 16;
 /// The variables that are bits, with the lines that say so.
 pub type Bits = BTreeMap<u32, Source>;
 
-/// A linear polynomial, with the multiples of lines that it is the sum of.
-pub struct Form<F: Field> {
-    pub constant: F,
-    pub terms: BTreeMap<u32, F>,
-    pub parts: Vec<(Source, F)>,
-}
-
-impl<F: Field> Drop for Form<F> {
-    fn drop(self) {
-        let Form {
-            constant: _,
-            terms: _,
-            parts: _,
-        } = self;
-    }
+/// A linear polynomial, with the multiples of lines that it is the sum of. Its coefficients and factors are residues: what has
+/// elements in it is made anew for each field.
+#[derive(Drop)]
+pub struct Form {
+    pub constant: u64,
+    pub terms: BTreeMap<u32, u64>,
+    pub parts: Vec<(Source, u64)>,
 }
 
 /// The variable of a polynomial that says that it is a bit: a multiple of x*x - x.
@@ -71,30 +65,35 @@ fn form_of<F: Field, O: MonoOrder>(
     alloc: Global,
     poly: &Poly<F, O>,
     place: usize,
-) -> Result<Option<Form<F>>, AllocError> {
+) -> Result<Option<Form>, AllocError> {
     match poly.lead() {
         Some((_, m)) if m.degree() == 1 => {}
         _ => return Ok(None),
     }
-    let mut form = Form {
-        constant: F::of(0),
-        terms: BTreeMap::new(alloc),
-        parts: Vec::new(alloc),
-    };
+    let mut form = Form::none(alloc);
     for (c, m) in poly.iter() {
         match m.pairs() {
-            [] => form.constant = c,
+            [] => form.constant = c.residue(),
             [power] if power.1 == 1 => {
-                form.terms.insert(power.0, c)?;
+                form.terms.insert(power.0, c.residue())?;
             }
             _ => return Ok(None),
         }
     }
-    form.parts.push((Source::Line(place as u64), F::of(1)))?;
+    form.parts.push((Source::Line(place as u64), 1))?;
     Ok(Some(form))
 }
 
-impl<F: Field> Form<F> {
+impl Form {
+    /// 0, as the sum of no lines.
+    fn none(alloc: Global) -> Self {
+        Form {
+            constant: 0,
+            terms: BTreeMap::new(alloc),
+            parts: Vec::new(alloc),
+        }
+    }
+
     /// A copy.
     fn copied(&self, alloc: Global) -> Result<Self, AllocError> {
         let mut terms = BTreeMap::new(alloc);
@@ -132,28 +131,40 @@ impl<F: Field> Form<F> {
     }
 
     /// Subtracts the multiple of another form that cancels a variable.
-    fn cancel(&mut self, other: &Form<F>, x: u32) -> Result<(), AllocError> {
-        let own = self.terms.get(&x).copied();
-        let inverse = other.terms.get(&x).and_then(|c| c.inv());
-        let (Some(own), Some(inverse)) = (own, inverse) else {
+    fn cancel<F: Field>(&mut self, other: &Form, x: u32) -> Result<(), AllocError> {
+        let Some(inverse) = other.coefficient::<F>(x).inv() else {
             return Ok(());
         };
+        let own = self.coefficient::<F>(x);
         let factor = own.mul(inverse).neg();
-        self.constant = self.constant.add(other.constant.mul(factor));
+        self.add_constant(of_residue::<F>(other.constant).mul(factor));
         for (y, c) in &other.terms {
-            self.add(*y, c.mul(factor))?;
+            self.add(*y, of_residue::<F>(*c).mul(factor))?;
         }
         for (source, c) in &other.parts {
-            self.parts.push((*source, c.mul(factor)))?;
+            let product = of_residue::<F>(*c).mul(factor);
+            self.parts.push((*source, product.residue()))?;
         }
         Ok(())
     }
 
+    /// The coefficient of a variable, which is 0 where it is not among the terms.
+    fn coefficient<F: Field>(&self, x: u32) -> F {
+        match self.terms.get(&x) {
+            Some(c) => of_residue(*c),
+            None => F::of(0),
+        }
+    }
+
+    /// Adds to the constant.
+    fn add_constant<F: Field>(&mut self, c: F) {
+        self.constant = of_residue::<F>(self.constant).add(c).residue();
+    }
+
     /// Adds a multiple of a variable.
-    fn add(&mut self, x: u32, c: F) -> Result<(), AllocError> {
-        let before = self.terms.get(&x).copied().unwrap_or(F::of(0));
-        let sum = before.add(c);
-        if sum.residue() == 0 {
+    fn add<F: Field>(&mut self, x: u32, c: F) -> Result<(), AllocError> {
+        let sum = self.coefficient::<F>(x).add(c).residue();
+        if sum == 0 {
             self.terms.remove(&x);
         } else {
             self.terms.insert(x, sum)?;
@@ -162,34 +173,32 @@ impl<F: Field> Form<F> {
     }
 
     /// Replaces a bit by what is known of it.
-    fn replace(&mut self, x: u32, rule: &Rule<F>) -> Result<(), AllocError> {
-        let (Some(c), Some(inverse)) = (self.terms.get(&x).copied(), rule.factor.inv()) else {
+    fn replace<F: Field>(&mut self, x: u32, rule: &Rule) -> Result<(), AllocError> {
+        let c = self.coefficient::<F>(x);
+        let Some(inverse) = of_residue::<F>(rule.factor).inv() else {
             return Ok(());
         };
         self.terms.remove(&x);
         match rule.known {
             Known::Value(false) => {}
-            Known::Value(true) => self.constant = self.constant.add(c),
+            Known::Value(true) => self.add_constant(c),
             Known::Same(y) => self.add(y, c)?,
             Known::Opposite(y) => {
-                self.constant = self.constant.add(c);
+                self.add_constant(c);
                 self.add(y, c.neg())?;
             }
         }
-        self.parts.push((rule.source, c.neg().mul(inverse)))?;
+        let factor = c.neg().mul(inverse);
+        self.parts.push((rule.source, factor.residue()))?;
         Ok(())
     }
 
     /// Puts what is known of single bits into the form.
-    pub fn apply(
-        &mut self,
-        alloc: Global,
-        rules: &BTreeMap<u32, Rule<F>>,
-    ) -> Result<(), AllocError> {
+    pub fn apply<F: Field>(&mut self, alloc: Global, rules: &Rules) -> Result<(), AllocError> {
         for _ in 0..u64::MAX {
             let mut open = Vec::new(alloc);
             for (x, _) in &self.terms {
-                if rules.contains_key(x) {
+                if rules.has(*x) {
                     open.push(*x)?;
                 }
             }
@@ -197,8 +206,8 @@ impl<F: Field> Form<F> {
                 break;
             }
             for x in open {
-                if let Some(rule) = rules.get(&x) {
-                    self.replace(x, rule)?;
+                if let Some(rule) = rules.get(x) {
+                    self.replace::<F>(x, rule)?;
                 }
             }
         }
@@ -206,7 +215,7 @@ impl<F: Field> Form<F> {
     }
 
     /// The bit that the form replaces, where it only says the value of a bit, or that two bits are equal or opposite.
-    pub fn rule(&self, bits: &Bits) -> Option<(u32, Rule<F>)> {
+    pub fn rule<F: Field>(&self, bits: &Bits) -> Option<(u32, Rule)> {
         let [(source, _)] = self.parts.as_slice() else {
             return None;
         };
@@ -214,15 +223,17 @@ impl<F: Field> Form<F> {
             return None;
         }
         let mut terms = self.terms.iter();
-        let (x, factor) = terms.next()?;
+        let (x, residue) = terms.next()?;
+        let factor = of_residue::<F>(*residue);
+        let constant = of_residue(self.constant);
         let known = match terms.next() {
-            None => known_value(*factor, self.constant)?,
-            Some((y, c)) => known_pair(*factor, *c, self.constant, *y)?,
+            None => known_value(factor, constant)?,
+            Some((y, c)) => known_pair(factor, of_residue(*c), constant, *y)?,
         };
         let rule = Rule {
             known,
             source: *source,
-            factor: *factor,
+            factor: *residue,
         };
         Some((*x, rule))
     }
@@ -255,7 +266,7 @@ fn linear_forms<F: Field, O: MonoOrder>(
     alloc: Global,
     lines: &[Line<F, O>],
     bits: &Bits,
-) -> Result<Vec<Form<F>>, AllocError> {
+) -> Result<Vec<Form>, AllocError> {
     let mut forms = Vec::new(alloc);
     for (place, line) in lines.iter().enumerate() {
         if let Some(form) = form_of(alloc, &line.poly, place)? {
@@ -269,13 +280,13 @@ fn linear_forms<F: Field, O: MonoOrder>(
 
 /// The forms in bits alone that other forms lead to: those that have other variables serve to cancel these in later ones.
 #[derive(Drop)]
-struct Elimination<F: Field> {
+struct Elimination {
     pivots: BTreeMap<u32, usize>,
-    others: Vec<Form<F>>,
-    found: Vec<Form<F>>,
+    others: Vec<Form>,
+    found: Vec<Form>,
 }
 
-impl<F: Field> Elimination<F> {
+impl Elimination {
     fn new(alloc: Global) -> Self {
         Elimination {
             pivots: BTreeMap::new(alloc),
@@ -285,7 +296,7 @@ impl<F: Field> Elimination<F> {
     }
 
     /// Adds a form.
-    fn add(&mut self, bits: &Bits, mut form: Form<F>) -> Result<(), AllocError> {
+    fn add<F: Field>(&mut self, bits: &Bits, mut form: Form) -> Result<(), AllocError> {
         for _ in 0..MOST_OTHERS {
             let Some(x) = form.other(bits, &self.pivots, true) else {
                 break;
@@ -295,7 +306,7 @@ impl<F: Field> Elimination<F> {
                 .get(&x)
                 .and_then(|place| self.others.get(*place))
             {
-                form.cancel(pivot, x)?;
+                form.cancel::<F>(pivot, x)?;
             }
         }
         if form.count_others(bits) == 0 {
@@ -308,10 +319,10 @@ impl<F: Field> Elimination<F> {
     }
 }
 
-/// Whether a form has more than one variable that is no bit, where these come first in the keys.
-fn has_several<F: Field>(by_count: &BTreeMap<(usize, usize), Form<F>>) -> bool {
-    match by_count.last_key_value() {
-        Some((key, _)) => key.0 > 1,
+/// Whether a form has more than one variable that is no bit, where the counts of these increase.
+fn has_several(counts: &[(usize, usize)]) -> bool {
+    match counts.last() {
+        Some((count, _)) => *count > 1,
         None => false,
     }
 }
@@ -323,26 +334,33 @@ pub fn bit_forms<F: Field, O: MonoOrder>(
     alloc: Global,
     lines: &[Line<F, O>],
     bits: &Bits,
-) -> Result<Vec<Form<F>>, AllocError> {
+) -> Result<Vec<Form>, AllocError> {
     let mut found = Vec::new(alloc);
-    let mut by_count = BTreeMap::new(alloc);
-    for (place, form) in linear_forms(alloc, lines, bits)?.into_iter().enumerate() {
+    let mut others = Vec::new(alloc);
+    let mut counts = Vec::new(alloc);
+    for form in linear_forms(alloc, lines, bits)? {
         let count = form.count_others(bits);
         if count == 0 {
             found.push(form)?;
         } else {
-            by_count.insert((count, place), form)?;
+            counts.push((count, others.len()))?;
+            others.push(form)?;
         }
     }
+    counts.sort_unstable();
     let mut many = Elimination::new(alloc);
-    if has_several(&by_count) {
-        for (_, form) in by_count.iter().rev() {
-            many.add(bits, form.copied(alloc)?)?;
+    if has_several(counts.as_slice()) {
+        for (_, place) in counts.iter().rev() {
+            if let Some(form) = others.get(*place) {
+                many.add::<F>(bits, form.copied(alloc)?)?;
+            }
         }
     }
     let mut few = Elimination::new(alloc);
-    for (_, form) in by_count {
-        few.add(bits, form)?;
+    for (_, place) in &counts {
+        if let Some(form) = others.get_mut(*place) {
+            few.add::<F>(bits, mem::replace(form, Form::none(alloc)))?;
+        }
     }
     for form in few.found {
         found.push(form)?;

@@ -48,6 +48,11 @@ pub fn is_read_alike<F: Field>(equation: &Equation) -> bool {
     true
 }
 
+/// The element of a residue.
+pub fn of_residue<F: Field>(residue: u64) -> F {
+    F::of(u128::from(residue))
+}
+
 /// How far a form reaches over the integers.
 #[derive(Clone, Copy)]
 struct Reach {
@@ -60,17 +65,17 @@ struct Reach {
 /// How far a form times a scale reaches over the integers: none where its values are further apart than a bound, or, without
 /// multiples of the order, pass that.
 fn reach_of<F: Field>(
-    constant: F,
-    terms: &BTreeMap<u32, F>,
+    constant: u64,
+    terms: &BTreeMap<u32, u64>,
     scale: F,
     multiples: i128,
     bound: u128,
 ) -> Option<Reach> {
-    let mut low = representative(constant.mul(scale));
+    let mut low = representative(of_residue::<F>(constant).mul(scale));
     let mut high = low;
     let mut heaviest = 0;
     for (_, c) in terms {
-        let weight = representative(c.mul(scale));
+        let weight = representative(of_residue::<F>(*c).mul(scale));
         heaviest = weight.unsigned_abs().max(heaviest);
         if weight < 0 {
             low = low.saturating_add(weight);
@@ -104,11 +109,11 @@ impl Reach {
 /// changes.
 pub fn best_scale<F: Field>(
     alloc: Global,
-    constant: F,
-    terms: &BTreeMap<u32, F>,
+    constant: u64,
+    terms: &BTreeMap<u32, u64>,
     multiples: i128,
 ) -> Result<Option<F>, AllocError> {
-    let sizes = distinct(alloc, terms)?;
+    let sizes = distinct::<F>(alloc, terms)?;
     let order = u128::from(F::ORDER);
     let mut bound = order.saturating_mul(multiples.unsigned_abs().max(2));
     let mut best = None;
@@ -132,11 +137,11 @@ pub fn best_scale<F: Field>(
 }
 
 /// The sizes of the coefficients, each once, as far as they are tried.
-fn distinct<F: Field>(alloc: Global, terms: &BTreeMap<u32, F>) -> Result<Vec<u64>, AllocError> {
+fn distinct<F: Field>(alloc: Global, terms: &BTreeMap<u32, u64>) -> Result<Vec<u64>, AllocError> {
     let mut seen = BTreeSet::new(alloc);
     let mut sizes = Vec::new(alloc);
     for (_, c) in terms {
-        let size = c.residue().min(c.neg().residue());
+        let size = (*c).min(of_residue::<F>(*c).neg().residue());
         if sizes.len() < MOST_SCALES && seen.insert(size)? {
             sizes.push(size)?;
         }
@@ -147,14 +152,14 @@ fn distinct<F: Field>(alloc: Global, terms: &BTreeMap<u32, F>) -> Result<Vec<u64
 /// A form times a scale, over the integers.
 pub fn equation_of<F: Field>(
     alloc: Global,
-    constant: F,
-    terms: &BTreeMap<u32, F>,
+    constant: u64,
+    terms: &BTreeMap<u32, u64>,
     scale: F,
 ) -> Result<Equation, AllocError> {
     let mut equation = Equation::new(alloc);
-    equation.add_constant(representative(constant.mul(scale)));
+    equation.add_constant(representative(of_residue::<F>(constant).mul(scale)));
     for (x, c) in terms {
-        equation.add(*x, representative(c.mul(scale)))?;
+        equation.add(*x, representative(of_residue::<F>(*c).mul(scale)))?;
     }
     Ok(equation)
 }

@@ -7,7 +7,8 @@ use ffc_base::SearchStop;
 use ffc_field::Field;
 use ffc_mono::MonoOrder;
 use ffc_poly::Poly;
-use std::alloc::Global;
+use std::alloc::{AllocError, Global};
+use std::collections::BTreeMap;
 
 /// What a bit is.
 #[derive(Clone, Copy)]
@@ -19,12 +20,47 @@ pub enum Known {
     Opposite(u32),
 }
 
-/// A line that replaces a bit: the polynomial that says what the bit is, times a factor.
+/// A line that replaces a bit: the polynomial that says what the bit is, times a factor, which is a residue.
 #[derive(Clone, Copy)]
-pub struct Rule<F: Field> {
+pub struct Rule {
     pub known: Known,
     pub source: Source,
-    pub factor: F,
+    pub factor: u64,
+}
+
+/// Rules by the bits that they replace.
+#[derive(Drop)]
+pub struct Rules {
+    places: BTreeMap<u32, usize>,
+    rules: Vec<Rule>,
+}
+
+impl Rules {
+    /// No rules. It takes no memory.
+    pub fn new(alloc: Global) -> Self {
+        Rules {
+            places: BTreeMap::new(alloc),
+            rules: Vec::new(alloc),
+        }
+    }
+
+    /// Whether a bit is replaced.
+    pub fn has(&self, x: u32) -> bool {
+        self.places.contains_key(&x)
+    }
+
+    /// The rule that replaces a bit.
+    pub fn get(&self, x: u32) -> Option<&Rule> {
+        let place = self.places.get(&x)?;
+        self.rules.get(*place)
+    }
+
+    /// Replaces a bit by a rule from now on.
+    pub fn insert(&mut self, x: u32, rule: Rule) -> Result<(), AllocError> {
+        self.places.insert(x, self.rules.len())?;
+        self.rules.push(rule)?;
+        Ok(())
+    }
 }
 
 impl Known {

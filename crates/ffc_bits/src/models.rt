@@ -50,8 +50,9 @@ impl Model {
     }
 
     /// Adds that a form is 0 modulo the order: that it is a multiple of that over the integers.
-    fn add_form<F: Field>(&mut self, form: &Form<F>) -> Result<(), AllocError> {
-        let Some(scale) = best_scale(self.alloc, form.constant, &form.terms, MOST_MULTIPLES)? else {
+    fn add_form<F: Field>(&mut self, form: &Form) -> Result<(), AllocError> {
+        let found = best_scale::<F>(self.alloc, form.constant, &form.terms, MOST_MULTIPLES)?;
+        let Some(scale) = found else {
             return Ok(());
         };
         let equation = equation_of(self.alloc, form.constant, &form.terms, scale)?;
@@ -226,7 +227,7 @@ pub fn find_model<F: Field, O: MonoOrder>(
         numbers: BTreeMap::new(alloc),
     };
     for form in bit_forms(alloc, lines, bits)? {
-        model.add_form(&form)?;
+        model.add_form::<F>(&form)?;
     }
     for line in lines {
         model.add_line(&line.poly, bits)?;

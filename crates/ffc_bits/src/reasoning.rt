@@ -6,8 +6,8 @@ use crate::derived::{Derived, Source};
 use crate::equation::Equation;
 use crate::forms::{Bits, Form, add_bits, bit_forms};
 use crate::gates::{FoundGates, add_gates};
-use crate::integers::{best_scale, equation_of};
-use crate::known::Rule;
+use crate::integers::{best_scale, equation_of, of_residue};
+use crate::known::Rules;
 use crate::models::find_model;
 use crate::relations::Cones;
 use crate::system::{Consequence, System};
@@ -165,15 +165,16 @@ impl Reasoning {
 /// A form as an equation over the integers, with the parts that it is the sum of, where it does not pass the order.
 fn equation<F: Field>(
     alloc: Global,
-    form: &Form<F>,
-) -> Result<Option<(Equation, Vec<(Source, F)>)>, AllocError> {
-    let Some(scale) = best_scale(alloc, form.constant, &form.terms, 0)? else {
+    form: &Form,
+) -> Result<Option<(Equation, Vec<(Source, u64)>)>, AllocError> {
+    let Some(scale) = best_scale::<F>(alloc, form.constant, &form.terms, 0)? else {
         return Ok(None);
     };
     let equation = equation_of(alloc, form.constant, &form.terms, scale)?;
     let mut parts = Vec::new(alloc);
     for (source, c) in form.parts.as_slice() {
-        parts.push((*source, c.mul(scale)))?;
+        let factor = of_residue::<F>(*c).mul(scale);
+        parts.push((*source, factor.residue()))?;
     }
     Ok(Some((equation, parts)))
 }
@@ -184,11 +185,11 @@ fn begin<'a, F: Field, O: MonoOrder>(
     lines: &[Line<F, O>],
     bits: &'a Bits,
 ) -> Result<System<'a, F, O>, AllocError> {
-    let mut rules: BTreeMap<u32, Rule<F>> = BTreeMap::new(alloc);
+    let mut rules = Rules::new(alloc);
     let mut forms = Vec::new(alloc);
     for form in bit_forms(alloc, lines, bits)? {
-        if let Some((x, rule)) = form.rule(bits) {
-            if !rules.contains_key(&x) {
+        if let Some((x, rule)) = form.rule::<F>(bits) {
+            if !rules.has(x) {
                 rules.insert(x, rule)?;
                 continue;
             }
@@ -197,8 +198,8 @@ fn begin<'a, F: Field, O: MonoOrder>(
     }
     let mut equations = Vec::new(alloc);
     for mut form in forms {
-        form.apply(alloc, &rules)?;
-        if let Some(found) = equation(alloc, &form)? {
+        form.apply::<F>(alloc, &rules)?;
+        if let Some(found) = equation::<F>(alloc, &form)? {
             equations.push(found)?;
         }
     }

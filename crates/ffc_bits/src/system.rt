@@ -5,8 +5,8 @@ ghost use Rattle.ffc_base.specs.Metering.{Metered};
 use crate::derived::{Derived, Reason, Source, StepId};
 use crate::equation::{Equation, Forced, Outline};
 use crate::forms::Bits;
-use crate::integers::{element, is_read_alike, is_within};
-use crate::known::{Known, Rule};
+use crate::integers::{element, is_read_alike, is_within, of_residue};
+use crate::known::{Known, Rule, Rules};
 use crate::polynomials::{constant, exclusive_or};
 use ffc_base::{Meter, SearchStop, Unit};
 use ffc_field::Field;
@@ -17,24 +17,14 @@ use std::collections::{BTreeMap, BTreeSet};
 use std::mem;
 
 /// An equation, with the multiples of lines that it is the sum of.
-pub struct Open<F: Field> {
+#[derive(Drop)]
+pub struct Open {
     pub equation: Equation,
-    pub parts: Vec<(Source, F)>,
+    pub parts: Vec<(Source, u64)>,
     /// The bits whose coefficients have the least power of two, as they were when it was looked at last.
     pub lowest: Vec<u32>,
     /// Whether an odd number of these is 1.
     pub is_odd: bool,
-}
-
-impl<F: Field> Drop for Open<F> {
-    fn drop(self) {
-        let Open {
-            equation: _,
-            parts: _,
-            lowest: _,
-            is_odd: _,
-        } = self;
-    }
 }
 
 /// A consequence: its line and its polynomial.
@@ -46,8 +36,8 @@ pub struct System<'a, F: Field, O: MonoOrder> {
     /// How many lines the stack has.
     since: usize,
     bits: &'a Bits,
-    pub open: Vec<Open<F>>,
-    pub rules: BTreeMap<u32, Rule<F>>,
+    pub open: Vec<Open>,
+    pub rules: Rules,
     /// The bits of which something was found.
     pub fresh: BTreeSet<u32>,
     /// In which equations each bit is, or was.
@@ -81,7 +71,7 @@ impl<F: Field, O: MonoOrder> Drop for System<'_, F, O> {
 
 impl<'a, F: Field, O: MonoOrder> System<'a, F, O> {
     /// The system without equations, with what is known of single bits.
-    pub fn new(alloc: Global, since: usize, bits: &'a Bits, rules: BTreeMap<u32, Rule<F>>) -> Self {
+    pub fn new(alloc: Global, since: usize, bits: &'a Bits, rules: Rules) -> Self {
         System {
             alloc,
             since,
@@ -103,7 +93,7 @@ impl<'a, F: Field, O: MonoOrder> System<'a, F, O> {
         &mut self,
         outlines: &mut BTreeMap<Outline, Vec<usize>>,
         equation: Equation,
-        parts: Vec<(Source, F)>,
+        parts: Vec<(Source, u64)>,
     ) -> Result<(), AllocError> {
         let outline = equation.outline();
         let place = self.open.len();
@@ -134,7 +124,7 @@ impl<'a, F: Field, O: MonoOrder> System<'a, F, O> {
     }
 
     /// Adds an equation.
-    fn add(&mut self, equation: Equation, parts: Vec<(Source, F)>) -> Result<(), AllocError> {
+    fn add(&mut self, equation: Equation, parts: Vec<(Source, u64)>) -> Result<(), AllocError> {
         let place = self.open.len();
         for x in equation.variables(self.alloc)? {
             self.note_use(x, place)?;
@@ -206,8 +196,8 @@ impl<'a, F: Field, O: MonoOrder> System<'a, F, O> {
         for _ in 0..u64::MAX {
             let mut is_done = true;
             for x in open.equation.variables(self.alloc)? {
-                if let Some(rule) = self.rules.get(&x) {
-                    open.replace(x, rule)?;
+                if let Some(rule) = self.rules.get(x) {
+                    open.replace::<F>(x, rule)?;
                     is_done = false;
                 }
             }
@@ -230,16 +220,16 @@ impl<'a, F: Field, O: MonoOrder> System<'a, F, O> {
             return Err(SearchStop::GaveUp);
         };
         if let [(source, factor)] = open.parts.as_slice() {
-            if factor.residue() == 1 {
+            if *factor == 1 {
                 return Ok(*source);
             }
         }
         let mut sum = Vec::new(self.alloc);
         for (source, factor) in mem::replace(&mut open.parts, Vec::new(self.alloc)) {
-            sum.push((source, constant(self.alloc, factor)?))?;
+            sum.push((source, constant(self.alloc, of_residue::<F>(factor))?))?;
         }
         let source = Source::Step(derived.push(Reason::Sum(sum), self.since)?);
-        open.parts.push((source, F::of(1)))?;
+        open.parts.push((source, 1))?;
         Ok(source)
     }
 
@@ -300,7 +290,7 @@ impl<'a, F: Field, O: MonoOrder> System<'a, F, O> {
         let rule = Rule {
             known,
             source,
-            factor: F::of(1),
+            factor: 1,
         };
         self.rules.insert(x, rule)?;
         self.fresh.insert(x)?;
@@ -401,11 +391,11 @@ impl<'a, F: Field, O: MonoOrder> System<'a, F, O> {
     }
 }
 
-impl<F: Field> Open<F> {
+impl Open {
     /// Replaces a bit by what is known of it.
-    fn replace(&mut self, x: u32, rule: &Rule<F>) -> Result<(), AllocError> {
+    fn replace<F: Field>(&mut self, x: u32, rule: &Rule) -> Result<(), AllocError> {
         let c = self.equation.coefficient(x);
-        let Some(inverse) = rule.factor.inv() else {
+        let Some(inverse) = of_residue::<F>(rule.factor).inv() else {
             return Ok(());
         };
         let opposite = 0i128.saturating_sub(c);
@@ -423,20 +413,20 @@ impl<F: Field> Open<F> {
     }
 
     /// Adds a multiple of a line to the parts.
-    pub fn add_part(&mut self, source: Source, factor: F) -> Result<(), AllocError> {
+    pub fn add_part<F: Field>(&mut self, source: Source, factor: F) -> Result<(), AllocError> {
         for part in self.parts.as_mut_slice() {
             if part.0 == source {
-                part.1 = part.1.add(factor);
+                part.1 = of_residue::<F>(part.1).add(factor).residue();
                 return Ok(());
             }
         }
-        self.parts.push((source, factor))?;
+        self.parts.push((source, factor.residue()))?;
         Ok(())
     }
 
     /// Subtracts a multiple of an equation that is a line, where the sum stays between the order and its negation. Says whether
     /// it does.
-    pub fn subtract(
+    pub fn subtract<F: Field>(
         &mut self,
         alloc: Global,
         factor: i128,

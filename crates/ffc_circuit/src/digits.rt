@@ -56,7 +56,7 @@ struct WeightedSum {
 /// where it has another variable without a value.
 fn weighted_sum<F: Field>(
     alloc: Global,
-    values: &Values<F>,
+    values: &Values,
     bits: &BTreeSet<u32>,
     poly: &Generator<F>,
 ) -> Result<Option<WeightedSum>, AllocError> {
@@ -93,7 +93,7 @@ fn weighted_sum<F: Field>(
 /// where its weight is within what is left. These are the digits where the weights are the powers of two.
 pub fn digits_of<F: Field>(
     alloc: Global,
-    values: &Values<F>,
+    values: &Values,
     bits: &BTreeSet<u32>,
     poly: &Generator<F>,
 ) -> Result<Option<Vec<(u32, u8)>>, AllocError> {

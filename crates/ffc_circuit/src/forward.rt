@@ -43,8 +43,8 @@ impl Guess {
     }
 }
 
-/// Values of some variables.
-pub type Values<F> = BTreeMap<u32, F>;
+/// Values of some variables: residues, since a map of elements would be made anew for each field.
+pub type Values = BTreeMap<u32, u64>;
 
 /// What is known of a polynomial whose variables have values but for one at most.
 #[derive(Clone, Copy)]
@@ -58,12 +58,15 @@ enum Known<F: Field> {
 }
 
 /// A product of values, and the variable of the monomial that has none.
-pub fn partial<F: Field>(values: &Values<F>, c: F, m: MonoRef<'_>) -> (F, Option<(u32, u32)>) {
+pub fn partial<F: Field>(values: &Values, c: F, m: MonoRef<'_>) -> (F, Option<(u32, u32)>) {
     let mut product = c;
     let mut unknown = None;
     for power in m.pairs() {
         match values.get(&power.0) {
-            Some(value) => product = product.mul(value.pow(u64::from(power.1))),
+            Some(residue) => {
+                let value = F::of(u128::from(*residue));
+                product = product.mul(value.pow(u64::from(power.1)));
+            }
             None => unknown = Some(*power),
         }
     }
@@ -71,7 +74,7 @@ pub fn partial<F: Field>(values: &Values<F>, c: F, m: MonoRef<'_>) -> (F, Option
 }
 
 /// What the values of all variables but one say of a polynomial.
-fn look_at<F: Field>(values: &Values<F>, poly: &Generator<F>) -> Known<F> {
+fn look_at<F: Field>(values: &Values, poly: &Generator<F>) -> Known<F> {
     let mut rest = F::of(0);
     let mut slope = F::of(0);
     let mut variable = None;
@@ -98,7 +101,7 @@ struct Evaluation<'a, F: Field> {
     polys: &'a [&'a Generator<F>],
     occurrences: &'a Occurrences,
     bits: &'a BTreeSet<u32>,
-    values: Values<F>,
+    values: Values,
     /// How many variables of each polynomial have no value.
     missing: Vec<usize>,
     /// Polynomials that had one such variable when they were put here.
@@ -145,7 +148,7 @@ impl<'a, F: Field> Evaluation<'a, F> {
 
     /// Gives a variable a value.
     fn set(&mut self, x: u32, value: F) -> Result<(), AllocError> {
-        self.values.insert(x, value)?;
+        self.values.insert(x, value.residue())?;
         for place in self.occurrences.places_of(x) {
             if let Some(missing) = self.missing.get_mut(*place) {
                 *missing = missing.saturating_sub(1);
@@ -242,7 +245,7 @@ impl<'a, F: Field> Evaluation<'a, F> {
     fn pairs(&self, alloc: Global) -> Result<Vec<(u32, u64)>, AllocError> {
         let mut pairs = Vec::new(alloc);
         for (x, value) in &self.values {
-            pairs.push((*x, value.residue()))?;
+            pairs.push((*x, *value))?;
         }
         Ok(pairs)
     }
