@@ -4,10 +4,11 @@ ghost use Rattle.ffc_base.specs.Metering.{Metered};
 
 use crate::fields::{Answer, Problem};
 use ffc_base::{Meter, SearchStop};
-use ffc_cdcl::Lit;
+use ffc_cdcl::{Lit, Literals};
 use ffc_circuit::{is_of_order, sides};
 use ffc_entries::{Lemma, Residues};
 use ffc_field::FieldId;
+use ffc_matching::refuted;
 use ffc_term::{Check, NodeTable};
 use std::alloc::{AllocError, Global};
 
@@ -82,6 +83,15 @@ fn of_field(
     Ok(chosen)
 }
 
+/// The negations of literals.
+pub fn negations(alloc: Global, literals: &[Lit]) -> Result<Literals, AllocError> {
+    let mut negated = Literals::new(alloc);
+    for literal in literals {
+        negated.push(literal.negated())?;
+    }
+    Ok(negated)
+}
+
 /// Searches one field for values with which its equalities hold.
 fn judge_field(
     alloc: Global,
@@ -98,6 +108,13 @@ fn judge_field(
     let equalities = of_field(alloc, check.table, field, all)?;
     if equalities.is_empty() {
         return Ok(Verdict::Fine);
+    }
+    if let Some(found) = refuted(alloc, check.table, field.order(), equalities.as_slice())? {
+        return Ok(Verdict::Refuted(Lemma {
+            order: field.order(),
+            lits: negations(alloc, found.equalities.as_slice())?,
+            tree: found.tree,
+        }));
     }
     let problem = Problem {
         alloc,

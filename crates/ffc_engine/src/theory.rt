@@ -3,7 +3,7 @@ ghost use Rattle.std.specs.Prelude.{◌≡◌, ◌++◌, ◌∷◌, [], IfOk, On
 ghost use Rattle.ffc_base.specs.Metering.{Metered};
 ghost use Rattle.ffc_cdcl.specs.Theories.{KeepsLemmas, NamesLemma, IsFalseOn};
 
-use crate::judging::{Judgement, judge};
+use crate::judging::{Judgement, judge, negations};
 use ffc_base::{Meter, SearchStop, Unit};
 use ffc_cdcl::{Lit, Literals, Theory, TheoryAnswer};
 use ffc_cert::Entry;
@@ -246,15 +246,6 @@ fn next_clash(
         }
     }
     Ok(None)
-}
-
-/// The negations of literals.
-fn negations(alloc: Global, literals: &[Lit]) -> Result<Literals, AllocError> {
-    let mut negated = Literals::new(alloc);
-    for literal in literals {
-        negated.push(literal.negated())?;
-    }
-    Ok(negated)
 }
 
 impl Theory for FieldTheory<'_> {

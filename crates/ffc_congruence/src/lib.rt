@@ -1,0 +1,25 @@
+//! Which nodes of a field are equal by some equalities, and why: their congruence closure.
+//!
+//! Nodes that are equal by the equalities are in one class (closure.rt; Downey, Sethi and Tarjan 1980). A sum of equal terms is the
+//! same sum, whichever of its terms is asked for; a product of equal factors is the same product; and where all but one of them
+//! have values, the last one has one (looking.rt, over forms.rt). Nothing is multiplied out. Each step has its reason, an edge
+//! between two ids (classes.rt), so that two equal ids lead to the few equalities that this rests on: the difference of the ends
+//! of an edge is a sum of multiples of differences of earlier ones (premises.rt).
+#![tactic(auto)]
+
+mod arithmetic;
+mod clash;
+mod classes;
+mod closure;
+mod forms;
+mod looking;
+mod nodes;
+mod premises;
+
+pub use arithmetic::{inverse, negative, product, sum};
+pub use clash::Clash;
+pub use classes::{Classes, Step, Time};
+pub use closure::{Closure, Reason, Solved};
+pub use forms::{Form, merged};
+pub use nodes::{children, is_of_order, sides};
+pub use premises::Premise;
