@@ -92,6 +92,28 @@ pub fn negations(alloc: Global, literals: &[Lit]) -> Result<Literals, AllocError
     Ok(negated)
 }
 
+/// A lemma that matching finds of equalities of one field.
+pub fn matched(
+    alloc: Global,
+    check: &Check,
+    equalities: &[Lit],
+) -> Result<Option<Lemma>, AllocError> {
+    for field in FIELDS {
+        let chosen = of_field(alloc, check.table, field, equalities)?;
+        if chosen.is_empty() {
+            continue;
+        }
+        if let Some(found) = refuted(alloc, check.table, field.order(), chosen.as_slice())? {
+            return Ok(Some(Lemma {
+                order: field.order(),
+                lits: negations(alloc, found.equalities.as_slice())?,
+                tree: found.tree,
+            }));
+        }
+    }
+    Ok(None)
+}
+
 /// Searches one field for values with which its equalities hold.
 fn judge_field(
     alloc: Global,
@@ -108,13 +130,6 @@ fn judge_field(
     let equalities = of_field(alloc, check.table, field, all)?;
     if equalities.is_empty() {
         return Ok(Verdict::Fine);
-    }
-    if let Some(found) = refuted(alloc, check.table, field.order(), equalities.as_slice())? {
-        return Ok(Verdict::Refuted(Lemma {
-            order: field.order(),
-            lits: negations(alloc, found.equalities.as_slice())?,
-            tree: found.tree,
-        }));
     }
     let problem = Problem {
         alloc,

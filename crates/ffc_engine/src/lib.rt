@@ -11,8 +11,8 @@
 //!    the clash rests on are judged. As long as one that matters has no value, the theory agrees to the trail; then it judges
 //!    all of them.
 //! 3. **Judging** (judging.rt) goes from field to field. Nodes that are equal by the equalities are matched first
-//!    (`ffc_matching`), which refutes two copies of a circuit. Else (fields.rt) the equalities are polynomials, in groups that
-//!    share no variable, each with a part of the units. Of a group, inputs are guessed and the circuit evaluated; then the
+//!    (`ffc_matching`), which refutes two copies of a circuit, on whole trails only now and then where that is in vain. Else
+//!    (fields.rt) the equalities are polynomials, in groups that share no variable, each with a part of the units. Of a group, inputs are guessed and the circuit evaluated; then the
 //!    equalities that hold are lines of a basis, which is completed further and further until it settles the others; then the
 //!    circuit is evaluated by these lines; and then a search by cases looks for values (`ffc_search`).
 //! 4. **A model** is what the equalities are true with, whatever the other nodes are: values of all fields end the search.

@@ -3,15 +3,18 @@ ghost use Rattle.std.specs.Prelude.{◌≡◌, ◌++◌, ◌∷◌, [], IfOk, On
 ghost use Rattle.ffc_base.specs.Metering.{Metered};
 ghost use Rattle.ffc_cdcl.specs.Theories.{KeepsLemmas, NamesLemma, IsFalseOn};
 
-use crate::judging::{Judgement, judge, negations};
+use crate::judging::{Judgement, judge, matched, negations};
 use ffc_base::{Meter, SearchStop, Unit};
 use ffc_cdcl::{Lit, Literals, Theory, TheoryAnswer};
 use ffc_cert::Entry;
 use ffc_circuit::{Truths, Walk};
-use ffc_entries::{Origin, Residues, model};
+use ffc_entries::{Lemma, Origin, Residues, model};
 use ffc_fixed::Fixed;
 use ffc_term::Check;
 use std::alloc::{AllocError, Global};
+
+/// Whole trails are matched until so many in a row were in vain, and then after twice as many each time.
+const MISSES: u32 = 8;
 
 /// Judges trails by the equalities on which the truth of the assertions rests. Where those so far fix values that clash, it judges
 /// the few that the clash rests on. Else it agrees as long as one of them has no value, since more of the trail decides them. Once
@@ -29,6 +32,8 @@ pub struct FieldTheory<'a> {
     /// What the equalities fix that the walk has come upon, of which so many were looked at.
     fixed: Fixed<'a>,
     looked: usize,
+    /// How many whole trails in a row were matched in vain, or not at all.
+    misses: u32,
     /// How many literals the walk has followed, and how many units had been taken for literals then.
     followed: usize,
     taken: u64,
@@ -61,6 +66,7 @@ impl<'a> FieldTheory<'a> {
             walk,
             fixed: Fixed::new(alloc, check.table)?,
             looked: 0,
+            misses: 0,
             followed: 0,
             taken: 0,
             clauses: Vec::new(alloc),
@@ -93,6 +99,7 @@ impl<'a> FieldTheory<'a> {
             walk: _,
             fixed: _,
             looked: _,
+            misses: _,
             followed: _,
             taken: _,
             clauses: _,
@@ -131,11 +138,27 @@ impl<'a> FieldTheory<'a> {
         self.walk.go_on()
     }
 
-    /// Judges equalities. It is one Trial, besides what the searches take.
-    fn judged(&self, equalities: &[Lit], meter: &mut Meter) -> Result<Judgement, SearchStop>
+    /// A lemma that matching finds of the equalities of a whole trail, where it is due.
+    fn match_trail(&mut self, equalities: &[Lit]) -> Result<Option<Lemma>, AllocError>
+        ensures { self.new.clauses ≡ self.old.clauses }
+    {
+        if self.misses >= MISSES && !self.misses.is_power_of_two() {
+            self.misses = self.misses.saturating_add(1);
+            return Ok(None);
+        }
+        let found = matched(self.alloc, &self.check, equalities)?;
+        self.misses = if found.is_some() {
+            0
+        } else {
+            self.misses.saturating_add(1)
+        };
+        Ok(found)
+    }
+
+    /// Searches for values with which equalities hold.
+    fn search(&self, equalities: &[Lit], meter: &mut Meter) -> Result<Judgement, SearchStop>
         ensures metered { Metered SearchStop.Spent result meter.old meter.new }
     {
-        meter.take(Unit::Trial)?;
         judge(
             self.alloc,
             &self.check,
@@ -144,6 +167,29 @@ impl<'a> FieldTheory<'a> {
             self.bits,
             meter,
         )
+    }
+
+    /// Judges the equalities of a whole trail. It is one Trial, besides what the searches take.
+    fn judged(&mut self, equalities: &[Lit], meter: &mut Meter) -> Result<Judgement, SearchStop>
+        ensures same { self.new.clauses ≡ self.old.clauses }
+        ensures metered { Metered SearchStop.Spent result meter.old meter.new }
+    {
+        meter.take(Unit::Trial)?;
+        match self.match_trail(equalities)? {
+            Some(lemma) => Ok(Judgement::Refuted(lemma)),
+            None => self.search(equalities, meter),
+        }
+    }
+
+    /// Judges equalities whose values clash, in the same way.
+    fn judged_clash(&self, equalities: &[Lit], meter: &mut Meter) -> Result<Judgement, SearchStop>
+        ensures metered { Metered SearchStop.Spent result meter.old meter.new }
+    {
+        meter.take(Unit::Trial)?;
+        match matched(self.alloc, &self.check, equalities)? {
+            Some(lemma) => Ok(Judgement::Refuted(lemma)),
+            None => self.search(equalities, meter),
+        }
     }
 
     /// Equalities among those that the walk has come upon whose values clash.
@@ -259,7 +305,7 @@ impl Theory for FieldTheory<'_> {
         }
         self.follow(trail, meter)?;
         if let Some(equalities) = self.clash()? {
-            if let Judgement::Refuted(lemma) = self.judged(equalities.as_slice(), meter)? {
+            if let Judgement::Refuted(lemma) = self.judged_clash(equalities.as_slice(), meter)? {
                 return self.answer(trail, Judgement::Refuted(lemma));
             }
         }
