@@ -1,4 +1,4 @@
-//! The equalities of one field, group by group: evaluation, then lines of a basis, then the search by cases.
+//! The equalities of one field, group by group: evaluation, then elimination, then lines of a basis, then the search by cases.
 ghost use Rattle.ffc_base.specs.Metering.{Metered};
 
 use ffc_base::{Meter, SearchStop, Unit};
@@ -62,7 +62,7 @@ pub struct Problem<'a> {
 }
 
 /// One of so many parts of the units that are left.
-fn part_of_left(meter: &Meter, parts: u64) -> u64 {
+pub fn part_of_left(meter: &Meter, parts: u64) -> u64 {
     if parts == 0 {
         return 0;
     }
@@ -411,6 +411,9 @@ impl Problem<'_> {
         if let Some(values) = values_by_equalities(self.alloc, polys, holding, meter)? {
             return Ok(Answer::Values(values));
         }
+        if let Some(answer) = self.by_elimination(polys, meter)? {
+            return Ok(answer);
+        }
         let Some(first) = inverse_of(self.table.len(), holding) else {
             return Err(SearchStop::GaveUp);
         };
@@ -510,7 +513,7 @@ impl ForField for Work<'_> {
 }
 
 /// Takes the units that another meter counts.
-fn charge(meter: &mut Meter, taken: &Meter) -> Result<(), SearchStop>
+pub fn charge(meter: &mut Meter, taken: &Meter) -> Result<(), SearchStop>
     ensures metered { Metered SearchStop.Spent result meter.old meter.new }
 {
     meter.charge(Unit::Trial, taken.count(Unit::Trial))?;

@@ -12,8 +12,10 @@
 //!    all of them.
 //! 3. **Judging** (judging.rt) goes from field to field. Nodes that are equal by the equalities are matched first
 //!    (`ffc_matching`), which refutes two copies of a circuit, on whole trails only now and then where that is in vain. Else
-//!    (fields.rt) the equalities are polynomials, in groups that share no variable, each with a part of the units. Of a group, inputs are guessed and the circuit evaluated; then the
-//!    equalities that hold are lines of a basis, which is completed further and further until it settles the others; then the
+//!    (fields.rt) the equalities are polynomials, in groups that share no variable, each with a part of the units. Of a group,
+//!    inputs are guessed and the circuit evaluated; then its linear equalities are solved by elimination (linear.rt), which
+//!    decides a group that has no others; then the equalities that hold are lines of a basis, which is completed further and
+//!    further until it settles the others; then the
 //!    circuit is evaluated by these lines; and then a search by cases looks for values (`ffc_search`).
 //! 4. **A model** is what the equalities are true with, whatever the other nodes are: values of all fields end the search.
 //! 5. **A conflict** is a case tree that closes. It is written as a lemma: the clause of the equalities, turned around, that its
@@ -30,6 +32,7 @@
 mod clauses;
 mod fields;
 mod judging;
+mod linear;
 mod proposing;
 mod theory;
 
