@@ -13,7 +13,7 @@ use Rattle.ffc_ring.proofs.PolynomialLemmas.{weighted, weighted-append, weighted
 use Rattle.ffc_mono.specs.MonomialOrder.{IsMonomialOrder}
 use Rattle.ffc_mono.specs.Leading.{IsLeading}
 use Rattle.ffc_mono.proofs.LeadingLemmas.{turned_back, greater_trans, not_itself}
-use Rattle.ffc_poly.specs.Ordered.{values_of, IsAbove, IsOrdered}
+use Rattle.ffc_poly.specs.Ordered.{values_of, residues, IsAbove, IsOrdered}
 use Rattle.ffc_dense.specs.Columns.{IsDescending, AreColumns, AreApart, AreNumbers, listed, terms_of, Grows}
 use Rattle.ffc_dense.proofs.ColumnLemmas.{Above, descending_at}
 
@@ -352,3 +352,37 @@ numbered_more value p old mid new ts n x poly i first second is known there mono
       All-push (λ t. t.0 < length new.0) ts (n, x) (All-weaker (λ t. t.0 < length mid.0) (λ t. t.0 < length new.0) (λ t h. omega (arith, h, long)) ts known) there,
       grows_on p old mid new first second,
     )
+
+-- ---- the terms other than 0
+
+pub residues_push : {F : Type 0} (value : F → ℕ) (ts : List (F × Monomial)) (t : F × Monomial) → residues value (ts ++ t ∷ []) ≡ residues value ts ++ (value t.0, t.1) ∷ []
+residues_push value [] t = refl
+residues_push value (u ∷ ts) t = ap (λ r. (value u.0, u.1) ∷ r) (residues_push value ts t)
+
+-- a term that is 0 adds nothing
+pub zero_adds_nothing : (p c : ℕ) (m : Monomial) (front rest : Terms) → c ≡ 0 → SamePolynomial p (front ++ rest) (front ++ (c, m) ∷ rest)
+zero_adds_nothing p c m front rest none =
+    same_sums p front front rest ((c, m) ∷ rest) (λ x. refl)
+    (SamePolynomial-from_weighted p rest ((c, m) ∷ rest) (λ g. ap (λ w. w % p) (let e : weighted g rest ≡ 0 * g m + weighted g rest = omega arith in e ∙ ap (λ k. k * g m + weighted g rest) (sym none))))
+
+pub pushed_adds : {F : Type 0} (value : F → ℕ) (p : ℕ) (old new : List (F × Monomial)) (t : F × Monomial) (rest : Terms) → new ≡ old ++ t ∷ [] → SamePolynomial p (residues value new ++ rest) (residues value old ++ (value t.0, t.1) ∷ rest)
+pushed_adds value p old new t rest is m =
+    ap (λ ts. coefficient p ts m) (ap (λ ts. residues value ts ++ rest) is ∙ ap (λ ts. ts ++ rest) (residues_push value old t) ∙ append_assoc (residues value old) ((value t.0, t.1) ∷ []) rest)
+
+-- the term at a place is taken along
+pub one_taken : (p : ℕ) (ks : List ℕ) (ms : List Monomial) (ns : List ℕ) (i c : ℕ) (m : Monomial) (front next whole : Terms) → i < length ns → c ≡ get_or ks (get_or ns i 0) 0 → m ≡ get_or ms (get_or ns i 0) []
+    → ((rest : Terms) → SamePolynomial p (next ++ rest) (front ++ (c, m) ∷ rest)) → SamePolynomial p (front ++ listed ks ms (drop i ns)) whole → SamePolynomial p (next ++ listed ks ms (drop (i + 1) ns)) whole
+one_taken p ks ms ns i c m front next whole inside coefficient_is monomial_is adds before x =
+    adds (listed ks ms (drop (i + 1) ns)) x
+    ∙ ap (λ ts. coefficient p (front ++ ts) x) (ap₂ (λ k n. (k, n) ∷ listed ks ms (drop (i + 1) ns)) coefficient_is monomial_is ∙ sym (listed_from ks ms ns i inside))
+    ∙ before x
+
+-- and all of them are
+pub all_taken : (p : ℕ) (ks : List ℕ) (ms : List Monomial) (ns : List ℕ) (i : ℕ) (front whole : Terms) → length ns ≤ i → SamePolynomial p (front ++ listed ks ms (drop i ns)) whole → SamePolynomial p front whole
+all_taken p ks ms ns i front whole end before x = ap (λ ts. coefficient p ts x) (sym (ap (λ l. front ++ listed ks ms l) (dropped ns i end) ∙ append-nil front)) ∙ before x
+  where
+    dropped : (ns : List ℕ) (i : ℕ) → length ns ≤ i → drop i ns ≡ []
+    dropped [] zero h = refl
+    dropped [] (suc i) h = refl
+    dropped (n ∷ ns) zero h = absurd (omega (arith, h))
+    dropped (n ∷ ns) (suc i) h = dropped ns i (omega (arith, h))

@@ -1,11 +1,11 @@
 //! Polynomials as coefficients by number of the monomial.
 ghost use Rattle.std.specs.Prelude.{◌≡◌, ◌≢◌, ℕ, ◌+◌, ◌<◌, ◌≤◌, ◌∷◌, [], ◌++◌, false, List, All, Contains, length, get_or, drop};
 ghost use Rattle.std.specs.Vec.{vec_len, vec_capacity};
-ghost use Rattle.std.specs.Prelude.{IfOk, IfSome, IsTrue};
+ghost use Rattle.std.specs.Prelude.{IfOk, IfSome, IsTrue, OnOk};
 ghost use Rattle.ffc_ring.specs.Monomial.{Monomial};
-ghost use Rattle.ffc_ring.specs.Polynomial.{SamePolynomial, scaled, difference};
+ghost use Rattle.ffc_ring.specs.Polynomial.{Terms, SamePolynomial, scaled, difference};
 ghost use Rattle.ffc_mono.specs.Leading.{IsLeading};
-ghost use Rattle.ffc_poly.specs.Ordered.{IsOrdered, values_of};
+ghost use Rattle.ffc_poly.specs.Ordered.{IsOrdered, values_of, residues};
 ghost use Rattle.ffc_dense.specs.Columns.{AreApart, listed, terms_of, AreNumbers, Grows, IsLonger};
 
 use crate::columns::{COLUMN_LIMIT, Columns};
@@ -91,6 +91,42 @@ fn first_nonzero<F: Field, O: MonoOrder>(
         }
     }
     columns.places()
+}
+
+/// Appends a term, unless it is 0.
+fn push_nonzero<F: Field>(terms: &mut Vec<(F, Mono)>, c: F, m: &Mono) -> Result<(), AllocError>
+    ensures sum { OnOk result ((rest : Terms)
+        → SamePolynomial F.ORDER (residues F.value terms.new.items ++ rest)
+        (residues F.value terms.old.items ++ (F.value c, m.now) ∷ rest)) }
+    ensures long { OnOk result (vec_len terms.new ≤ vec_len terms.old + 1) }
+{
+    if c.residue() == 0 {
+        return Ok(());
+    }
+    terms.push((c, m.clone()?))?;
+    Ok(())
+}
+
+/// The terms from a place on that are not 0.
+fn nonzero_terms<F: Field, O: MonoOrder>(
+    alloc: Global,
+    columns: &Columns<O>,
+    coefficients: &[F],
+    from: usize,
+) -> Result<Vec<(F, Mono)>, AllocError>
+    requires long { length coefficients.now ≡ length columns.now.0 }
+    requires inside { from ≤ length columns.now.1 }
+    ensures same { IfOk result (λ ts. SamePolynomial F.ORDER (residues F.value ts.items)
+        (listed (values_of F.value coefficients.now) columns.now.0 (drop from columns.now.1))) }
+    ensures few { IfOk result (λ ts. vec_len ts ≤ COLUMN_LIMIT) }
+{
+    let _count = columns.len();
+    let mut terms = Vec::new(alloc);
+    for place in from..columns.places() {
+        let number = columns.at(place);
+        push_nonzero(&mut terms, coefficients[number], columns.monomial(number))?;
+    }
+    Ok(terms)
 }
 
 impl<F: Field, O: MonoOrder> Dense<F, O> {
@@ -180,6 +216,15 @@ impl<F: Field, O: MonoOrder> Dense<F, O> {
         };
         self.load(terms.as_slice());
         Ok(true)
+    }
+
+    /// The terms other than 0.
+    pub(crate) fn terms(&self, alloc: Global) -> Result<Vec<(F, Mono)>, AllocError>
+        ensures same { IfOk result (λ ts. SamePolynomial F.ORDER (residues F.value ts.items) self.now.1) }
+        ensures few { IfOk result (λ ts. vec_len ts ≤ COLUMN_LIMIT) }
+    {
+        let coefficients = self.coefficients.as_slice();
+        nonzero_terms(alloc, &self.columns, coefficients, self.from)
     }
 
     /// Drops the first terms that are 0, and says whether a term is left.

@@ -13,6 +13,7 @@ use ffc_field::Field;
 use ffc_mono::{Mono, MonoOrder};
 use ffc_poly::{Poly, PolyStop, TERM_LIMIT};
 use std::alloc::{AllocError, Global};
+use std::fmt::{self, Debug, Formatter, Write};
 use std::marker::Model;
 
 /// A line times a monomial, with the numbers of the product's monomials.
@@ -55,6 +56,12 @@ impl<F: Field, O: MonoOrder> Drop for Table<F, O> {
             credit: _,
             earned: _,
         } = self;
+    }
+}
+
+impl<F: Field, O: MonoOrder> Debug for Table<F, O> {
+    fn fmt<W: Write>(&self, f: &mut Formatter<W>) -> fmt::Result {
+        f.write_str("Table")
     }
 }
 
@@ -329,6 +336,19 @@ impl<F: Field, O: MonoOrder> Table<F, O> {
         let done = self.dense.replace(alloc, p)?;
         self.credit = spent(self.credit, count, self.dense.len());
         Ok(done)
+    }
+
+    /// The polynomial.
+    pub fn polynomial(&self) -> Result<Poly<F, O>, AllocError>
+        ensures { IfOk result (λ r. SamePolynomial F.ORDER r self.now.0) }
+    {
+        let alloc = *self.kept.allocator();
+        let terms = self.dense.terms(alloc)?;
+        match Poly::from_terms(alloc, terms.as_slice()) {
+            Ok(poly) => Ok(poly),
+            Err(PolyStop::Memory) => Err(AllocError),
+            Err(_) => unreachable!(),
+        }
     }
 
     /// The leading coefficient and monomial, or none at zero.
