@@ -5,6 +5,7 @@ pub mod CoprimeLemmas
 pub mod DivisorLemmas
 pub mod FewLemmas
 pub mod IndexLemmas
+pub mod KeptLemmas
 pub mod LineLemmas
 pub mod Lists
 pub mod Mapped

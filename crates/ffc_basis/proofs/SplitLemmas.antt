@@ -1,5 +1,5 @@
 -- Steps on a remainder that is split into finished terms and a sum of others, all of them below.
-use Rattle.std.proofs.Common.{◌≡◌, ◌≢◌, ℕ, ◌+◌, ◌-◌, ◌%◌, ◌<◌, ◌≤◌, List, [], ◌∷◌, ◌++◌, length, get_or, refl, sym, ap, ap₂, ◌∙◌, subst, inl, inr, arith, append_assoc, mod-lt, mod-eq_of_lt, length-append}
+use Rattle.std.proofs.Common.{◌≡◌, ◌≢◌, ◌⊎◌, ℕ, ◌+◌, ◌-◌, ◌%◌, ◌<◌, ◌≤◌, List, [], ◌∷◌, ◌++◌, length, get_or, refl, sym, ap, ap₂, ◌∙◌, subst, inl, inr, arith, append_assoc, mod-lt, mod-eq_of_lt, length-append}
 use Rattle.std.proofs.lemmas.Bool.{cases_eq}
 use Rattle.std.proofs.lemmas.List.{get_or_append_left}
 use Rattle.std.specs.declared.cmp.Ordering.{Ordering}
@@ -85,6 +85,15 @@ begins_split p cmp front left poly most is same many fits = record {
   within = omega arith;
 }
 
+-- there are as few terms as are counted
+pub tightened : (p : ℕ) (cmp : Monomial → Monomial → Ordering) (front left : Terms) (most n : ℕ) → IsSplit p cmp front left most → (n ≡ most) ⊎ ((length front + length left ≤ n) × (n ≤ most)) → IsSplit p cmp front left n
+tightened p cmp front left most n s (inl same) = subst (IsSplit p cmp front left) (sym same) s
+tightened p cmp front left most n s (inr fewer) = record {
+  above = s.above;
+  few = (front ++ left, (λ m. refl), omega (arith, fewer.0, length-append front left));
+  within = omega (arith, fewer.1, s.within);
+}
+
 module _ (p : ℕ) (prime : IsPrime p) (cmp : Monomial → Monomial → Ordering) (laws : IsMonomialOrder cmp) where
   positive : 0 < p
   positive = omega (arith, prime.least)
@@ -133,6 +142,9 @@ module _ (p : ℕ) (prime : IsPrime p) (cmp : Monomial → Monomial → Ordering
 
   pub whole_same : (front a b : Terms) → SamePolynomial p b a → SamePolynomial p (front ++ b) (front ++ a)
   whole_same front a b same = same_sums p front front b a (λ _. refl) same
+
+  pub whole_stays : (front others left next : Terms) → others ≡ front → SamePolynomial p next left → SamePolynomial p (front ++ left) (others ++ next)
+  whole_stays front others left next is same m = sym (ap (λ ts. coefficient p (ts ++ next) m) is ∙ whole_same front left next same m)
 
   -- ---- a term more is finished
 

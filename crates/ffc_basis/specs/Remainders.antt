@@ -66,7 +66,7 @@ abbrev pub front_of : {F O : Type 0} → (F → ℕ) → Remainder F O → Terms
 front_of value r = residues value r.finished.items
 
 abbrev pub whole_of : {F O : Type 0} → (F → ℕ) → Remainder F O → Terms
-whole_of value r = front_of value r ++ r.left
+whole_of value r = front_of value r ++ r.left.0
 
 -- the polynomial can be written with at most so many terms
 abbrev pub HasAtMost : ℕ → ℕ → Terms → Type 0

@@ -16,6 +16,7 @@ use crate::line::Line;
 use crate::pairing::{Pairing, advance};
 use crate::reduction::{Reduced, reduce_by};
 use ffc_base::{Meter, Stop};
+use ffc_dense::Table;
 use ffc_field::Field;
 use ffc_mono::MonoOrder;
 use ffc_poly::Poly;
@@ -28,6 +29,7 @@ pub struct Basis<F: Field, O: MonoOrder> {
     lines: Vec<Line<F, O>>,
     index: Index,
     pairing: Pairing,
+    table: Table<F, O>,
 }
 
 impl<F: Field, O: MonoOrder> Drop for Basis<F, O> {
@@ -36,12 +38,14 @@ impl<F: Field, O: MonoOrder> Drop for Basis<F, O> {
             lines: _,
             index: _,
             pairing: _,
+            table: _,
         } = self;
     }
 }
 
 impl<F: Field, O: MonoOrder> Model for Basis<F, O> {
     ghost use Rattle.std.specs.Prelude.{List};
+    ghost use Rattle.ffc_dense.specs.Tables.{AreMultiplesOf};
     ghost use Rattle.ffc_basis.specs.Indexing.{IsIndexOf};
     ghost use Rattle.ffc_basis.specs.Lines.{AreLines, polys_of};
     ghost use Rattle.ffc_basis.specs.PairTable.{ArePairs, AreFew, seconds};
@@ -54,7 +58,8 @@ impl<F: Field, O: MonoOrder> Model for Basis<F, O> {
     ghost invariant = { λ b. AreLines F.ORDER b.lines.items
         × ArePairs F.ORDER O.cmp (polys_of b.lines.items) b.pairing.records.items b.pairing.paired
         × AreFew (seconds b.pairing.records.items) b.pairing.paired
-        × IsIndexOf F.ORDER O.cmp (polys_of b.lines.items) b.index };
+        × IsIndexOf F.ORDER O.cmp (polys_of b.lines.items) b.index
+        × AreMultiplesOf F.ORDER (polys_of b.lines.items) b.table.1 };
 }
 
 impl<F: Field, O: MonoOrder> Basis<F, O> {
@@ -66,6 +71,7 @@ impl<F: Field, O: MonoOrder> Basis<F, O> {
             lines: Vec::new(alloc),
             index: Index::new(alloc),
             pairing: Pairing::new(alloc),
+            table: Table::new(alloc),
         }
     }
 
@@ -80,6 +86,7 @@ impl<F: Field, O: MonoOrder> Basis<F, O> {
             lines,
             index,
             pairing: Pairing::new(alloc),
+            table: Table::new(alloc),
         })
     }
 
@@ -101,6 +108,7 @@ impl<F: Field, O: MonoOrder> Basis<F, O> {
             lines,
             index: _,
             pairing: _,
+            table: _,
         } = self;
         lines
     }
@@ -129,6 +137,7 @@ impl<F: Field, O: MonoOrder> Basis<F, O> {
         self.index.cut(&self.lines, len);
         self.lines.truncate(len);
         self.pairing.cut(len);
+        self.table.cut(len);
     }
 
     /// Completes the basis by Buchberger's algorithm (Buchberger 1965; Cox, Little and O'Shea, chapter 2, section 7). Each
@@ -171,6 +180,7 @@ impl<F: Field, O: MonoOrder> Basis<F, O> {
         match advance(
             &mut self.lines,
             &mut self.index,
+            &mut self.table,
             &mut self.pairing,
             units,
             meter,
@@ -206,6 +216,7 @@ impl<F: Field, O: MonoOrder> Basis<F, O> {
             *self.lines.allocator(),
             self.lines.as_slice(),
             &self.index,
+            &mut self.table,
             poly,
             meter,
         )

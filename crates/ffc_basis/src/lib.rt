@@ -7,6 +7,7 @@ mod completion;
 mod dividing;
 mod index;
 mod leads;
+mod left;
 mod line;
 mod pair;
 mod pairing;

@@ -3,6 +3,7 @@ ghost use Rattle.std.specs.Prelude.{◌≡◌, ◌+◌, ◌<◌, ◌≤◌, [], 
 ghost use Rattle.std.specs.Prelude.{IfOk, IfSome, IfNone, OnOk};
 ghost use Rattle.std.specs.Bool.{OnTrue, OnFalse};
 ghost use Rattle.ffc_base.specs.Metering.{Metered};
+ghost use Rattle.ffc_dense.specs.Tables.{AreMultiplesOf};
 ghost use Rattle.ffc_basis.specs.Indexing.{IsIndexOf};
 ghost use Rattle.ffc_basis.specs.Lines.{polys_of, AreLines, AreLists};
 ghost use Rattle.ffc_basis.specs.Completion.{IsConstantLine};
@@ -21,6 +22,7 @@ use crate::pair::{PairRecord, PairState, Pairs};
 use crate::queue::Queue;
 use crate::spoly::{Outcome, reduce_pair};
 use ffc_base::{Meter, Stop, Unit};
+use ffc_dense::Table;
 use ffc_field::Field;
 use ffc_mono::MonoOrder;
 use ffc_poly::Poly;
@@ -336,6 +338,7 @@ fn outcome_of<F: Field, O: MonoOrder>(
     alloc: Global,
     lines: &[Line<F, O>],
     index: &Index,
+    table: &mut Table<F, O>,
     records: &[PairRecord],
     i: usize,
     j: usize,
@@ -346,6 +349,8 @@ fn outcome_of<F: Field, O: MonoOrder>(
     requires second { j < length lines.now }
     requires records { AreRecords F.ORDER O.cmp (polys_of lines.now) records.now }
     requires lists { AreLists (polys_of lines.now) }
+    requires table { AreMultiplesOf F.ORDER (polys_of lines.now) table.old.1 }
+    ensures table { AreMultiplesOf F.ORDER (polys_of lines.now) table.new.1 }
     ensures outcome { IfOk result (IsOutcome F.ORDER O.cmp (polys_of lines.now) i j) }
     ensures metered { Metered Stop.Spent result meter.old meter.new }
     ensures takes { TakesReductions meter.old meter.new }
@@ -354,13 +359,14 @@ fn outcome_of<F: Field, O: MonoOrder>(
     if is_chained(alloc, lines, index, records, i, j)? {
         return Ok(Outcome::Closed);
     }
-    reduce_pair(alloc, lines, index, i, j, meter)
+    reduce_pair(alloc, lines, index, table, i, j, meter)
 }
 
 /// Settles the pair at a place.
 fn treat<F: Field, O: MonoOrder>(
     lines: &mut Vec<Line<F, O>>,
     index: &mut Index,
+    table: &mut Table<F, O>,
     pairing: &mut Pairing,
     place: usize,
     meter: &mut Meter,
@@ -369,6 +375,8 @@ fn treat<F: Field, O: MonoOrder>(
     requires pending { IsPendingAt pairing.old.records.items place }
     requires lines { AreLines F.ORDER lines.old.items }
     requires pairs { ArePairs F.ORDER O.cmp (polys_of lines.old.items) pairing.old.records.items pairing.old.paired }
+    requires table { AreMultiplesOf F.ORDER (polys_of lines.old.items) table.old.1 }
+    ensures table { AreMultiplesOf F.ORDER (polys_of lines.new.items) table.new.1 }
     ensures index { IsIndexOf F.ORDER O.cmp (polys_of lines.new.items) index.new }
     ensures front { IsFront F.ORDER O.cmp lines.old.items lines.new.items }
     ensures lines { AreLines F.ORDER lines.new.items }
@@ -388,6 +396,7 @@ fn treat<F: Field, O: MonoOrder>(
         *lines.allocator(),
         lines.as_slice(),
         index,
+        table,
         pairing.records.as_slice(),
         pair.first,
         pair.second,
@@ -436,6 +445,7 @@ fn is_due<F: Field, O: MonoOrder>(
 pub(crate) fn advance<F: Field, O: MonoOrder>(
     lines: &mut Vec<Line<F, O>>,
     index: &mut Index,
+    table: &mut Table<F, O>,
     pairing: &mut Pairing,
     units: u64,
     meter: &mut Meter,
@@ -444,6 +454,8 @@ pub(crate) fn advance<F: Field, O: MonoOrder>(
     requires lines { AreLines F.ORDER lines.old.items }
     requires pairs { ArePairs F.ORDER O.cmp (polys_of lines.old.items) pairing.old.records.items pairing.old.paired }
     requires few { AreFew (seconds pairing.old.records.items) pairing.old.paired }
+    requires table { AreMultiplesOf F.ORDER (polys_of lines.old.items) table.old.1 }
+    ensures table { AreMultiplesOf F.ORDER (polys_of lines.new.items) table.new.1 }
     ensures index { IsIndexOf F.ORDER O.cmp (polys_of lines.new.items) index.new }
     ensures front { IsFront F.ORDER O.cmp lines.old.items lines.new.items }
     ensures lines { AreLines F.ORDER lines.new.items }
@@ -483,7 +495,7 @@ pub(crate) fn advance<F: Field, O: MonoOrder>(
             return Ok(Progress::Done(answer));
         };
         let count = lines.len();
-        treat(lines, index, pairing, place, meter)?;
+        treat(lines, index, table, pairing, place, meter)?;
         taken = meter.count(Unit::Reduction) - before;
         if is_constant_at(lines.as_slice(), count) {
             return Ok(Progress::Done(Completion::Constant(count as u64)));

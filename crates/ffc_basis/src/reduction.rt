@@ -5,6 +5,7 @@ ghost use Rattle.ffc_base.specs.Metering.{Metered};
 ghost use Rattle.ffc_field.specs.Modular.{mul_mod};
 ghost use Rattle.ffc_ring.specs.Monomial.{Divides, mono_mul};
 ghost use Rattle.ffc_ring.specs.Polynomial.{Terms};
+ghost use Rattle.ffc_dense.specs.Tables.{AreMultiplesOf};
 ghost use Rattle.ffc_basis.specs.Indexing.{IsIndexOf};
 ghost use Rattle.ffc_basis.specs.Lines.{polys_of, ArePolynomials};
 ghost use Rattle.ffc_basis.specs.Outcomes.{AreScaled};
@@ -20,6 +21,7 @@ use crate::line::{Line, LineId};
 use crate::record::Record;
 use crate::remainder::go_on;
 use ffc_base::{Meter, Stop, Unit};
+use ffc_dense::Table;
 use ffc_field::Field;
 use ffc_mono::{Mono, MonoOrder, MonoRef};
 use ffc_poly::{Poly, PolyStop};
@@ -212,10 +214,13 @@ pub(crate) fn reduce_recorded<F: Field, O: MonoOrder>(
     alloc: Global,
     lines: &[Line<F, O>],
     index: &Index,
+    table: &mut Table<F, O>,
     poly: &Poly<F, O>,
     meter: &mut Meter,
 ) -> Result<Recorded<F, O>, Stop>
-    requires { IsIndexOf F.ORDER O.cmp (polys_of lines.now) index.now }
+    requires index { IsIndexOf F.ORDER O.cmp (polys_of lines.now) index.now }
+    requires table { AreMultiplesOf F.ORDER (polys_of lines.now) table.old.1 }
+    ensures table { AreMultiplesOf F.ORDER (polys_of lines.now) table.new.1 }
     ensures reduction { IfOk result (λ r. IsRecordedReduction F.ORDER O.cmp (polys_of lines.now) poly.now r.rest
         r.parts) }
     ensures reduced { IfOk result (λ r. IfNone r.over (IsReduced F.ORDER O.cmp (polys_of lines.now) r.rest)) }
@@ -242,6 +247,7 @@ pub(crate) fn reduce_recorded<F: Field, O: MonoOrder>(
                     alloc,
                     lines,
                     index,
+                    table,
                     (rest, place),
                     step.line,
                     &mut parts,
@@ -272,10 +278,13 @@ pub(crate) fn reduce_by<F: Field, O: MonoOrder>(
     alloc: Global,
     lines: &[Line<F, O>],
     index: &Index,
+    table: &mut Table<F, O>,
     poly: &Poly<F, O>,
     meter: &mut Meter,
 ) -> Result<Reduced<F, O>, Stop>
-    requires { IsIndexOf F.ORDER O.cmp (polys_of lines.now) index.now }
+    requires index { IsIndexOf F.ORDER O.cmp (polys_of lines.now) index.now }
+    requires table { AreMultiplesOf F.ORDER (polys_of lines.now) table.old.1 }
+    ensures table { AreMultiplesOf F.ORDER (polys_of lines.now) table.new.1 }
     ensures reduction { IfOk result (λ r. IsReduction F.ORDER O.cmp (polys_of lines.now) poly.now r.rest
         r.parts.items) }
     ensures reduced { IfOk result (λ r. IfNone r.over (IsReduced F.ORDER O.cmp (polys_of lines.now) r.rest)) }
@@ -285,7 +294,7 @@ pub(crate) fn reduce_by<F: Field, O: MonoOrder>(
     ensures takes { TakesReductions meter.old meter.new }
     ensures bound { IsReductionBound F.ORDER O.cmp (polys_of lines.now) poly.now meter.old meter.new }
 {
-    let recorded = reduce_recorded(alloc, lines, index, poly, meter)?;
+    let recorded = reduce_recorded(alloc, lines, index, table, poly, meter)?;
     let reduced = recorded.finished()?;
     Ok(reduced)
 }

@@ -1,11 +1,12 @@
-//! Long remainders. Many steps change a long remainder in few places, so it is not copied for each of them: its terms stand
-//! in an accumulator, from which the leading one is taken off as soon as no line divides it.
+//! Remainders that are reduced in place. A step is not to copy all that is left: the terms stand in an accumulator or in a
+//! table (left.rt), from which the leading one is taken off as soon as no line divides it.
 ghost use Rattle.std.specs.Prelude.{◌≡◌, ℕ, ◌+◌, ◌<◌, ◌≤◌, false, [], List, length, get_or, IsTrue, IfOk, IfSome, IfNone};
 ghost use Rattle.std.specs.Prelude.{OnOk, OnErr, IsErrOf};
 ghost use Rattle.ffc_base.specs.Metering.{Metered, total};
 ghost use Rattle.ffc_ring.specs.Monomial.{Monomial};
 ghost use Rattle.ffc_ring.specs.Polynomial.{Terms, SamePolynomial, term_product, difference};
 ghost use Rattle.ffc_mono.specs.Leading.{IsLeading};
+ghost use Rattle.ffc_dense.specs.Tables.{AreMultiplesOf, IsLineOf};
 ghost use Rattle.ffc_basis.specs.Indexing.{IsIndexOf};
 ghost use Rattle.ffc_basis.specs.Lines.{polys_of, IsLineOfNone};
 ghost use Rattle.ffc_basis.specs.Records.{AreOfDifferentLines};
@@ -14,26 +15,21 @@ ghost use Rattle.ffc_basis.specs.Remainders.{Continues, StaysBounded, IsSplit, I
 ghost use Rattle.ffc_basis.specs.Units.{TakesReductions};
 
 use crate::index::Index;
+use crate::left::{self, Left};
 use crate::line::Line;
 use crate::record::Record;
-use crate::reduction::{Step, only_memory, past_limit, step_at};
+use crate::reduction::{Step, only_memory, step_at};
 use ffc_base::{Meter, Stop, Unit};
+use ffc_dense::Table;
 use ffc_field::Field;
 use ffc_mono::{Mono, MonoOrder};
-use ffc_poly::{Accumulator, Poly, PolyStop, TERM_LIMIT};
+use ffc_poly::{Poly, TERM_LIMIT};
 use std::alloc::{AllocError, Global};
-
-/// A remainder has at least so many terms where the accumulator serves.
-const LONG: usize = 64;
-
-/// And so many times the terms of the line that was subtracted last. Where lines are about as long as what is left, the
-/// merges of the accumulator cost more than the copies that they spare.
-const TIMES_THE_LINE: usize = 8;
 
 /// What is left of a polynomial: terms that no line divides, from the leading one on, and the sum of those below them.
 pub(crate) struct Remainder<F: Field, O: MonoOrder> {
     finished: Vec<(F, Mono)>,
-    left: Accumulator<F, O>,
+    left: Left<F, O>,
     /// There are at most so many terms in all.
     most: usize,
 }
@@ -48,41 +44,43 @@ impl<F: Field, O: MonoOrder> Drop for Remainder<F, O> {
     }
 }
 
-/// Whether the accumulator serves, where so many terms are left and the last line had so many. There has to be room for steps.
-fn is_long(terms: usize, line: usize) -> bool {
-    terms >= LONG && terms <= TERM_LIMIT / 2 && terms / TIMES_THE_LINE >= line
-}
-
-/// A polynomial of which no term is finished.
+/// A polynomial of so many terms, none of which is finished.
 fn begun<F: Field, O: MonoOrder>(
     alloc: Global,
+    left: Left<F, O>,
     poly: &Poly<F, O>,
-) -> Result<Remainder<F, O>, AllocError>
-    ensures split { IfOk result (λ r. IsSplit F.ORDER O.cmp (front_of F.value r) r.left r.most) }
-    ensures none { IfOk result (λ r. front_of F.value r ≡ []) }
-    ensures same { IfOk result (λ r. SamePolynomial F.ORDER (whole_of F.value r) poly.now) }
+) -> Remainder<F, O>
+    requires { SamePolynomial F.ORDER left.0 poly.now }
+    ensures split { IsSplit F.ORDER O.cmp (front_of F.value result) result.left.0 result.most }
+    ensures none { front_of F.value result ≡ [] }
+    ensures left { result.left ≡ left }
+    ensures same { SamePolynomial F.ORDER (whole_of F.value result) poly.now }
 {
-    let most = poly.len();
-    let mut left = Accumulator::new(alloc);
-    match left.add(poly) {
-        Ok(()) => {}
-        Err(PolyStop::Memory) => return Err(AllocError),
-        Err(_) => unreachable!(),
-    }
-    Ok(Remainder {
+    Remainder {
         finished: Vec::new(alloc),
         left,
-        most,
-    })
+        most: poly.len(),
+    }
+}
+
+/// Bounds the number of terms anew.
+fn tighten<F: Field, O: MonoOrder>(rest: &mut Remainder<F, O>)
+    requires { IsSplit F.ORDER O.cmp (front_of F.value rest.old) rest.old.left.0 rest.old.most }
+    ensures split { IsSplit F.ORDER O.cmp (front_of F.value rest.new) rest.new.left.0 rest.new.most }
+    ensures front { front_of F.value rest.new ≡ front_of F.value rest.old }
+    ensures left { rest.new.left ≡ rest.old.left }
+{
+    rest.most = rest.left.bound(rest.finished.len(), rest.most);
 }
 
 /// Appends the leading term of what is left to the finished ones.
 fn finish<F: Field, O: MonoOrder>(rest: &mut Remainder<F, O>) -> Result<(), AllocError>
-    requires { IsSplit F.ORDER O.cmp (front_of F.value rest.old) rest.old.left rest.old.most }
-    ensures split { OnOk result (IsSplit F.ORDER O.cmp (front_of F.value rest.new) rest.new.left rest.new.most) }
+    requires { IsSplit F.ORDER O.cmp (front_of F.value rest.old) rest.old.left.0 rest.old.most }
+    ensures split { OnOk result (IsSplit F.ORDER O.cmp (front_of F.value rest.new) rest.new.left.0 rest.new.most) }
     ensures same { OnOk result (SamePolynomial F.ORDER (whole_of F.value rest.new) (whole_of F.value rest.old)) }
+    ensures multiples { rest.new.left.1 ≡ rest.old.left.1 }
     ensures reduced { OnOk result ((gs : List Terms)
-        → ((c : ℕ) (m : Monomial) → IsLeading F.ORDER O.cmp rest.old.left c m → IsIrreducible F.ORDER O.cmp gs m)
+        → ((c : ℕ) (m : Monomial) → IsLeading F.ORDER O.cmp rest.old.left.0 c m → IsIrreducible F.ORDER O.cmp gs m)
         → IsReduced F.ORDER O.cmp gs (front_of F.value rest.old)
         → IsReduced F.ORDER O.cmp gs (front_of F.value rest.new)) }
 {
@@ -101,31 +99,31 @@ fn subtract_within<F: Field, O: MonoOrder>(
     line: &Poly<F, O>,
     step: &Step<F>,
 ) -> Result<bool, AllocError>
-    requires { IsSplit F.ORDER O.cmp (front_of F.value rest.old) rest.old.left rest.old.most }
+    requires { rest.old.most ≤ TERM_LIMIT }
     ensures front { front_of F.value rest.new ≡ front_of F.value rest.old }
-    ensures subtracted { IfOk result (λ done. IsTrue done → SamePolynomial F.ORDER rest.new.left
-        (difference F.ORDER rest.old.left (term_product (F.value step.now.coefficient) step.now.monomial line.now))) }
+    ensures subtracted { IfOk result (λ done. IsTrue done → (gs : List Terms)
+        → AreMultiplesOf F.ORDER gs rest.old.left.1 → IsLineOf gs step.now.line line.now
+        → SamePolynomial F.ORDER rest.new.left.0
+        (difference F.ORDER rest.old.left.0 (term_product (F.value step.now.coefficient) step.now.monomial line.now))) }
     ensures most { IfOk result (λ done. IsTrue done → rest.new.most ≡ rest.old.most + length line.now) }
     ensures within { IfOk result (λ done. IsTrue done → rest.new.most ≤ TERM_LIMIT) }
-    ensures unchanged { IfOk result (λ done. done ≡ false
-        → (rest.new.left ≡ rest.old.left) × (rest.new.most ≡ rest.old.most)) }
+    ensures stays { IfOk result (λ done. done ≡ false
+        → SamePolynomial F.ORDER rest.new.left.0 rest.old.left.0 × (rest.new.most ≡ rest.old.most)) }
+    ensures multiples { (gs : List Terms) → AreMultiplesOf F.ORDER gs rest.old.left.1
+        → IsLineOf gs step.now.line line.now → AreMultiplesOf F.ORDER gs rest.new.left.1 }
 {
     if rest.most > TERM_LIMIT - line.len() {
         return Ok(false);
     }
-    match rest
+    let c = step.coefficient;
+    if !rest
         .left
-        .subtract_multiple(step.coefficient, step.monomial.as_ref(), line)
+        .subtract_multiple(step.line, c, &step.monomial, line)?
     {
-        Ok(()) => {
-            rest.most += line.len();
-            Ok(true)
-        }
-        Err(stop) => {
-            past_limit(stop)?;
-            Ok(false)
-        }
+        return Ok(false);
     }
+    rest.most += line.len();
+    Ok(true)
 }
 
 /// Records a multiple in the part at a place, which has room for it.
@@ -157,12 +155,14 @@ fn cancel_lead<F: Field, O: MonoOrder>(
     step: &Step<F>,
     meter: &mut Meter,
 ) -> Result<bool, Stop>
-    requires split { IsSplit F.ORDER O.cmp (front_of F.value rest.old) rest.old.left rest.old.most }
+    requires split { IsSplit F.ORDER O.cmp (front_of F.value rest.old) rest.old.left.0 rest.old.most }
     requires reduced { IsReduced F.ORDER O.cmp (polys_of lines.now) (front_of F.value rest.old) }
-    requires step { IsStepOfLead F.ORDER O.cmp (polys_of lines.now) rest.old.left step.now.line
+    requires step { IsStepOfLead F.ORDER O.cmp (polys_of lines.now) rest.old.left.0 step.now.line
         (F.value step.now.coefficient) step.now.monomial }
-    ensures split { OnOk result (IsSplit F.ORDER O.cmp (front_of F.value rest.new) rest.new.left rest.new.most) }
+    requires multiples { AreMultiplesOf F.ORDER (polys_of lines.now) rest.old.left.1 }
+    ensures split { OnOk result (IsSplit F.ORDER O.cmp (front_of F.value rest.new) rest.new.left.0 rest.new.most) }
     ensures front { front_of F.value rest.new ≡ front_of F.value rest.old }
+    ensures multiples { OnOk result (AreMultiplesOf F.ORDER (polys_of lines.now) rest.new.left.1) }
     ensures continues { OnOk result (Continues F.ORDER O.cmp (polys_of lines.now)
         (whole_of F.value rest.old) parts.old meter.old (whole_of F.value rest.new) parts.new meter.new) }
     ensures takes { TakesReductions meter.old meter.new }
@@ -176,6 +176,7 @@ fn cancel_lead<F: Field, O: MonoOrder>(
     let line = &lines[step.line].poly;
     let _length = line.len();
     let _degree = step.monomial.degree();
+    tighten(rest);
     if !subtract_within(rest, line, step)? {
         return Ok(false);
     }
@@ -194,10 +195,12 @@ fn reduce_lead<F: Field, O: MonoOrder>(
     meter: &mut Meter,
 ) -> Result<bool, Stop>
     requires index { IsIndexOf F.ORDER O.cmp (polys_of lines.now) index.now }
-    requires split { IsSplit F.ORDER O.cmp (front_of F.value rest.old) rest.old.left rest.old.most }
+    requires split { IsSplit F.ORDER O.cmp (front_of F.value rest.old) rest.old.left.0 rest.old.most }
     requires reduced { IsReduced F.ORDER O.cmp (polys_of lines.now) (front_of F.value rest.old) }
-    ensures split { OnOk result (IsSplit F.ORDER O.cmp (front_of F.value rest.new) rest.new.left rest.new.most) }
+    requires multiples { AreMultiplesOf F.ORDER (polys_of lines.now) rest.old.left.1 }
+    ensures split { OnOk result (IsSplit F.ORDER O.cmp (front_of F.value rest.new) rest.new.left.0 rest.new.most) }
     ensures reduced { OnOk result (IsReduced F.ORDER O.cmp (polys_of lines.now) (front_of F.value rest.new)) }
+    ensures multiples { OnOk result (AreMultiplesOf F.ORDER (polys_of lines.now) rest.new.left.1) }
     ensures continues { OnOk result (Continues F.ORDER O.cmp (polys_of lines.now)
         (whole_of F.value rest.old) parts.old meter.old (whole_of F.value rest.new) parts.new meter.new) }
     ensures takes { TakesReductions meter.old meter.new }
@@ -217,12 +220,18 @@ fn reduce_lead<F: Field, O: MonoOrder>(
 }
 
 impl<F: Field, O: MonoOrder> Remainder<F, O> {
-    /// The polynomial, and how many of its first terms are finished.
-    fn joined(self, alloc: Global) -> Result<(Poly<F, O>, usize), AllocError>
-        requires { IsSplit F.ORDER O.cmp (front_of F.value self) self.left self.most }
+    /// The polynomial, and how many of its first terms are finished. The table is given back.
+    fn joined(
+        self,
+        alloc: Global,
+        table: &mut Table<F, O>,
+    ) -> Result<(Poly<F, O>, usize), AllocError>
+        requires { IsSplit F.ORDER O.cmp (front_of F.value self) self.left.0 self.most }
         ensures same { IfOk result (λ r. SamePolynomial F.ORDER r.0 (whole_of F.value self)) }
         ensures first { IfOk result (λ r. (gs : List Terms) → IsReduced F.ORDER O.cmp gs (front_of F.value self)
             → AreIrreducible F.ORDER O.cmp gs r.0 r.1) }
+        ensures multiples { (gs : List Terms) → AreMultiplesOf F.ORDER gs self.left.1
+            → AreMultiplesOf F.ORDER gs table.old.1 → AreMultiplesOf F.ORDER gs table.new.1 }
     {
         let Remainder {
             finished,
@@ -233,7 +242,7 @@ impl<F: Field, O: MonoOrder> Remainder<F, O> {
             Ok(head) => head,
             Err(stop) => return Err(only_memory(stop)),
         };
-        let tail = left.into_poly()?;
+        let tail = left.into_poly(table)?;
         let whole = match head.add(&tail) {
             Ok(whole) => whole,
             Err(stop) => return Err(only_memory(stop)),
@@ -254,10 +263,12 @@ fn reduce_leads<F: Field, O: MonoOrder>(
     meter: &mut Meter,
 ) -> Result<(), Stop>
     requires index { IsIndexOf F.ORDER O.cmp (polys_of lines.now) index.now }
-    requires split { IsSplit F.ORDER O.cmp (front_of F.value rest.old) rest.old.left rest.old.most }
+    requires split { IsSplit F.ORDER O.cmp (front_of F.value rest.old) rest.old.left.0 rest.old.most }
     requires reduced { IsReduced F.ORDER O.cmp (polys_of lines.now) (front_of F.value rest.old) }
-    ensures split { OnOk result (IsSplit F.ORDER O.cmp (front_of F.value rest.new) rest.new.left rest.new.most) }
+    requires multiples { AreMultiplesOf F.ORDER (polys_of lines.now) rest.old.left.1 }
+    ensures split { OnOk result (IsSplit F.ORDER O.cmp (front_of F.value rest.new) rest.new.left.0 rest.new.most) }
     ensures reduced { OnOk result (IsReduced F.ORDER O.cmp (polys_of lines.now) (front_of F.value rest.new)) }
+    ensures multiples { OnOk result (AreMultiplesOf F.ORDER (polys_of lines.now) rest.new.left.1) }
     ensures continues { OnOk result (Continues F.ORDER O.cmp (polys_of lines.now)
         (whole_of F.value rest.old) parts.old meter.old (whole_of F.value rest.new) parts.new meter.new) }
     ensures metered { Metered Stop.Spent result meter.old meter.new }
@@ -273,17 +284,23 @@ fn reduce_leads<F: Field, O: MonoOrder>(
     Ok(())
 }
 
-/// Reduces a polynomial in an accumulator as far as certainly no limit is passed, and says how many of the first terms that are
-/// left no line divides.
-fn reduce_long<F: Field, O: MonoOrder>(
+/// Reduces a polynomial in place as far as certainly no limit is passed, and says how many of the first terms that are left
+/// no line divides.
+fn reduce_in_place<F: Field, O: MonoOrder>(
     alloc: Global,
     lines: &[Line<F, O>],
     index: &Index,
+    table: &mut Table<F, O>,
+    left: Left<F, O>,
     poly: &Poly<F, O>,
     parts: &mut Record<F>,
     meter: &mut Meter,
 ) -> Result<(Poly<F, O>, usize), Stop>
-    requires { IsIndexOf F.ORDER O.cmp (polys_of lines.now) index.now }
+    requires index { IsIndexOf F.ORDER O.cmp (polys_of lines.now) index.now }
+    requires left { SamePolynomial F.ORDER left.0 poly.now }
+    requires multiples { AreMultiplesOf F.ORDER (polys_of lines.now) left.1 }
+    requires table { AreMultiplesOf F.ORDER (polys_of lines.now) table.old.1 }
+    ensures table { AreMultiplesOf F.ORDER (polys_of lines.now) table.new.1 }
     ensures continues { IfOk result (λ r. Continues F.ORDER O.cmp (polys_of lines.now)
         poly.now parts.old meter.old r.0 parts.new meter.new) }
     ensures irreducible { IfOk result (λ r. AreIrreducible F.ORDER O.cmp (polys_of lines.now) r.0 r.1) }
@@ -292,18 +309,19 @@ fn reduce_long<F: Field, O: MonoOrder>(
     ensures bound { OnErr result (StaysBounded F.ORDER O.cmp (polys_of lines.now) poly.now parts.old meter.old
         meter.new) }
 {
-    let mut rest = begun(alloc, poly)?;
+    let mut rest = begun(alloc, left, poly);
     reduce_leads(alloc, lines, index, &mut rest, parts, meter)?;
-    let reduced = rest.joined(alloc)?;
+    let reduced = rest.joined(alloc, table)?;
     Ok(reduced)
 }
 
-/// Reduces a polynomial further in an accumulator, where it is long beside the line that was subtracted last. It has so many
-/// first terms that no line divides.
+/// Reduces a polynomial further in place, where that pays after a step by this line. It has so many first terms that no line
+/// divides.
 pub(crate) fn go_on<F: Field, O: MonoOrder>(
     alloc: Global,
     lines: &[Line<F, O>],
     index: &Index,
+    table: &mut Table<F, O>,
     rest: (Poly<F, O>, usize),
     line: usize,
     parts: &mut Record<F>,
@@ -312,6 +330,8 @@ pub(crate) fn go_on<F: Field, O: MonoOrder>(
     requires index { IsIndexOf F.ORDER O.cmp (polys_of lines.now) index.now }
     requires line { line < length lines.now }
     requires irreducible { AreIrreducible F.ORDER O.cmp (polys_of lines.now) rest.0 rest.1 }
+    requires table { AreMultiplesOf F.ORDER (polys_of lines.now) table.old.1 }
+    ensures table { AreMultiplesOf F.ORDER (polys_of lines.now) table.new.1 }
     ensures continues { IfOk result (λ r. Continues F.ORDER O.cmp (polys_of lines.now)
         rest.0 parts.old meter.old r.0 parts.new meter.new) }
     ensures irreducible { IfOk result (λ r. AreIrreducible F.ORDER O.cmp (polys_of lines.now) r.0 r.1) }
@@ -320,8 +340,9 @@ pub(crate) fn go_on<F: Field, O: MonoOrder>(
     ensures bound { OnErr result (StaysBounded F.ORDER O.cmp (polys_of lines.now) rest.0 parts.old meter.old
         meter.new) }
 {
-    if !is_long(rest.0.len().saturating_sub(rest.1), lines[line].poly.len()) {
+    let terms = rest.0.len().saturating_sub(rest.1);
+    let Some(left) = left::begun(alloc, table, &rest.0, terms, lines[line].poly.len())? else {
         return Ok(rest);
-    }
-    reduce_long(alloc, lines, index, &rest.0, parts, meter)
+    };
+    reduce_in_place(alloc, lines, index, table, left, &rest.0, parts, meter)
 }

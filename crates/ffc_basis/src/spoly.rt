@@ -3,6 +3,7 @@ ghost use Rattle.std.specs.Prelude.{◌≡◌, ◌≢◌, ◌<◌, [], length, g
 ghost use Rattle.ffc_base.specs.Metering.{Metered};
 ghost use Rattle.ffc_ring.specs.Monomial.{degree, mono_lcm};
 ghost use Rattle.ffc_ring.specs.Polynomial.{SamePolynomial, scaled, term_product, difference};
+ghost use Rattle.ffc_dense.specs.Tables.{AreMultiplesOf};
 ghost use Rattle.ffc_basis.specs.Indexing.{IsIndexOf};
 ghost use Rattle.ffc_basis.specs.Lines.{polys_of};
 ghost use Rattle.ffc_basis.specs.Reduction.{IsRecorded, IsReduced, IsStopped};
@@ -17,6 +18,7 @@ use crate::line::{Line, LineId};
 use crate::record::Record;
 use crate::reduction::{Recorded, Step, multiple_of, past_limit, reduce_recorded};
 use ffc_base::{Meter, Stop};
+use ffc_dense::Table;
 use ffc_field::Field;
 use ffc_mono::{Mono, MonoOrder, MonoRef, MonoStop};
 use ffc_poly::{Poly, PolyStop};
@@ -245,6 +247,7 @@ pub(crate) fn reduce_pair<F: Field, O: MonoOrder>(
     alloc: Global,
     lines: &[Line<F, O>],
     index: &Index,
+    table: &mut Table<F, O>,
     i: usize,
     j: usize,
     meter: &mut Meter,
@@ -252,6 +255,8 @@ pub(crate) fn reduce_pair<F: Field, O: MonoOrder>(
     requires index { IsIndexOf F.ORDER O.cmp (polys_of lines.now) index.now }
     requires first { i < length lines.now }
     requires second { j < length lines.now }
+    requires table { AreMultiplesOf F.ORDER (polys_of lines.now) table.old.1 }
+    ensures table { AreMultiplesOf F.ORDER (polys_of lines.now) table.new.1 }
     ensures outcome { IfOk result (IsOutcome F.ORDER O.cmp (polys_of lines.now) i j) }
     ensures metered { Metered Stop.Spent result meter.old meter.new }
     ensures takes { TakesReductions meter.old meter.new }
@@ -268,7 +273,7 @@ pub(crate) fn reduce_pair<F: Field, O: MonoOrder>(
     let Some(spoly) = found else {
         return Ok(Outcome::Closed);
     };
-    let recorded = reduce_recorded(alloc, lines, index, &spoly.poly, meter)?;
+    let recorded = reduce_recorded(alloc, lines, index, table, &spoly.poly, meter)?;
     let outcome = outcome_of(lines, i, j, &spoly, recorded)?;
     Ok(outcome)
 }

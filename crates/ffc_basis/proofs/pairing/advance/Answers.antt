@@ -95,6 +95,7 @@ loop-lines-preserved g c =
     let ls = c.treat.new.lines.items in
     record {
       index = c.treat.ensures.index;
+      table = c.treat.ensures.table;
       front = front_both p cmp c.args.lines.now.items c.loop-lines.lines.items ls c.loop-lines.invariant.front c.treat.ensures.front;
       lines = c.treat.ensures.lines;
       pairs = subst (λ xs. ArePairs p cmp (polys_of xs) c.pair_lines-in-loop-lines.new.pairing.records.items c.pair_lines-in-loop-lines.new.pairing.paired) c.as_slice-in-loop-lines-6.ensures.value c.pair_lines-in-loop-lines.ensures.pairs;

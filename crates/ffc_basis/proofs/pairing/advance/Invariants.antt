@@ -1,4 +1,5 @@
 use Rattle.std.proofs.Common.{◌≡◌, ◌+◌, ◌-◌, length}
+use Rattle.ffc_dense.specs.Tables.{AreMultiplesOf}
 use Rattle.ffc_basis.specs.Indexing.{IsIndexOf}
 use Rattle.ffc_basis.specs.Lines.{polys_of, AreLines}
 use Rattle.ffc_basis.specs.Completed.{IsFront}
@@ -9,6 +10,7 @@ use Rattle.ffc_basis.proofs.pairing.advance.Given as goal
 abbrev pub invariant-loop-lines : goal.invariant-loop-lines
 invariant-loop-lines g l = record {
   index : IsIndexOf g.F.Field.ORDER g.O.MonoOrder.cmp (polys_of l.lines.items) l.index;
+  table : AreMultiplesOf g.F.Field.ORDER (polys_of l.lines.items) l.table.1;
   front : IsFront g.F.Field.ORDER g.O.MonoOrder.cmp l.fn.lines.items l.lines.items;
   lines : AreLines g.F.Field.ORDER l.lines.items;
   pairs : ArePairs g.F.Field.ORDER g.O.MonoOrder.cmp (polys_of l.lines.items) l.pairing.records.items l.pairing.paired;

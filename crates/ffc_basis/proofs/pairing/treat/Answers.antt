@@ -1,10 +1,12 @@
 use Rattle.std.proofs.Common.{List, length, sym, ap, subst, arith}
 use Rattle.ffc_basis.specs.declared.line.Line.{Line}
+use Rattle.ffc_dense.specs.Tables.{AreMultiplesOf}
 use Rattle.ffc_basis.specs.PairTable.{AreRecords}
 use Rattle.ffc_basis.specs.Units.{IsPairBound}
 use Rattle.ffc_basis.proofs.BoundLemmas.{one_pair, no_pairs}
 use Rattle.ffc_basis.specs.Lines.{polys_of, AreLists}
 use Rattle.ffc_basis.proofs.FewLemmas.{pending_within}
+use Rattle.ffc_basis.proofs.KeptLemmas.{multiples_in_front}
 use Rattle.ffc_basis.proofs.Lists.{length-polys}
 use Rattle.ffc_basis.proofs.PairTableLemmas.{record_is}
 use Rattle.ffc_basis.proofs.pairing.treat.Goals as goal
@@ -65,3 +67,21 @@ outcome_of-requires-clause-records g c =
 pub outcome_of-requires-clause-lists : goal.outcome_of-requires-clause-lists
 outcome_of-requires-clause-lists g c =
     subst (λ (ls : List (Line g.row.F.Denot g.row.O.Denot)). AreLists (polys_of ls)) (sym c.as_slice.ensures.value) c.requires.pairs.lists
+
+pub outcome_of-requires-clause-table : goal.outcome_of-requires-clause-table
+outcome_of-requires-clause-table g c =
+    subst (λ (ls : List (Line g.row.F.Denot g.row.O.Denot)). AreMultiplesOf g.F.Field.ORDER (polys_of ls) c.args.table.now.1) (sym c.as_slice.ensures.value) c.requires.table
+
+pub returns-in_err-outcome-clause-table : goal.returns-in_err-outcome-clause-table
+returns-in_err-outcome-clause-table g c =
+    subst (λ (ls : List (Line g.row.F.Denot g.row.O.Denot)). AreMultiplesOf g.F.Field.ORDER (polys_of ls) c.outcome_of.new.table.1) c.as_slice.ensures.value c.outcome_of.ensures.table
+
+pub returns-in_err-settle-clause-table : goal.returns-in_err-settle-clause-table
+returns-in_err-settle-clause-table g c =
+    multiples_in_front g.F.Field.ORDER g.O.MonoOrder.cmp c.args.lines.now.items c.settle.new.lines.items c.outcome_of.new.table.1 c.settle.ensures.front
+    (subst (λ (ls : List (Line g.row.F.Denot g.row.O.Denot)). AreMultiplesOf g.F.Field.ORDER (polys_of ls) c.outcome_of.new.table.1) c.as_slice.ensures.value c.outcome_of.ensures.table)
+
+pub returns-clause-table : goal.returns-clause-table
+returns-clause-table g c =
+    multiples_in_front g.F.Field.ORDER g.O.MonoOrder.cmp c.args.lines.now.items c.settle.new.lines.items c.outcome_of.new.table.1 c.settle.ensures.front
+    (subst (λ (ls : List (Line g.row.F.Denot g.row.O.Denot)). AreMultiplesOf g.F.Field.ORDER (polys_of ls) c.outcome_of.new.table.1) c.as_slice.ensures.value c.outcome_of.ensures.table)

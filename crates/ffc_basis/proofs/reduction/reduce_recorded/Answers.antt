@@ -18,6 +18,7 @@ loop-place-init g c = record {
   reduction = reduction_begins g.F.Field.ORDER g.met.F.Field.prime g.O.MonoOrder.cmp g.met.O.MonoOrder.laws DEGREE_LIMIT (polys_of c.args.lines.now)
       c.args.poly.now c.in_ok-rest.rest c.new-parts.result c.len-length.ensures.ordered (c.len-length.ensures.ordered, omega (arith, c.len-length.ensures.value, c.len-length.ensures.fits)) c.in_ok-rest.ensures.cases c.new-parts.ensures;
   irreducible = λ j h i w d n lead divides. absurd (omega arith);
+  table = c.requires.table;
   takes = takes_nothing c.args.meter.now;
   counted = counted_begins g.F.Field.ORDER g.O.MonoOrder.cmp (polys_of c.args.lines.now) c.args.poly.now c.in_ok-rest.rest c.args.meter.now c.in_ok-rest.ensures.cases;
 }
@@ -42,6 +43,7 @@ loop-place-preserved-in_default g c =
                 subst (λ x. IsIrreducible p cmp gs (get_or rest x (0, [])).1) (sym here) (subst (IsIrreducible p cmp gs) c.term-c.ensures.monomial none)
             | inr other ↦ c.loop-place.invariant.irreducible j (omega arith)
           ];
+      table = c.loop-place.invariant.table;
       takes = c.loop-place.invariant.takes;
       counted = c.loop-place.invariant.counted;
     }
@@ -71,6 +73,7 @@ loop-place-preserved-in_ok-further-in-Ok g c =
       reduction = ends_underway p cmp gs poly c.in_ok-further-in-Ok.further.0 c.go_on.new.parts c.args.meter.now c.go_on.new.meter after
           (c.len-new_length.ensures.ordered, omega (arith, c.len-new_length.ensures.value, c.len-new_length.ensures.fits));
       irreducible = c.in_ok-further-in-Ok.ensures.irreducible;
+      table = c.go_on.ensures.table;
       takes = takes_both c.args.meter.now c.take.new.self c.go_on.new.meter (takes_next c.args.meter.now c.loop-place.meter c.take.new.self c.loop-place.invariant.takes c.in_ok-take.ensures.taken) c.go_on.ensures.takes;
       counted = after.counted;
     }
@@ -100,6 +103,7 @@ loop-place-preserved g c =
       reduction = ends_underway p cmp gs poly c.in_ok-further-in-Ok.further.0 c.go_on.new.parts c.args.meter.now c.go_on.new.meter after
           (c.len-new_length.ensures.ordered, omega (arith, c.len-new_length.ensures.value, c.len-new_length.ensures.fits));
       irreducible = c.in_ok-further-in-Ok.ensures.irreducible;
+      table = c.go_on.ensures.table;
       takes = takes_both c.args.meter.now c.take.new.self c.go_on.new.meter (takes_next c.args.meter.now c.loop-place.meter c.take.new.self c.loop-place.invariant.takes c.in_ok-take.ensures.taken) c.go_on.ensures.takes;
       counted = after.counted;
     }

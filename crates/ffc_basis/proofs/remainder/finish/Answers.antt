@@ -10,8 +10,8 @@ use Rattle.ffc_basis.proofs.remainder.finish.Goals as goal
 pub returns-in-None-clause-split : goal.returns-in-None-clause-split
 returns-in-None-clause-split g c =
     let p = g.F.Field.ORDER in
-    let old : Terms = c.args.rest.now.left in
-    let new : Terms = c.take_lead.new.self in
+    let old : Terms = c.args.rest.now.left.0 in
+    let new : Terms = c.take_lead.new.self.0 in
     let gone : SamePolynomial p new [] =
     subst (λ o. MatchOption o (SamePolynomial p new []) (λ t. SamePolynomial p old ((g.F.Field.value t.0, t.1) ∷ new))) c.in-None.is c.in_ok-take_lead.ensures.rest in
     let none : SamePolynomial p old [] = c.in_ok-take_lead.ensures.zero.0 (ap is_some c.in-None.is) in
@@ -20,8 +20,8 @@ returns-in-None-clause-split g c =
 pub returns-in-None-clause-same : goal.returns-in-None-clause-same
 returns-in-None-clause-same g c =
     let p = g.F.Field.ORDER in
-    let old : Terms = c.args.rest.now.left in
-    let new : Terms = c.take_lead.new.self in
+    let old : Terms = c.args.rest.now.left.0 in
+    let new : Terms = c.take_lead.new.self.0 in
     let gone : SamePolynomial p new [] =
     subst (λ o. MatchOption o (SamePolynomial p new []) (λ t. SamePolynomial p old ((g.F.Field.value t.0, t.1) ∷ new))) c.in-None.is c.in_ok-take_lead.ensures.rest in
     let none : SamePolynomial p old [] = c.in_ok-take_lead.ensures.zero.0 (ap is_some c.in-None.is) in
@@ -32,8 +32,8 @@ returns-in_ok-push-in-Some-clause-split g c =
     let p = g.F.Field.ORDER in
     let value = g.F.Field.value in
     let cmp = g.O.MonoOrder.cmp in
-    let old : Terms = c.args.rest.now.left in
-    let new : Terms = c.take_lead.new.self in
+    let old : Terms = c.args.rest.now.left.0 in
+    let new : Terms = c.take_lead.new.self.0 in
     let most = c.args.rest.now.most in
     let m : Monomial = c.in-Some.lead.1 in
     let leads : IsLeading p cmp old (value c.in-Some.lead.0) m = subst (λ o. IfSome o (λ t. IsLeading p cmp old (value t.0) t.1)) c.in-Some.is c.in_ok-take_lead.ensures.leading in
@@ -46,8 +46,8 @@ pub returns-in_ok-push-in-Some-clause-same : goal.returns-in_ok-push-in-Some-cla
 returns-in_ok-push-in-Some-clause-same g c =
     let p = g.F.Field.ORDER in
     let value = g.F.Field.value in
-    let old : Terms = c.args.rest.now.left in
-    let new : Terms = c.take_lead.new.self in
+    let old : Terms = c.args.rest.now.left.0 in
+    let new : Terms = c.take_lead.new.self.0 in
     let front : Terms = front_of value c.args.rest.now in
     let m : Monomial = c.in-Some.lead.1 in
     let rest : SamePolynomial p old ((value c.in-Some.lead.0, m) ∷ new) =
@@ -60,7 +60,7 @@ returns-in_ok-push-in-Some-clause-reduced g c = λ gs all reduced.
     let p = g.F.Field.ORDER in
     let value = g.F.Field.value in
     let cmp = g.O.MonoOrder.cmp in
-    let old : Terms = c.args.rest.now.left in
+    let old : Terms = c.args.rest.now.left.0 in
     let m : Monomial = c.in-Some.lead.1 in
     let leads : IsLeading p cmp old (value c.in-Some.lead.0) m = subst (λ o. IfSome o (λ t. IsLeading p cmp old (value t.0) t.1)) c.in-Some.is c.in_ok-take_lead.ensures.leading in
     subst (IsReduced p cmp gs) (sym (front_pushed value c.args.rest.now.finished.items c.push.new.self.items c.in-Some.lead c.in_ok-push-in-Some.ensures.items))

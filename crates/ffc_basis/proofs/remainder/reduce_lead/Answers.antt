@@ -2,6 +2,7 @@ use Rattle.std.proofs.Common.{◌++◌, IfSome, IfNone, refl, sym, ◌∙◌, su
 use Rattle.ffc_ring.specs.Monomial.{Monomial}
 use Rattle.ffc_ring.specs.Polynomial.{Terms}
 use Rattle.ffc_mono.specs.Leading.{IsLeading}
+use Rattle.ffc_dense.specs.Tables.{AreMultiplesOf}
 use Rattle.ffc_basis.specs.Lines.{Parts, polys_of}
 use Rattle.ffc_basis.specs.Reduction.{IsIrreducible, IsReduced, IsStep}
 use Rattle.ffc_basis.specs.Remainders.{front_of, whole_of}
@@ -11,22 +12,25 @@ use Rattle.ffc_basis.proofs.remainder.reduce_lead.Goals as goal
 
 pub returns-in_default-clause-split : goal.returns-in_default-clause-split
 returns-in_default-clause-split g c =
-    split_same g.F.Field.ORDER g.met.F.Field.prime g.O.MonoOrder.cmp g.met.O.MonoOrder.laws (front_of g.F.Field.value c.args.rest.now) c.args.rest.now.left c.lead.new.self c.args.rest.now.most c.lead.ensures.same c.requires.split
+    split_same g.F.Field.ORDER g.met.F.Field.prime g.O.MonoOrder.cmp g.met.O.MonoOrder.laws (front_of g.F.Field.value c.args.rest.now) c.args.rest.now.left.0 c.lead.new.self.0 c.args.rest.now.most c.lead.ensures.same c.requires.split
 
 pub returns-in_default-clause-continues : goal.returns-in_default-clause-continues
 returns-in_default-clause-continues g c =
     let p = g.F.Field.ORDER in
     let cmp = g.O.MonoOrder.cmp in
     let front : Terms = front_of g.F.Field.value c.args.rest.now in
-    let left : Terms = c.args.rest.now.left in
-    let new : Terms = c.lead.new.self in
+    let left : Terms = c.args.rest.now.left.0 in
+    let new : Terms = c.lead.new.self.0 in
     let items : Parts = c.args.parts.now in
     continues_same p cmp (polys_of c.args.lines.now) (front ++ left) (front ++ new) items items c.args.meter.now c.args.meter.now
     (λ n. sym (whole_same p g.met.F.Field.prime cmp g.met.O.MonoOrder.laws front left new c.lead.ensures.same n)) refl refl
 
+pub returns-in_default-clause-multiples : goal.returns-in_default-clause-multiples
+returns-in_default-clause-multiples g c = subst (AreMultiplesOf g.F.Field.ORDER (polys_of c.args.lines.now)) (sym c.lead.ensures.multiples) c.requires.multiples
+
 pub finish-requires : goal.finish-requires
 finish-requires g c =
-    split_same g.F.Field.ORDER g.met.F.Field.prime g.O.MonoOrder.cmp g.met.O.MonoOrder.laws (front_of g.F.Field.value c.args.rest.now) c.args.rest.now.left c.lead.new.self c.args.rest.now.most c.lead.ensures.same c.requires.split
+    split_same g.F.Field.ORDER g.met.F.Field.prime g.O.MonoOrder.cmp g.met.O.MonoOrder.laws (front_of g.F.Field.value c.args.rest.now) c.args.rest.now.left.0 c.lead.new.self.0 c.args.rest.now.most c.lead.ensures.same c.requires.split
 
 pub returns-in-None-clause-reduced : goal.returns-in-None-clause-reduced
 returns-in-None-clause-reduced g c =
@@ -34,8 +38,8 @@ returns-in-None-clause-reduced g c =
     let cmp = g.O.MonoOrder.cmp in
     let value = g.F.Field.value in
     let gs = polys_of c.args.lines.now in
-    let left : Terms = c.args.rest.now.left in
-    let new : Terms = c.lead.new.self in
+    let left : Terms = c.args.rest.now.left.0 in
+    let new : Terms = c.lead.new.self.0 in
     let m : Monomial = c.in-Some.first.1 in
     let leads : IsLeading p cmp left (value c.in-Some.first.0) m = subst (λ o. IfSome o (λ t. IsLeading p cmp left (value t.0) t.1)) c.in-Some.is c.in_ok-first.ensures.leading in
     let none : IsIrreducible p cmp gs m =
@@ -49,15 +53,22 @@ returns-in-None-clause-continues g c =
     let p = g.F.Field.ORDER in
     let cmp = g.O.MonoOrder.cmp in
     let front : Terms = front_of g.F.Field.value c.args.rest.now in
-    let left : Terms = c.args.rest.now.left in
-    let new : Terms = c.lead.new.self in
+    let left : Terms = c.args.rest.now.left.0 in
+    let new : Terms = c.lead.new.self.0 in
     let items : Parts = c.args.parts.now in
     continues_same p cmp (polys_of c.args.lines.now) (front ++ left) (whole_of g.F.Field.value c.finish.new.rest) items items c.args.meter.now c.args.meter.now
     (λ n. sym (c.in_ok-finish-in-None.ensures.same n ∙ whole_same p g.met.F.Field.prime cmp g.met.O.MonoOrder.laws front left new c.lead.ensures.same n)) refl refl
 
+pub returns-in-None-clause-multiples : goal.returns-in-None-clause-multiples
+returns-in-None-clause-multiples g c =
+    subst (AreMultiplesOf g.F.Field.ORDER (polys_of c.args.lines.now)) (sym (c.finish.ensures.multiples ∙ c.lead.ensures.multiples)) c.requires.multiples
+
+pub cancel_lead-requires-clause-multiples : goal.cancel_lead-requires-clause-multiples
+cancel_lead-requires-clause-multiples g c = subst (AreMultiplesOf g.F.Field.ORDER (polys_of c.args.lines.now)) (sym c.lead.ensures.multiples) c.requires.multiples
+
 pub cancel_lead-requires-clause-split : goal.cancel_lead-requires-clause-split
 cancel_lead-requires-clause-split g c =
-    split_same g.F.Field.ORDER g.met.F.Field.prime g.O.MonoOrder.cmp g.met.O.MonoOrder.laws (front_of g.F.Field.value c.args.rest.now) c.args.rest.now.left c.lead.new.self c.args.rest.now.most c.lead.ensures.same c.requires.split
+    split_same g.F.Field.ORDER g.met.F.Field.prime g.O.MonoOrder.cmp g.met.O.MonoOrder.laws (front_of g.F.Field.value c.args.rest.now) c.args.rest.now.left.0 c.lead.new.self.0 c.args.rest.now.most c.lead.ensures.same c.requires.split
 
 pub cancel_lead-requires-clause-step : goal.cancel_lead-requires-clause-step
 cancel_lead-requires-clause-step g c =
@@ -65,8 +76,8 @@ cancel_lead-requires-clause-step g c =
     let cmp = g.O.MonoOrder.cmp in
     let value = g.F.Field.value in
     let gs = polys_of c.args.lines.now in
-    let left : Terms = c.args.rest.now.left in
-    let new : Terms = c.lead.new.self in
+    let left : Terms = c.args.rest.now.left.0 in
+    let new : Terms = c.lead.new.self.0 in
     let m : Monomial = c.in-Some.first.1 in
     let step = c.in-Some-2.step in
     let leads : IsLeading p cmp left (value c.in-Some.first.0) m = subst (λ o. IfSome o (λ t. IsLeading p cmp left (value t.0) t.1)) c.in-Some.is c.in_ok-first.ensures.leading in
@@ -85,8 +96,8 @@ returns-clause-continues g c =
     let cmp = g.O.MonoOrder.cmp in
     let gs = polys_of c.args.lines.now in
     let front : Terms = front_of g.F.Field.value c.args.rest.now in
-    let left : Terms = c.args.rest.now.left in
-    let new : Terms = c.lead.new.self in
+    let left : Terms = c.args.rest.now.left.0 in
+    let new : Terms = c.lead.new.self.0 in
     let items : Parts = c.args.parts.now in
     let same = continues_same p cmp gs (front ++ left) (front ++ new) items items c.args.meter.now c.args.meter.now
     (λ n. sym (whole_same p g.met.F.Field.prime cmp g.met.O.MonoOrder.laws front left new c.lead.ensures.same n)) refl refl in

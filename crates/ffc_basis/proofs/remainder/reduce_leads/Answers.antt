@@ -10,6 +10,7 @@ loop-init g c = record {
   split = c.requires.split;
   reduced = c.requires.reduced;
   continues = λ poly old h. h;
+  multiples = c.requires.multiples;
   takes = takes_nothing c.args.meter.now;
 }
 
@@ -18,6 +19,7 @@ loop-preserved g c = record {
   split = c.in_ok-reduce_lead.ensures.split;
   reduced = c.in_ok-reduce_lead.ensures.reduced;
   continues = λ poly old h. c.in_ok-reduce_lead.ensures.continues poly old (c.loop.invariant.continues poly old h);
+  multiples = c.in_ok-reduce_lead.ensures.multiples;
   takes = takes_both c.args.meter.now c.loop.meter c.reduce_lead.new.meter c.loop.invariant.takes c.reduce_lead.ensures.takes;
 }
 

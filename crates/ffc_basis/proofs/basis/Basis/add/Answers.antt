@@ -1,8 +1,10 @@
 use Rattle.std.proofs.Common.{◌≡◌, take, sym, ap, ◌∙◌, subst}
+use Rattle.ffc_dense.specs.Tables.{AreMultiplesOf}
 use Rattle.ffc_basis.specs.Indexing.{IsIndexOf}
 use Rattle.ffc_basis.specs.Lines.{polys_of, AreLines}
 use Rattle.ffc_basis.specs.PairTable.{ArePairs}
 use Rattle.ffc_basis.proofs.AddedLemmas.{pairs_added, polys-take}
+use Rattle.ffc_basis.proofs.KeptLemmas.{multiples_appended}
 use Rattle.ffc_basis.proofs.LineLemmas.{added_lines}
 use Rattle.ffc_basis.proofs.basis.Basis.add.Goals as goal
 
@@ -15,6 +17,7 @@ invariant_of-self g c =
       pairs_added g.F.Field.ORDER g.O.MonoOrder.cmp old new gens c.self.inside.pairing.records.items c.self.inside.pairing.paired c.in-Ok.ensures.added (c.append_generators.ensures.lists c.self.invariant.1.lists) c.self.invariant.1,
       c.self.invariant.2,
       c.append_generators.ensures.index c.self.invariant.3,
+      multiples_appended g.F.Field.ORDER old new c.in-Ok.ensures.added.0 c.self.inside.table.1 c.in-Ok.ensures.added.1 c.self.invariant.4,
     )
 
 pub invariant_of-self-in-Err : goal.invariant_of-self-in-Err
@@ -33,4 +36,5 @@ invariant_of-self-in-Err g c =
       c.self.invariant.2,
       subst (λ gs. IsIndexOf p cmp gs c.cut.new.self)
           (ap (λ ls. take count (polys_of ls)) c.deref.ensures.value ∙ sym (polys-take count appended) ∙ ap polys_of (sym c.truncate.ensures.items)) indexed,
+      subst (λ ls. AreMultiplesOf p (polys_of ls) c.self.inside.table.1) (sym same) c.self.invariant.4,
     )

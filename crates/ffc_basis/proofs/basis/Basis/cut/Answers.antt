@@ -1,4 +1,5 @@
 use Rattle.std.proofs.Common.{length, take, sym, ap, ◌∙◌, subst, arith}
+use Rattle.ffc_dense.specs.Tables.{AreMultiplesOf}
 use Rattle.ffc_basis.specs.Indexing.{IsIndexOf}
 use Rattle.ffc_basis.specs.Lines.{AreLines, polys_of}
 use Rattle.ffc_basis.proofs.AddedLemmas.{pairs_dropped, polys-take}
@@ -17,4 +18,6 @@ invariant_of-self g c =
       subst (λ gs. IsIndexOf p g.O.MonoOrder.cmp gs c.cut.new.self)
           (ap (λ ls. take c.args.len (polys_of ls)) c.deref.ensures.value ∙ sym (polys-take c.args.len c.self.inside.lines.items) ∙ ap polys_of (sym c.truncate.ensures.items))
           (c.cut.ensures (subst (λ ls. IsIndexOf p g.O.MonoOrder.cmp (polys_of ls) c.self.inside.index) (sym c.deref.ensures.value) c.self.invariant.3)),
+      subst (λ gs. AreMultiplesOf p gs c.cut-3.new.self.1) (sym (polys-take c.args.len c.self.inside.lines.items) ∙ ap polys_of (sym c.truncate.ensures.items))
+          (c.cut-3.ensures.multiples (polys_of c.self.inside.lines.items) c.self.invariant.4),
     )

@@ -1,5 +1,6 @@
-use Rattle.std.proofs.Common.{◌≡◌, [], ◌++◌, ap, ◌∙◌, subst, arith, IfOk, IfNone, IfSome}
+use Rattle.std.proofs.Common.{◌≡◌, [], ◌++◌, sym, ap, ◌∙◌, subst, arith, IfOk, IfNone, IfSome}
 use Rattle.ffc_ring.specs.Polynomial.{SamePolynomial, coefficient, difference}
+use Rattle.ffc_dense.specs.Tables.{AreMultiplesOf}
 use Rattle.ffc_basis.specs.Completion.{ReducesToZero}
 use Rattle.ffc_basis.specs.Lines.{polys_of, combination}
 use Rattle.ffc_basis.specs.Reduction.{IsReduction, ArePartsAtMost, IsReduced, IsStopped}
@@ -45,3 +46,12 @@ returns-clause-reduced g c =
 pub returns-clause-over : goal.returns-clause-over
 returns-clause-over g c =
     subst (λ ls. IfOk c.reduce_by.result (λ r. IfSome r.over (λ t. IsStopped g.F.Field.ORDER g.O.MonoOrder.cmp (polys_of ls) r.rest r.parts.items t.0 t.1))) (c.as_slice.ensures.value ∙ c.self.view_is) c.reduce_by.ensures.over
+
+pub reduce_by-requires-clause-table : goal.reduce_by-requires-clause-table
+reduce_by-requires-clause-table g c =
+    subst (λ ls. AreMultiplesOf g.F.Field.ORDER (polys_of ls) c.self.inside.table.1) (sym c.as_slice.ensures.value) c.self.invariant.4
+
+pub invariant_of-self : goal.invariant_of-self
+invariant_of-self g c =
+    let multiples = subst (λ ls. AreMultiplesOf g.F.Field.ORDER (polys_of ls) c.reduce_by.new.table.1) c.as_slice.ensures.value c.reduce_by.ensures.table in
+    (c.self.invariant.0, c.self.invariant.1, c.self.invariant.2, c.self.invariant.3, multiples)
