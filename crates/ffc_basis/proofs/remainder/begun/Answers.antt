@@ -1,6 +1,5 @@
-use Rattle.std.proofs.Common.{[], ap, ◌∙◌, arith}
+use Rattle.std.proofs.Common.{ap, arith}
 use Rattle.ffc_poly.specs.Ordered.{residues}
-use Rattle.ffc_basis.specs.Remainders.{front_of}
 use Rattle.ffc_basis.proofs.SplitLemmas.{begins_split}
 use Rattle.ffc_basis.proofs.remainder.begun.Goals as goal
 

@@ -1,6 +1,6 @@
-use Rattle.std.proofs.Common.{◌≡◌, ◌<◌, ◌++◌, [], ◌∷◌, length, drop, get_or, sym, ap, ◌∙◌, subst, arith}
+use Rattle.std.proofs.Common.{◌≡◌, ◌<◌, ◌++◌, [], length, drop, get_or, sym, ap, ◌∙◌, arith}
 use Rattle.std.proofs.lemmas.List.{get_or-map}
-use Rattle.ffc_ring.specs.Polynomial.{Terms, SamePolynomial, coefficient}
+use Rattle.ffc_ring.specs.Polynomial.{Terms, coefficient}
 use Rattle.ffc_poly.specs.Ordered.{values_of, residues}
 use Rattle.ffc_dense.specs.Columns.{listed}
 use Rattle.ffc_dense.proofs.DenseLemmas.{one_taken, all_taken}

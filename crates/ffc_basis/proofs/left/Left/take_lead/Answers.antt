@@ -1,7 +1,7 @@
-use Rattle.std.proofs.Common.{◌≡◌, List, Option, IfOk, IfSome, IsNone, MatchOption, ◌↔◌, [], ◌∷◌, sym, ap, ◌∙◌, subst, false, IsTrue}
-use Rattle.ffc_ring.specs.Polynomial.{Terms, SamePolynomial, term_product, difference}
+use Rattle.std.proofs.Common.{List, IfOk, IfSome, IsNone, MatchOption, ◌↔◌, [], ◌∷◌, ap}
+use Rattle.ffc_ring.specs.Polynomial.{Terms, SamePolynomial}
 use Rattle.ffc_mono.specs.Leading.{IsLeading}
-use Rattle.ffc_dense.specs.Tables.{AreMultiplesOf, Multiple, IsLineOf}
+use Rattle.ffc_dense.specs.Tables.{Multiple}
 use Rattle.ffc_basis.proofs.KeptLemmas.{in_table, in_sum}
 use Rattle.ffc_basis.proofs.left.Left.take_lead.Goals as goal
 
