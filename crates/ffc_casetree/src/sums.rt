@@ -1,7 +1,7 @@
-//! Sums of multiples of lines, as lines of a tree.
+//! Sums of multiples of facts, as lines of a tree.
+use crate::facts::FactId;
 use crate::tree::Tree;
-use ffc_basis::LineId;
-use ffc_cert::{CertLine, Multiple, Sequence, Term};
+use ffc_cert::{Multiple, Sequence, Term};
 use std::alloc::{AllocError, Global};
 use std::mem;
 
@@ -9,7 +9,7 @@ use std::mem;
 /// a further line.
 const MOST_TERMS: usize = 512;
 
-/// A sum that is written, up to the last multiples of it.
+/// A sum that is recorded, up to the last multiples of it.
 #[derive(Drop)]
 struct Sum {
     alloc: Global,
@@ -27,33 +27,32 @@ impl Sum {
         }
     }
 
-    /// Adds a line times a factor.
-    fn add(&mut self, tree: &mut Tree, line: u32, factor: Vec<Term>) -> Result<(), AllocError> {
+    /// Adds a fact times a factor.
+    fn add(&mut self, tree: &mut Tree, fact: FactId, factor: Vec<Term>) -> Result<(), AllocError> {
         let mut piece = Vec::new(self.alloc);
         for term in factor {
             if self.terms >= MOST_TERMS {
-                self.append(line, mem::replace(&mut piece, Vec::new(self.alloc)))?;
+                self.append(fact, mem::replace(&mut piece, Vec::new(self.alloc)))?;
                 self.carry(tree)?;
             }
             piece.push(term)?;
             self.terms = self.terms.saturating_add(1);
         }
-        self.append(line, piece)
+        self.append(fact, piece)
     }
 
-    /// Appends a line times a piece of a factor, if that has a term.
-    fn append(&mut self, line: u32, piece: Vec<Term>) -> Result<(), AllocError> {
+    /// Appends a fact times a piece of a factor, if that has a term.
+    fn append(&mut self, fact: FactId, piece: Vec<Term>) -> Result<(), AllocError> {
         if !piece.is_empty() {
-            self.multiples.push((line, Sequence::from_vec(piece)))?;
+            self.multiples.push((fact, Sequence::from_vec(piece)))?;
         }
         Ok(())
     }
 
-    /// Writes the sum so far as a line, and goes on with this line.
+    /// Records the sum so far as a fact, and goes on with it.
     fn carry(&mut self, tree: &mut Tree) -> Result<(), AllocError> {
         let so_far = mem::replace(&mut self.multiples, Vec::new(self.alloc));
-        tree.write(CertLine::Combine(Sequence::from_vec(so_far)))?;
-        let number = tree.place(None)?;
+        let number = tree.add_sum(so_far)?;
         let mut one = Vec::new(self.alloc);
         one.push((1, Sequence::new(self.alloc)))?;
         self.terms = one.len();
@@ -61,18 +60,20 @@ impl Sum {
     }
 }
 
-/// Writes a sum of multiples of the tree's lines, in several lines of a certificate where it is long, and answers the number of
-/// the last one. Where `line` is given, that one is this line of the stack.
-pub fn write_sum(
+/// Records a sum of multiples of facts, as several facts where it is long, and answers the last one.
+pub fn record_sum(
     alloc: Global,
     tree: &mut Tree,
     multiples: Vec<Multiple>,
-    line: Option<LineId>,
-) -> Result<u32, AllocError> {
+) -> Result<FactId, AllocError> {
     let mut sum = Sum::new(alloc);
-    for (number, factor) in multiples {
-        sum.add(tree, number, factor.into_vec())?;
+    for (fact, factor) in multiples {
+        sum.add(tree, fact, factor.into_vec())?;
     }
-    tree.write(CertLine::Combine(Sequence::from_vec(sum.multiples)))?;
-    tree.place(line)
+    let Sum {
+        alloc: _,
+        multiples,
+        terms: _,
+    } = sum;
+    tree.add_sum(multiples)
 }

@@ -1,191 +1,281 @@
-//! The tree that is written, and the numbers that lines have in it.
-use ffc_basis::{Line, LineId};
+//! The facts and the closed branches of a tree, as a search finds them.
+use crate::facts::{BitSum, Fact, FactId, NO_FACT, PowerChain, Shown};
+use crate::nodes::{Node, NodeId};
+use ffc_basis::LineId;
 use ffc_bits::{Source, StepId};
-use ffc_cert::{CertLine, Sequence, Term};
-use ffc_field::Field;
-use ffc_mono::MonoOrder;
+use ffc_cert::{CertLine, Multiple, Sequence};
 use std::alloc::{AllocError, Global};
+use std::collections::BTreeSet;
 
-/// The line of the stack, and the derived one, that a line of a tree is.
+/// How much of a tree there was.
 #[derive(Clone, Copy)]
-struct Placed {
-    line: Option<LineId>,
-    step: Option<StepId>,
+pub struct Mark {
+    facts: usize,
+    nodes: usize,
 }
 
-/// The lines of a tree so far, and which lines stand on the present branch. On a branch the generators have the first
-/// numbers, and each further line the next one.
+/// A tree whose branches are closed from the innermost ones on. A fact belongs to the innermost case on which it rests, so
+/// branches that need the same fact share it.
 #[derive(Drop)]
 pub struct Tree {
-    written: Vec<CertLine>,
-    /// For each line of the present branch what it is; a power modulo a line is nothing else.
-    placed: Vec<Placed>,
-    /// For each line of the stack, its number on the present branch.
-    numbers: Vec<Option<u32>>,
+    pub(crate) facts: Vec<Fact>,
+    pub(crate) nodes: Vec<Node>,
+    /// For each line of the stack, the fact that it is.
+    lines: Vec<Option<FactId>>,
     /// And for each derived line.
-    step_numbers: Vec<Option<u32>>,
-    /// For each line of bits, its place among those that were written, and the variables that its last numbers are for.
-    sums: Vec<(usize, Vec<u32>)>,
+    steps: Vec<Option<FactId>>,
 }
 
 impl Tree {
-    /// The tree with nothing written, where the lines without parts are numbered.
-    pub fn begin<F: Field, O: MonoOrder>(
-        alloc: Global,
-        lines: &[Line<F, O>],
-    ) -> Result<Self, AllocError> {
-        let mut tree = Tree {
-            written: Vec::new(alloc),
-            placed: Vec::new(alloc),
-            numbers: Vec::new(alloc),
-            step_numbers: Vec::new(alloc),
-            sums: Vec::new(alloc),
-        };
-        for (i, line) in lines.iter().enumerate() {
-            if line.parts.is_empty() {
-                tree.place(Some(i as LineId))?;
-            }
-        }
-        Ok(tree)
-    }
-
-    /// The lines that were written, and for each line of bits among them the variables that its last numbers are for.
-    pub fn into_lines(self, alloc: Global) -> Result<(Vec<CertLine>, Vec<Vec<u32>>), AllocError> {
-        let Tree {
-            written,
-            placed: _,
-            numbers: _,
-            step_numbers: _,
-            sums,
-        } = self;
-        let mut variables = Vec::new(alloc);
-        for (_, sum) in sums {
-            variables.push(sum)?;
-        }
-        Ok((written, variables))
-    }
-
-    /// How many lines stand on the present branch.
-    pub fn len(&self) -> usize {
-        self.placed.len()
-    }
-
-    /// The number of a line of the stack on the present branch, if it stands there.
-    pub fn number_of(&self, line: LineId) -> Option<u32> {
-        match self.numbers.get(line as usize) {
-            Some(number) => *number,
-            None => None,
+    /// The tree with no facts. It takes no memory.
+    pub fn new(alloc: Global) -> Self {
+        Tree {
+            facts: Vec::new(alloc),
+            nodes: Vec::new(alloc),
+            lines: Vec::new(alloc),
+            steps: Vec::new(alloc),
         }
     }
 
-    /// The number of a line of the stack or a derived one.
-    pub fn number_at(&self, source: Source) -> Option<u32> {
-        match source {
-            Source::Line(line) => self.number_of(line),
-            Source::Step(step) => self.step_numbers.get(step).copied().flatten(),
-        }
-    }
-
-    /// Whether the last line of the present branch is this line of the stack.
-    pub fn ends_with(&self, line: LineId) -> bool {
-        match self.placed.last() {
-            Some(last) => last.line == Some(line),
-            None => false,
-        }
-    }
-
-    /// Numbers one more line of the present branch. A line past the numbers of a certificate has the number of another one, and
-    /// no such tree is accepted.
-    pub fn place(&mut self, line: Option<LineId>) -> Result<u32, AllocError> {
-        let number = u32::try_from(self.placed.len()).unwrap_or(u32::MAX);
-        self.placed.push(Placed { line, step: None })?;
+    /// Records a generator, which is this line of the stack, if it is one. Generators come before all other facts.
+    pub fn add_generator(&mut self, line: Option<LineId>) -> Result<FactId, AllocError> {
+        let number = self.push(Shown::Generator, None)?;
         if let Some(line) = line {
-            give_number(&mut self.numbers, line as usize, number)?;
+            self.note_line(number, line)?;
         }
         Ok(number)
     }
 
-    /// Notes that the last line of the present branch is this derived one, and a generator of the stack, where it was pushed.
-    pub fn note_step(&mut self, step: StepId, line: Option<LineId>) -> Result<(), AllocError> {
-        let Some(last) = self.placed.last_mut() else {
+    /// How much there is.
+    pub fn mark(&self) -> Mark {
+        Mark {
+            facts: self.facts.len(),
+            nodes: self.nodes.len(),
+        }
+    }
+
+    /// Drops what was recorded since there was so much.
+    pub fn cut(&mut self, mark: Mark) {
+        self.nodes.truncate(mark.nodes);
+        for _ in mark.facts..self.facts.len() {
+            self.drop_last();
+        }
+    }
+
+    /// Drops the last fact.
+    fn drop_last(&mut self) {
+        let Some(fact) = self.facts.pop() else {
+            return;
+        };
+        let number = u32::try_from(self.facts.len()).unwrap_or(NO_FACT);
+        if let Some(line) = fact.line {
+            take_number(&mut self.lines, line as usize, number);
+        }
+        if let Some(step) = fact.step {
+            take_number(&mut self.steps, step, number);
+        }
+    }
+
+    /// Forgets which facts the lines of the stack and the derived ones are from these numbers on.
+    pub fn forget(&mut self, lines: usize, steps: usize) {
+        self.lines.truncate(lines);
+        self.steps.truncate(steps);
+    }
+
+    /// The fact that a line of the stack is.
+    pub fn fact_of(&self, line: LineId) -> Option<FactId> {
+        self.lines.get(line as usize).copied().flatten()
+    }
+
+    /// The fact that a line of the stack or a derived one is.
+    pub fn fact_at(&self, source: Source) -> Option<FactId> {
+        match source {
+            Source::Line(line) => self.fact_of(line),
+            Source::Step(step) => self.steps.get(step).copied().flatten(),
+        }
+    }
+
+    /// Records the line of a case, which is this line of the stack.
+    pub fn open_case(&mut self, line: LineId) -> Result<FactId, AllocError> {
+        let number = u32::try_from(self.facts.len()).unwrap_or(NO_FACT);
+        self.push(Shown::Case, Some(number))?;
+        self.note_line(number, line)?;
+        Ok(number)
+    }
+
+    /// Records a sum of multiples of facts.
+    pub(crate) fn add_sum(&mut self, multiples: Vec<Multiple>) -> Result<FactId, AllocError> {
+        let mut case = None;
+        for multiple in multiples.as_slice() {
+            case = self.innermost(case, multiple.0);
+        }
+        self.push(Shown::Sum(multiples), case)
+    }
+
+    /// Records what follows from a sum of bits.
+    pub(crate) fn add_bits(&mut self, sum: BitSum) -> Result<FactId, AllocError> {
+        let mut case = self.innermost(None, sum.line);
+        for bit in sum.bits.as_slice() {
+            case = self.innermost(case, *bit);
+        }
+        self.push(Shown::Bits(sum), case)
+    }
+
+    /// Records the power of a variable modulo a fact in that variable alone, to the order of the field, less the variable.
+    pub fn add_chain(
+        &mut self,
+        line: FactId,
+        variable: u32,
+        steps: Vec<CertLine>,
+    ) -> Result<FactId, AllocError> {
+        let case = self.innermost(None, line);
+        let chain = PowerChain {
+            line,
+            variable,
+            steps,
+        };
+        self.push(Shown::Chain(chain), case)
+    }
+
+    /// The facts and the closed branches.
+    pub(crate) fn into_parts(self) -> (Vec<Fact>, Vec<Node>) {
+        let Tree {
+            facts,
+            nodes,
+            lines: _,
+            steps: _,
+        } = self;
+        (facts, nodes)
+    }
+
+    /// Notes that a fact is this line of the stack.
+    pub(crate) fn note_line(&mut self, number: FactId, line: LineId) -> Result<(), AllocError> {
+        if let Some(fact) = self.facts.get_mut(number as usize) {
+            fact.line = Some(line);
+        }
+        give_number(&mut self.lines, line as usize, number)
+    }
+
+    /// Notes that a fact is this derived line, and a line of the stack, where it was pushed.
+    pub fn note_step(
+        &mut self,
+        number: FactId,
+        step: StepId,
+        line: Option<LineId>,
+    ) -> Result<(), AllocError> {
+        if let Some(fact) = self.facts.get_mut(number as usize) {
+            fact.step = Some(step);
+        }
+        give_number(&mut self.steps, step, number)?;
+        match line {
+            Some(line) => self.note_line(number, line),
+            None => Ok(()),
+        }
+    }
+
+    /// Closes a branch by a fact that is a constant.
+    pub fn close(&mut self, fact: FactId) -> Result<NodeId, AllocError> {
+        self.add_node(Node::Close(fact))
+    }
+
+    /// The cases over all roots of a fact, each by its line and closed.
+    pub fn split(
+        &mut self,
+        fact: FactId,
+        variable: u32,
+        roots: Sequence<u64>,
+        cases: Vec<(FactId, NodeId)>,
+    ) -> Result<NodeId, AllocError> {
+        self.add_node(Node::Roots {
+            fact,
+            variable,
+            roots,
+            cases,
+        })
+    }
+
+    /// The cases over all values of a variable, each by its line and closed.
+    pub fn split_values(
+        &mut self,
+        variable: u32,
+        cases: Vec<(FactId, NodeId)>,
+    ) -> Result<NodeId, AllocError> {
+        self.add_node(Node::Values { variable, cases })
+    }
+
+    /// The lines of the cases on which a fact rests.
+    pub fn cases_under(&self, alloc: Global, fact: FactId) -> Result<BTreeSet<FactId>, AllocError> {
+        let mut cases = BTreeSet::new(alloc);
+        let mut open = BTreeSet::new(alloc);
+        open.insert(fact)?;
+        for _ in 0..u64::MAX {
+            let Some(number) = open.pop_last() else {
+                break;
+            };
+            self.add_cases(alloc, number, &mut open, &mut cases)?;
+        }
+        Ok(cases)
+    }
+
+    /// Adds a fact to the cases, if it is one, and else what it follows from to the open facts, if it rests on a case.
+    fn add_cases(
+        &self,
+        alloc: Global,
+        number: FactId,
+        open: &mut BTreeSet<FactId>,
+        cases: &mut BTreeSet<FactId>,
+    ) -> Result<(), AllocError> {
+        let Some(fact) = self.facts.get(number as usize) else {
             return Ok(());
         };
-        *last = Placed {
-            line,
-            step: Some(step),
-        };
-        let number = u32::try_from(self.placed.len().saturating_sub(1)).unwrap_or(u32::MAX);
-        give_number(&mut self.step_numbers, step, number)?;
-        if let Some(line) = line {
-            give_number(&mut self.numbers, line as usize, number)?;
+        if fact.case.is_none() {
+            return Ok(());
+        }
+        if fact.case == Some(number) {
+            cases.insert(number)?;
+            return Ok(());
+        }
+        for source in fact.shown.sources(alloc)? {
+            open.insert(source)?;
         }
         Ok(())
     }
 
-    /// Goes back to the first lines of the present branch.
-    pub fn cut(&mut self, len: usize) {
-        for _ in len..self.placed.len() {
-            if let Some(last) = self.placed.pop() {
-                if let Some(line) = last.line {
-                    take_number(&mut self.numbers, line as usize);
-                }
-                if let Some(step) = last.step {
-                    take_number(&mut self.step_numbers, step);
-                }
-            }
+    /// The inner one of a case and of the innermost one on which a fact rests: later cases are inner ones.
+    fn innermost(&self, case: Option<FactId>, number: FactId) -> Option<FactId> {
+        let other = self.facts.get(number as usize).and_then(|fact| fact.case);
+        match (case, other) {
+            (Some(case), Some(other)) => Some(case.max(other)),
+            (Some(case), None) => Some(case),
+            (None, other) => other,
         }
     }
 
-    /// How many lines were written.
-    pub fn written(&self) -> usize {
-        self.written.len()
+    /// Records a fact.
+    fn push(&mut self, shown: Shown, case: Option<FactId>) -> Result<FactId, AllocError> {
+        let number = u32::try_from(self.facts.len()).unwrap_or(NO_FACT);
+        self.facts.push(Fact {
+            shown,
+            case,
+            line: None,
+            step: None,
+        })?;
+        Ok(number)
     }
 
-    /// Takes back what was written after so many lines.
-    pub fn take_back(&mut self, written: usize) {
-        self.written.truncate(written);
-        for _ in 0..self.sums.len() {
-            match self.sums.last() {
-                Some(sum) if sum.0 >= written => {}
-                _ => break,
-            }
-            let _ = self.sums.pop();
-        }
-    }
-
-    /// Writes a line of bits: what is 0 where this line is, over the variables that are chosen. Each of these variables is a bit
-    /// by the line of the number beside it.
-    pub fn write_bits(
-        &mut self,
-        line: u32,
-        chosen: Vec<u32>,
-        polynomial: Sequence<Term>,
-        variables: Vec<u32>,
-        bits: Vec<u32>,
-    ) -> Result<(), AllocError> {
-        self.sums.push((self.written.len(), variables))?;
-        self.write(CertLine::Bits(
-            line,
-            Sequence::from_vec(chosen),
-            polynomial,
-            Sequence::from_vec(bits),
-        ))?;
-        let _ = self.place(None)?;
-        Ok(())
-    }
-
-    /// Writes a line that adds nothing to the branch.
-    pub fn write(&mut self, line: CertLine) -> Result<(), AllocError> {
-        self.written.push(line)?;
-        Ok(())
+    /// Adds a closed branch.
+    fn add_node(&mut self, node: Node) -> Result<NodeId, AllocError> {
+        let number = self.nodes.len();
+        self.nodes.push(node)?;
+        Ok(number)
     }
 }
 
 /// Notes a number.
 fn give_number(
-    numbers: &mut Vec<Option<u32>>,
+    numbers: &mut Vec<Option<FactId>>,
     place: usize,
-    number: u32,
+    number: FactId,
 ) -> Result<(), AllocError> {
     if numbers.len() <= place {
         numbers.resize(place.saturating_add(1), None)?;
@@ -196,9 +286,11 @@ fn give_number(
     Ok(())
 }
 
-/// Takes a number back.
-fn take_number(numbers: &mut Vec<Option<u32>>, place: usize) {
+/// Takes a number back, if it is still the one that is noted.
+fn take_number(numbers: &mut Vec<Option<FactId>>, place: usize, number: FactId) {
     if let Some(known) = numbers.get_mut(place) {
-        *known = None;
+        if *known == Some(number) {
+            *known = None;
+        }
     }
 }

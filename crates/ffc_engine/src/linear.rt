@@ -3,33 +3,30 @@
 use crate::fields::{Answer, Problem, charge, part_of_left};
 use ffc_affine::{Decision, System};
 use ffc_base::{Meter, SearchStop};
-use ffc_basis::Line;
-use ffc_casetree::{Tree, write_sum};
+use ffc_casetree::{Tree, record_sum};
 use ffc_cdcl::Lit;
-use ffc_cert::{CertLine, Multiple};
+use ffc_cert::Multiple;
 use ffc_circuit::{Generator, Ranking};
 use ffc_field::Field;
-use ffc_mono::GradedReverseLex;
 use std::alloc::{AllocError, Global};
 
 /// Of the units that are left, elimination takes at most one in this many where some equalities are not linear.
 const PARTS: u64 = 8;
 
 /// The tree that sums multiples of its first lines, which are those of these equalities, to a constant other than 0.
-fn closed_by<F: Field>(
+fn closed_by(
     alloc: Global,
     chosen: Vec<Lit>,
     ranking: Ranking,
     multiples: Vec<Multiple>,
 ) -> Result<Answer, AllocError> {
-    let no_lines: Vec<Line<F, GradedReverseLex>> = Vec::new(alloc);
-    let mut tree = Tree::begin(alloc, no_lines.as_slice())?;
+    let mut tree = Tree::new(alloc);
     for _ in 0..chosen.len() {
-        let _ = tree.place(None)?;
+        tree.add_generator(None)?;
     }
-    let _ = write_sum(alloc, &mut tree, multiples, None)?;
-    tree.write(CertLine::Close)?;
-    let (lines, sums) = tree.into_lines(alloc)?;
+    let constant = record_sum(alloc, &mut tree, multiples)?;
+    let root = tree.close(constant)?;
+    let (lines, sums) = tree.into_lines(alloc, root)?;
     Ok(Answer::Closed(chosen, ranking, lines, sums))
 }
 
@@ -50,7 +47,7 @@ impl Problem<'_> {
         match found {
             Ok(Some(Decision::Values(pairs))) => Ok(Some(Answer::Values(pairs))),
             Ok(Some(Decision::Refuted(chosen, ranking, multiples))) => {
-                let answer = closed_by::<F>(self.alloc, chosen, ranking, multiples)?;
+                let answer = closed_by(self.alloc, chosen, ranking, multiples)?;
                 Ok(Some(answer))
             }
             Ok(None) => Ok(None),

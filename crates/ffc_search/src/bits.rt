@@ -176,7 +176,9 @@ pub fn zero_by_bits<F: Field, O: MonoOrder>(
     if values.is_empty() {
         return Ok(None);
     }
-    Ok(zero_from(alloc, lines, vars, values.as_slice())?)
+    let bits = values.as_slice();
+    let found = zero_from(alloc, lines, vars, bits, &walk.differences)?;
+    Ok(found)
 }
 
 /// The line that says of a variable that it is a bit, to make cases by its roots.

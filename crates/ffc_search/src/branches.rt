@@ -1,67 +1,234 @@
 //! Branches: cases by the values of a variable, each a level of the stack.
-ghost use Rattle.std.specs.Prelude.{◌≡◌, ℕ, ◌<◌, vec_len};
+//!
+//! A branch that is closed rests on some of the cases that are open, and closes the innermost of them. The cases inside of that
+//! one are left, with all that was closed in them (backjumping; Marques-Silva and Sakallah 1999). When all cases of a variable
+//! are closed, the branch in which they were made is closed, and rests on what they rest on beside themselves.
+ghost use Rattle.std.specs.Prelude.{◌≡◌, ℕ};
 ghost use Rattle.ffc_base.specs.Metering.{Metered};
 ghost use Rattle.ffc_search.specs.Above.{StaysAbove, ComesDown};
 
+use crate::bitsums::BitLines;
+use crate::choosing::Candidate;
+use crate::differences::Differences;
+use crate::inverses::{Given, Inverse};
 use crate::points::less_root;
+use crate::roots::{Cases, record_product};
 use crate::weights::Weights;
 use ffc_base::{Meter, SearchStop};
-use ffc_basis::{LineId, Progress};
-use ffc_bits::{Derived, Reasoning};
-use ffc_casetree::{Tree, generators_of};
+use ffc_basis::{Line, LineId, Progress};
+use ffc_bits::{Derived, Reason, Reasoning, Source};
+use ffc_casetree::{FactId, Mark, NodeId, Tree, record, residues};
 use ffc_field::Field;
 use ffc_mono::MonoOrder;
 use ffc_poly::Poly;
 use ffc_stack::BasisStack;
 use std::alloc::{AllocError, Global};
+use std::collections::{BTreeMap, BTreeSet};
+
+/// Why cases are made.
+pub enum Cause<F: Field, O: MonoOrder> {
+    /// Their values are all roots of a polynomial.
+    Roots(Candidate<F, O>, Cases<F>),
+    /// Their values are all that there are.
+    All,
+    /// Their values are guesses.
+    Guesses,
+}
+
+impl<F: Field, O: MonoOrder> Drop for Cause<F, O> {
+    fn drop(self) {
+        match self {
+            Cause::Roots(_, _) => {}
+            Cause::All => {}
+            Cause::Guesses => {}
+        }
+    }
+}
+
+impl<F: Field, O: MonoOrder> Cause<F, O> {
+    /// The branch in which such cases of a variable were made, each closed, which rest on these cases beside themselves. It is
+    /// closed, unless the cases are guesses.
+    fn close(
+        self,
+        alloc: Global,
+        tree: &mut Tree,
+        lines: &[Line<F, O>],
+        derived: &Derived<F, O>,
+        variable: u32,
+        closed: Vec<(FactId, NodeId)>,
+        mut needs: BTreeSet<FactId>,
+    ) -> Result<Ended, AllocError> {
+        match self {
+            Cause::Guesses => Ok(Ended::GivenUp),
+            Cause::All => {
+                let node = tree.split_values(variable, closed)?;
+                Ok(Ended::Closed(node, needs))
+            }
+            Cause::Roots(candidate, cases) => {
+                let fact = record_product(alloc, tree, lines, derived, &candidate, &cases)?;
+                let mut under = tree.cases_under(alloc, fact)?;
+                needs.append(&mut under)?;
+                let roots = residues(alloc, cases.zeros.as_slice())?;
+                let node = tree.split(fact, variable, roots, closed)?;
+                Ok(Ended::Closed(node, needs))
+            }
+        }
+    }
+}
 
 /// Cases by the values of a variable, of which the first ones were opened.
-#[derive(Drop)]
-pub struct Branching<F: Field> {
+struct Branching<F: Field, O: MonoOrder> {
+    cause: Cause<F, O>,
     variable: u32,
     values: Vec<F>,
     /// How many cases were opened.
     opened: usize,
-    /// How many lines of the tree there were before the cases.
-    len: usize,
+    /// How much of the tree there was before the cases, and how many lines were derived.
+    mark: Mark,
+    derived: usize,
+    /// And how many changes of monomials.
+    changes: usize,
     /// The line of the case that is open.
-    line: LineId,
-    /// How many lines were written when it was opened, and whether each branch before was closed.
-    written: usize,
-    proving: bool,
+    case: FactId,
+    /// The cases that are closed, each by its line, and the cases outside on which they rest.
+    closed: Vec<(FactId, NodeId)>,
+    needs: BTreeSet<FactId>,
+    /// Whether a case was given up.
+    is_open: bool,
+}
+
+impl<F: Field, O: MonoOrder> Drop for Branching<F, O> {
+    fn drop(self) {
+        let Branching {
+            cause: _,
+            variable: _,
+            values: _,
+            opened: _,
+            mark: _,
+            derived: _,
+            changes: _,
+            case: _,
+            closed: _,
+            needs: _,
+            is_open: _,
+        } = self;
+    }
+}
+
+impl<F: Field, O: MonoOrder> Branching<F, O> {
+    /// Goes back from a branch that ended to these cases, whose open one it is or is in. The next case is to be opened, or the
+    /// branch in which the cases were made ended too.
+    fn go_back(
+        mut self,
+        alloc: Global,
+        tree: &mut Tree,
+        lines: &[Line<F, O>],
+        derived: &Derived<F, O>,
+        ended: Ended,
+    ) -> Result<Result<Self, Ended>, AllocError> {
+        match ended {
+            Ended::GivenUp => self.is_open = true,
+            Ended::Closed(node, mut needs) => {
+                if !needs.remove(&self.case) {
+                    return Ok(Err(Ended::Closed(node, needs)));
+                }
+                self.closed.push((self.case, node))?;
+                self.needs.append(&mut needs)?;
+            }
+        }
+        if self.opened < self.values.len() {
+            return Ok(Ok(self));
+        }
+        Ok(Err(self.end(alloc, tree, lines, derived)?))
+    }
+
+    /// How the branch ended in which the cases were made, which were all opened.
+    fn end(
+        self,
+        alloc: Global,
+        tree: &mut Tree,
+        lines: &[Line<F, O>],
+        derived: &Derived<F, O>,
+    ) -> Result<Ended, AllocError> {
+        let Branching {
+            cause,
+            variable,
+            values: _,
+            opened: _,
+            mark,
+            derived: _,
+            changes: _,
+            case: _,
+            closed,
+            needs,
+            is_open,
+        } = self;
+        let ended = if is_open {
+            Ended::GivenUp
+        } else {
+            cause.close(alloc, tree, lines, derived, variable, closed, needs)?
+        };
+        if matches!(ended, Ended::GivenUp) {
+            tree.cut(mark);
+        }
+        Ok(ended)
+    }
 }
 
 /// A level of the stack above those that were there before.
-#[derive(Drop)]
-enum Level<F: Field> {
-    Case(Branching<F>),
+enum Level<F: Field, O: MonoOrder> {
+    Case(Branching<F, O>),
     /// What equations of bits force. So many lines were derived before.
     Consequences(usize),
 }
 
-/// Levels that are left, and of those with consequences how many lines were derived before, if there are any.
-#[derive(Clone, Copy)]
-pub struct Left {
-    levels: usize,
-    derived: Option<usize>,
+impl<F: Field, O: MonoOrder> Drop for Level<F, O> {
+    fn drop(self) {
+        match self {
+            Level::Case(_) => {}
+            Level::Consequences(_) => {}
+        }
+    }
 }
 
-/// Where the search is: the levels that are open, the outermost first, and the tree that is written.
+impl<F: Field, O: MonoOrder> Level<F, O> {
+    /// The cases that it is one of, or how many lines were derived before its consequences.
+    fn into_case(self) -> Result<Branching<F, O>, usize> {
+        match self {
+            Level::Case(branching) => Ok(branching),
+            Level::Consequences(before) => Err(before),
+        }
+    }
+}
+
+/// How a branch ended.
+#[derive(Drop)]
+pub enum Ended {
+    /// It is closed, and rests on these cases.
+    Closed(NodeId, BTreeSet<FactId>),
+    GivenUp,
+}
+
+/// Where the search is: the levels that are open, the outermost first, and the tree so far.
 pub struct Walk<F: Field, O: MonoOrder> {
     pub tree: Tree,
     pub derived: Derived<F, O>,
+    /// The polynomials that are not 0, unless they are lines of the stack.
+    pub differences: Differences<F, O>,
+    /// The lines before all cases that say of variables that they are bits.
+    pub bits: BitLines,
+    /// How many lines there were before those of the innermost case.
+    pub fresh: usize,
     /// What is known of bits, where they are reasoned about.
     pub reasoning: Option<Reasoning>,
-    waiting: Vec<Level<F>>,
-    /// Whether each branch so far was closed, so that the tree is written on.
-    pub proving: bool,
+    waiting: Vec<Level<F, O>>,
+    /// The whole tree, once it is closed.
+    root: Option<NodeId>,
     /// Whether the equations of gates were added, and values of the bits tried.
     pub has_equations: bool,
     pub has_tried_bits: bool,
     /// How many units a branch is completed with.
     share: u64,
-    /// How many lines of the tree there are before all cases.
-    len: usize,
     pub weights: Weights,
 }
 
@@ -70,13 +237,15 @@ impl<F: Field, O: MonoOrder> Drop for Walk<F, O> {
         let Walk {
             tree: _,
             derived: _,
+            differences: _,
+            bits: _,
+            fresh: _,
             reasoning: _,
             has_equations: _,
             has_tried_bits: _,
             waiting: _,
-            proving: _,
+            root: _,
             share: _,
-            len: _,
             weights: _,
         } = self;
     }
@@ -100,90 +269,132 @@ pub fn pop_to<F: Field, O: MonoOrder>(stack: &mut BasisStack<F, O>, floor: u64)
     }
 }
 
-impl<F: Field> Level<F> {
-    /// Whether it is a case of which the line is among these.
-    fn is_case_of(&self, generators: &[LineId]) -> bool {
-        match self {
-            Level::Case(branching) => generators.contains(&branching.line),
-            Level::Consequences(_) => false,
-        }
-    }
-}
-
 impl<F: Field, O: MonoOrder> Walk<F, O> {
-    /// The walk with no case.
-    pub fn begin(alloc: Global, tree: Tree, share: u64, weights: Weights) -> Self {
-        Walk {
-            len: tree.len(),
-            tree,
+    /// The walk with no case, from these generators.
+    pub fn begin(
+        alloc: Global,
+        given: &Given<F, O>,
+        share: u64,
+        weights: Weights,
+    ) -> Result<Self, AllocError> {
+        let mut walk = Walk {
+            tree: Tree::new(alloc),
             derived: Derived::new(alloc),
+            differences: Differences::new(alloc),
+            bits: BTreeMap::new(alloc),
+            fresh: 0,
             reasoning: None,
             has_equations: false,
             has_tried_bits: false,
             waiting: Vec::new(alloc),
-            proving: true,
+            root: None,
             share,
             weights,
-        }
-    }
-
-    /// Adds to the weights of the cases on which a closed branch rests, and leaves the innermost levels but for such cases. They
-    /// are still on the stack.
-    fn leave_unneeded(&mut self, generators: &[LineId]) -> Result<Left, AllocError> {
-        for level in self.waiting.as_slice() {
-            if let Level::Case(branching) = level {
-                if generators.contains(&branching.line) {
-                    self.weights.add(branching.variable)?;
+        };
+        let mut inverses = given.inverses.iter();
+        for line in given.lines.as_slice() {
+            let fact = walk.tree.add_generator(*line)?;
+            if line.is_none() {
+                if let Some(inverse) = inverses.next() {
+                    walk.add_inverse(alloc, fact, inverse)?;
                 }
             }
         }
-        let count = self.waiting.len();
-        let mut derived = None;
-        while let Some(level) = self.waiting.last() {
-            if level.is_case_of(generators) {
-                break;
-            }
-            if let Level::Consequences(before) = level {
-                derived = Some(*before);
-            }
-            self.waiting.pop();
-        }
-        let levels = count.saturating_sub(self.waiting.len());
-        if levels > 0 {
-            self.go_back();
-        }
-        Ok(Left { levels, derived })
+        Ok(walk)
     }
 
-    /// Goes back in the tree to where the innermost case was opened.
-    fn go_back(&mut self) {
-        let mut last = (self.len, 0, true);
-        for level in self.waiting.as_slice() {
-            if let Level::Case(case) = level {
-                last = (case.len.saturating_add(1), case.written, case.proving);
-            }
-        }
-        let (len, written, proving) = last;
-        self.tree.cut(len);
-        self.tree.take_back(written);
-        self.proving = proving;
+    /// Adds a polynomial that is not 0, where this generator says so. As a derived line it has no reason: it is a fact already.
+    fn add_inverse(
+        &mut self,
+        alloc: Global,
+        generator: FactId,
+        inverse: &Inverse<F, O>,
+    ) -> Result<(), AllocError> {
+        let step = self.derived.push(Reason::Sum(Vec::new(alloc)), 0)?;
+        self.tree.note_step(generator, step, None)?;
+        self.differences.add(inverse, step)
     }
 
-    /// The tree that was written.
-    pub fn into_parts(self) -> (Tree, Weights) {
+    /// The tree, with its root where it is closed, and the weights.
+    pub fn into_parts(self) -> (Tree, Option<NodeId>, Weights) {
         let Walk {
             tree,
             derived: _,
+            differences: _,
+            bits: _,
+            fresh: _,
             reasoning: _,
             has_equations: _,
             has_tried_bits: _,
             waiting: _,
-            proving: _,
+            root,
             share: _,
-            len: _,
             weights,
         } = self;
-        (tree, weights)
+        (tree, root, weights)
+    }
+
+    /// Drops the derived lines from a number on, where the stack has so many lines.
+    fn forget(&mut self, lines: usize, derived: usize) {
+        self.derived.cut(derived, lines as LineId);
+        self.tree.forget(lines, derived);
+    }
+
+    /// Closes the present branch by a fact that is a constant, and adds to the weights of the cases on which it rests.
+    fn close(&mut self, alloc: Global, fact: FactId) -> Result<Ended, AllocError> {
+        let node = self.tree.close(fact)?;
+        let needs = self.tree.cases_under(alloc, fact)?;
+        for level in self.waiting.as_slice() {
+            if let Level::Case(branching) = level {
+                if needs.contains(&branching.case) {
+                    self.weights.add(branching.variable)?;
+                }
+            }
+        }
+        Ok(Ended::Closed(node, needs))
+    }
+
+    /// Closes the present branch by a line that is a constant.
+    pub fn close_by_line(
+        &mut self,
+        alloc: Global,
+        lines: &[Line<F, O>],
+        source: Source,
+    ) -> Result<Ended, AllocError> {
+        let fact = record(alloc, &mut self.tree, lines, &self.derived, source)?;
+        self.close(alloc, fact)
+    }
+
+    /// Closes the present branch by a polynomial without roots.
+    pub fn close_by_candidate(
+        &mut self,
+        alloc: Global,
+        lines: &[Line<F, O>],
+        candidate: &Candidate<F, O>,
+        cases: &Cases<F>,
+    ) -> Result<Ended, AllocError> {
+        let fact = record_product(
+            alloc,
+            &mut self.tree,
+            lines,
+            &self.derived,
+            candidate,
+            cases,
+        )?;
+        self.close(alloc, fact)
+    }
+
+    /// Goes back from a branch that ended to the cases in which it is.
+    fn go_back(
+        &mut self,
+        alloc: Global,
+        lines: &[Line<F, O>],
+        branching: Branching<F, O>,
+        ended: Ended,
+    ) -> Result<Result<Branching<F, O>, Ended>, AllocError> {
+        self.forget(lines.len(), branching.derived);
+        self.differences.cut(branching.changes);
+        branching.go_back(alloc, &mut self.tree, lines, &self.derived, ended)
     }
 }
 
@@ -192,78 +403,55 @@ fn open_case<F: Field, O: MonoOrder>(
     alloc: Global,
     stack: &mut BasisStack<F, O>,
     walk: &mut Walk<F, O>,
-    mut branching: Branching<F>,
+    mut branching: Branching<F, O>,
     meter: &mut Meter,
 ) -> Result<Progress, SearchStop>
-    requires { branching.opened < vec_len branching.values }
     ensures above { (floor : ℕ) → StaysAbove floor stack.old stack.new }
     ensures metered { Metered SearchStop.Spent result meter.old meter.new }
 {
-    let value = branching.values[branching.opened];
+    let Some(value) = branching.values.get(branching.opened).copied() else {
+        return Err(SearchStop::GaveUp);
+    };
     let poly = less_root(alloc, branching.variable, value)?;
-    walk.tree.cut(branching.len);
-    branching.line = stack.lines().len() as LineId;
-    branching.written = walk.tree.written();
-    branching.proving = walk.proving;
-    if walk.proving {
-        walk.tree.place(Some(branching.line))?;
-    }
-    branching.opened += 1;
+    branching.case = walk.tree.open_case(stack.lines().len() as LineId)?;
+    branching.opened = branching.opened.saturating_add(1);
+    walk.fresh = stack.lines().len();
     walk.waiting.push(Level::Case(branching))?;
     Ok(stack.push_within(&[poly], walk.share, meter)?)
 }
 
-/// Leaves the present branch and opens the case that waits next. None waits where the search has gone through all.
-pub fn next_case<F: Field, O: MonoOrder>(
+/// Leaves the present branch, which ended, and opens the case that waits next. None waits where the search has gone through all.
+pub fn leave<F: Field, O: MonoOrder>(
     alloc: Global,
     stack: &mut BasisStack<F, O>,
     walk: &mut Walk<F, O>,
+    how: Ended,
     floor: u64,
     meter: &mut Meter,
 ) -> Result<Option<Progress>, SearchStop>
     ensures above { StaysAbove floor stack.old stack.new }
     ensures metered { Metered SearchStop.Spent result meter.old meter.new }
 {
-    while let Some(level) = walk.waiting.pop() {
+    let mut ended = how;
+    for _ in 0..u64::MAX {
+        let Some(level) = walk.waiting.pop() else {
+            break;
+        };
         pop_above(stack, floor);
-        match level {
-            Level::Consequences(before) => walk.derived.cut(before, stack.lines().len() as LineId),
-            Level::Case(branching) => {
-                if branching.opened < branching.values.len() {
-                    return Ok(Some(open_case(alloc, stack, walk, branching, meter)?));
+        match level.into_case() {
+            Err(before) => walk.forget(stack.lines().len(), before),
+            Ok(cases) => match walk.go_back(alloc, stack.lines(), cases, ended)? {
+                Ok(cases) => {
+                    return Ok(Some(open_case(alloc, stack, walk, cases, meter)?));
                 }
-            }
+                Err(next) => ended = next,
+            },
         }
     }
+    if let Ended::Closed(node, _) = ended {
+        walk.root = Some(node);
+    }
     Ok(None)
-}
-
-/// Leaves the cases on which a branch that is closed by these lines does not rest. Says which levels of the stack these are.
-pub fn leave_unneeded<F: Field, O: MonoOrder>(
-    alloc: Global,
-    stack: &BasisStack<F, O>,
-    walk: &mut Walk<F, O>,
-    lines: &[LineId],
-) -> Result<Left, AllocError> {
-    let generators = generators_of(alloc, stack.lines(), &walk.derived, lines)?;
-    walk.leave_unneeded(generators.as_slice())
-}
-
-/// Pops the levels that were left, down to the first one above so many.
-pub fn pop_left<F: Field, O: MonoOrder>(
-    stack: &mut BasisStack<F, O>,
-    walk: &mut Walk<F, O>,
-    left: Left,
-    floor: u64,
-)
-    ensures { StaysAbove floor stack.old stack.new }
-{
-    for _ in 0..left.levels {
-        pop_above(stack, floor);
-    }
-    if let Some(before) = left.derived {
-        walk.derived.cut(before, stack.lines().len() as LineId);
-    }
 }
 
 /// Adds a level with derived lines, after so many.
@@ -281,11 +469,12 @@ pub fn push_consequences<F: Field, O: MonoOrder>(
     Ok(stack.push_within(polys, walk.share, meter)?)
 }
 
-/// Goes on by cases: those of these values of a variable. With no value the present branch is left.
+/// Goes on by cases: those of these values of a variable. With no value the present branch is given up.
 pub fn branch_by<F: Field, O: MonoOrder>(
     alloc: Global,
     stack: &mut BasisStack<F, O>,
     walk: &mut Walk<F, O>,
+    cause: Cause<F, O>,
     variable: u32,
     values: Vec<F>,
     floor: u64,
@@ -295,16 +484,20 @@ pub fn branch_by<F: Field, O: MonoOrder>(
     ensures metered { Metered SearchStop.Spent result meter.old meter.new }
 {
     if values.is_empty() {
-        return next_case(alloc, stack, walk, floor, meter);
+        return leave(alloc, stack, walk, Ended::GivenUp, floor, meter);
     }
     let branching = Branching {
+        cause,
         variable,
         values,
         opened: 0,
-        len: walk.tree.len(),
-        line: 0,
-        written: 0,
-        proving: false,
+        mark: walk.tree.mark(),
+        derived: walk.derived.len(),
+        changes: walk.differences.mark(),
+        case: 0,
+        closed: Vec::new(alloc),
+        needs: BTreeSet::new(alloc),
+        is_open: false,
     };
     Ok(Some(open_case(alloc, stack, walk, branching, meter)?))
 }

@@ -145,21 +145,6 @@ fn open_lines<F: Field, O: MonoOrder>(
     Ok(open)
 }
 
-/// The lines that a candidate is a sum of.
-pub fn lines_of<F: Field, O: MonoOrder>(
-    alloc: Global,
-    candidate: &Candidate<F, O>,
-) -> Result<Vec<LineId>, AllocError> {
-    let mut lines = Vec::new(alloc);
-    if let Some(line) = candidate.line {
-        lines.push(line)?;
-    }
-    for part in &candidate.parts {
-        lines.push(part.0)?;
-    }
-    Ok(lines)
-}
-
 /// The candidate of least degree, and among them that of the greatest weight.
 pub fn best_candidate<F: Field, O: MonoOrder>(
     alloc: Global,

@@ -3,8 +3,10 @@
 /// How many values of a variable are guessed at first.
 const FIRST_GUESSES: u64 = 4;
 
-/// How many units the first round may take.
+/// How many units the first round may take at least, and for each generator.
 const FIRST_ALLOWANCE: u64 = 1_024;
+
+const ALLOWANCE_EACH: u64 = 8;
 
 /// Of a round's units, guessing takes one part in so many.
 const GUESS_PARTS: u64 = 2;
@@ -28,10 +30,12 @@ pub struct Effort {
 }
 
 impl Effort {
-    /// The effort of the first round.
-    pub fn first() -> Self {
+    /// The effort of the first round, where there are so many generators.
+    pub fn first(generators: u64) -> Self {
         Effort {
-            allowance: FIRST_ALLOWANCE,
+            allowance: generators
+                .saturating_mul(ALLOWANCE_EACH)
+                .max(FIRST_ALLOWANCE),
             guesses: FIRST_GUESSES,
             deep: false,
         }
@@ -69,6 +73,11 @@ impl Effort {
     /// How many values of a variable are guessed.
     pub fn guesses(self) -> u64 {
         self.guesses
+    }
+
+    /// Whether lines are completed further than by the pairs that simplify them.
+    pub fn is_deep(self) -> bool {
+        self.deep
     }
 
     /// Whether values are guessed of the variables of the most uses, and not of those that lead last.

@@ -1,5 +1,6 @@
 //! Values that follow from those of some variables, by generators that have one variable without a value.
-use crate::points::is_zero;
+use crate::differences::Differences;
+use crate::points::{set_coordinate, zero_at};
 use ffc_basis::Line;
 use ffc_field::Field;
 use ffc_mono::{MonoOrder, MonoRef};
@@ -10,18 +11,19 @@ use std::collections::BTreeMap;
 /// The generators are gone through so often at most.
 const MOST_PASSES: usize = 64;
 
-/// The values of variables.
-type Known<F> = BTreeMap<u32, F>;
+/// The values of variables: residues, since a map of elements would be made anew for each field.
+type Known = BTreeMap<u32, u64>;
 
 /// A monomial times a coefficient, where its variables have values, with the only one that has none, if that is no power.
-fn value_of<F: Field>(c: F, m: MonoRef<'_>, known: &Known<F>) -> Option<(F, Option<u32>)> {
+fn value_of<F: Field>(c: F, m: MonoRef<'_>, known: &Known) -> Option<(F, Option<u32>)> {
     let mut value = c;
     let mut open = None;
     for power in m.pairs() {
         match known.get(&power.0) {
-            Some(root) => {
+            Some(residue) => {
+                let root = F::of(u128::from(*residue));
                 for _ in 0..power.1 {
-                    value = value.mul(*root);
+                    value = value.mul(root);
                 }
             }
             None => {
@@ -36,7 +38,7 @@ fn value_of<F: Field>(c: F, m: MonoRef<'_>, known: &Known<F>) -> Option<(F, Opti
 }
 
 /// The only variable of a polynomial without a value, and the value with which it is 0.
-fn root_of<F: Field, O: MonoOrder>(poly: &Poly<F, O>, known: &Known<F>) -> Option<(u32, F)> {
+fn root_of<F: Field, O: MonoOrder>(poly: &Poly<F, O>, known: &Known) -> Option<(u32, F)> {
     let mut rest = F::of(0);
     let mut slope = F::of(0);
     let mut variable = None;
@@ -58,13 +60,13 @@ fn root_of<F: Field, O: MonoOrder>(poly: &Poly<F, O>, known: &Known<F>) -> Optio
 /// Adds the values that follow, and says whether there were any.
 fn follow<F: Field, O: MonoOrder>(
     lines: &[Line<F, O>],
-    known: &mut Known<F>,
+    known: &mut Known,
 ) -> Result<bool, AllocError> {
     let mut is_new = false;
     for line in lines {
         if line.parts.is_empty() {
             if let Some((x, value)) = root_of(&line.poly, known) {
-                known.insert(x, value)?;
+                known.insert(x, value.residue())?;
                 is_new = true;
             }
         }
@@ -73,7 +75,7 @@ fn follow<F: Field, O: MonoOrder>(
 }
 
 /// The first variable of a generator that has no value.
-fn first_open<F: Field, O: MonoOrder>(lines: &[Line<F, O>], known: &Known<F>) -> Option<u32> {
+fn first_open<F: Field, O: MonoOrder>(lines: &[Line<F, O>], known: &Known) -> Option<u32> {
     for line in lines {
         if line.parts.is_empty() {
             for (_, m) in line.poly.iter() {
@@ -95,25 +97,23 @@ pub fn zero_from<F: Field, O: MonoOrder>(
     lines: &[Line<F, O>],
     vars: &[u32],
     bits: &[(u32, bool)],
+    differences: &Differences<F, O>,
 ) -> Result<Option<Vec<F>>, AllocError> {
     let mut known = BTreeMap::new(alloc);
     for (x, is_one) in bits {
-        known.insert(*x, F::of(u128::from(*is_one)))?;
+        known.insert(*x, u64::from(*is_one))?;
     }
     for _ in 0..MOST_PASSES {
         if !follow(lines, &mut known)? {
             let Some(x) = first_open(lines, &known) else {
                 break;
             };
-            known.insert(x, F::of(1))?;
+            known.insert(x, 1)?;
         }
     }
-    let mut values = Vec::new(alloc);
-    for x in vars {
-        values.push(known.get(x).copied().unwrap_or(F::of(0)))?;
+    let mut point = Vec::new(alloc);
+    for (x, value) in known.iter() {
+        set_coordinate(&mut point, *x, F::of(u128::from(*value)))?;
     }
-    if is_zero(alloc, lines, vars, &values)? {
-        return Ok(Some(values));
-    }
-    Ok(None)
+    zero_at(alloc, lines, vars, point, differences)
 }

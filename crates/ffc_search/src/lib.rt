@@ -5,16 +5,20 @@
 mod accepting;
 mod answers;
 mod bits;
+mod bitsums;
 mod branches;
 mod choosing;
+mod differences;
 mod effort;
 mod few;
 mod following;
+mod inverses;
 mod points;
 mod reducing;
 mod roots;
 mod rounds;
 mod searching;
+mod shallow;
 mod survey;
 mod weights;
 

@@ -6,7 +6,8 @@ ghost use Rattle.ffc_poly.specs.Ordered.{point_of as dense_point};
 ghost use Rattle.ffc_stack.specs.Stacks.{generators};
 ghost use Rattle.ffc_search.specs.Finding.{point_at, is_zero_line, IsCommonZero};
 
-use crate::survey::Linear;
+use crate::differences::Differences;
+use crate::survey::{Linear, factors_of};
 use ffc_basis::Line;
 use ffc_field::Field;
 use ffc_mono::MonoOrder;
@@ -14,6 +15,10 @@ use ffc_poly::{Poly, PolyStop};
 use ffc_roots::from_univariate;
 use ffc_uni::Uni;
 use std::alloc::{AllocError, Global};
+
+/// Where polynomials are not to be 0, their variables get multiples of these numbers: small values first, and then those of a
+/// prime near the golden section of 2^32, of which small sums and differences are rarely equal.
+const STEPS: [u128; 2] = [1, 2_654_435_761];
 
 /// The polynomial x - root.
 pub fn less_root<F: Field, O: MonoOrder>(
@@ -32,17 +37,38 @@ pub fn less_root<F: Field, O: MonoOrder>(
 }
 
 /// Gives each variable that reduction replaces the value that its line says, from the one that leads last on, where the others
-/// are 0.
+/// have the values of a point.
 fn fill_in<F: Field, O: MonoOrder>(
-    alloc: Global,
     lines: &[Line<F, O>],
     linear: &Linear,
-) -> Result<Vec<F>, AllocError> {
-    let mut point = Vec::new(alloc);
+    point: &mut Vec<F>,
+) -> Result<(), AllocError> {
     for (x, (place, _)) in linear.iter().rev() {
         if let Some(line) = lines.get(*place) {
             let value = value_of(&line.poly, point.as_slice());
+            set_coordinate(point, *x, value)?;
+        }
+    }
+    Ok(())
+}
+
+/// The point that gives the variables of polynomials that are not to be 0 multiples of a step, one after the other, but 0 where
+/// they are factors in lines or replaced.
+fn spread<F: Field, O: MonoOrder>(
+    alloc: Global,
+    lines: &[Line<F, O>],
+    vars: &[u32],
+    linear: &Linear,
+    differences: &Differences<F, O>,
+    step: u128,
+) -> Result<Vec<F>, AllocError> {
+    let factors = factors_of(alloc, lines)?;
+    let mut point = Vec::new(alloc);
+    let mut value = F::of(step);
+    for x in vars {
+        if differences.has(*x) && !factors.contains(x) && !linear.contains_key(x) {
             set_coordinate(&mut point, *x, value)?;
+            value = value.add(F::of(step));
         }
     }
     Ok(point)
@@ -87,7 +113,7 @@ fn fill_to<F: Field>(point: &mut Vec<F>, x: usize) -> Result<(), AllocError>
 }
 
 /// Gives a coordinate of a point a value.
-fn set_coordinate<F: Field>(point: &mut Vec<F>, x: u32, value: F) -> Result<(), AllocError>
+pub fn set_coordinate<F: Field>(point: &mut Vec<F>, x: u32, value: F) -> Result<(), AllocError>
     ensures { OnOk result ((y : ℕ) → dense_point F.value point.new.items y
         ≡ (if y == x then F.value value else dense_point F.value point.old.items y)) }
 {
@@ -145,17 +171,47 @@ pub fn is_zero<F: Field, O: MonoOrder>(
     Ok(vanish(lines, &point))
 }
 
-/// The values that the linear lines say, where each variable that is left is 0, if these are a common zero of the generators.
+/// The values of these variables at a point that is a common zero of the generators, where the inverses that are none of the
+/// lines get the values that follow.
+pub fn zero_at<F: Field, O: MonoOrder>(
+    alloc: Global,
+    lines: &[Line<F, O>],
+    vars: &[u32],
+    mut point: Vec<F>,
+    differences: &Differences<F, O>,
+) -> Result<Option<Vec<F>>, AllocError> {
+    if !differences.invert(&mut point)? {
+        return Ok(None);
+    }
+    let values = values_of(alloc, vars, point.as_slice())?;
+    if is_zero(alloc, lines, vars, &values)? {
+        return Ok(Some(values));
+    }
+    Ok(None)
+}
+
+/// The values that the linear lines say, where each variable that is left is 0, if these are a common zero of the generators;
+/// where polynomials are not to be 0, other values too of the variables that are left.
 pub fn zero_at_hand<F: Field, O: MonoOrder>(
     alloc: Global,
     lines: &[Line<F, O>],
     vars: &[u32],
     linear: &Linear,
+    differences: &Differences<F, O>,
 ) -> Result<Option<Vec<F>>, AllocError> {
-    let point = fill_in(alloc, lines, linear)?;
-    let values = values_of(alloc, vars, point.as_slice())?;
-    if is_zero(alloc, lines, vars, &values)? {
-        return Ok(Some(values));
+    let mut point = Vec::new(alloc);
+    fill_in(lines, linear, &mut point)?;
+    let found = zero_at(alloc, lines, vars, point, differences)?;
+    if found.is_some() || differences.is_empty() {
+        return Ok(found);
+    }
+    for step in STEPS {
+        let mut point = spread(alloc, lines, vars, linear, differences, step)?;
+        fill_in(lines, linear, &mut point)?;
+        let found = zero_at(alloc, lines, vars, point, differences)?;
+        if found.is_some() {
+            return Ok(found);
+        }
     }
     Ok(None)
 }

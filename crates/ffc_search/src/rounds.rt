@@ -5,22 +5,23 @@ ghost use Rattle.ffc_base.specs.Metering.{Takes};
 ghost use Rattle.ffc_search.specs.Above.{StaysAbove};
 
 use crate::bits::{by_bits, candidate_of_bit, zero_by_bits};
-use crate::branches::{Walk, branch_by, leave_unneeded, next_case, pop_left};
-use crate::choosing::{Candidate, best_candidate, lines_of};
+use crate::bitsums::{bit_lines, refuted_sum};
+use crate::branches::{Cause, Ended, Walk, branch_by, leave};
+use crate::choosing::{Candidate, best_candidate};
 use crate::effort::Effort;
 use crate::few::minimal_candidate;
+use crate::inverses::Given;
 use crate::points::zero_at_hand;
-use crate::roots::write_split;
+use crate::roots::cases_of;
 use crate::survey::{Linear, earliest, linear_lines, most_used};
 use crate::weights::Weights;
 use ffc_base::{Meter, SearchStop, Unit};
 use ffc_basis::{Completion, Progress};
-use ffc_bits::Reasoning;
-use ffc_casetree::{Tree, write_close};
+use ffc_bits::{Reasoning, Source, StepId};
+use ffc_casetree::{NodeId, Tree};
 use ffc_cert::CertLine;
 use ffc_field::Field;
 use ffc_mono::MonoOrder;
-use ffc_roots::roots;
 use ffc_stack::BasisStack;
 use std::alloc::{AllocError, Global};
 
@@ -93,46 +94,22 @@ fn by_roots<F: Field, O: MonoOrder>(
     alloc: Global,
     stack: &mut BasisStack<F, O>,
     walk: &mut Walk<F, O>,
-    candidate: &Candidate<F, O>,
+    candidate: Candidate<F, O>,
     floor: u64,
     meter: &mut Meter,
 ) -> Result<Turn<F>, SearchStop>
     ensures above { StaysAbove floor stack.old stack.new }
     ensures metered { Metered SearchStop.Spent result meter.old meter.new }
 {
-    if candidate.poly.coefs().len() < 2 {
-        return Err(SearchStop::GaveUp);
+    let cases = cases_of(alloc, &candidate.poly, meter)?;
+    if cases.zeros.is_empty() {
+        let ended = walk.close_by_candidate(alloc, stack.lines(), &candidate, &cases)?;
+        return Ok(turn_of(leave(alloc, stack, walk, ended, floor, meter)?));
     }
-    let found = roots(alloc, &candidate.poly, meter)?;
-    if found.zeros.as_slice().is_empty() {
-        let lines = lines_of(alloc, candidate)?;
-        let left = leave_unneeded(alloc, stack, walk, lines.as_slice())?;
-        if walk.proving {
-            write_split(
-                alloc,
-                &mut walk.tree,
-                stack.lines(),
-                &walk.derived,
-                candidate,
-                &found,
-            )?;
-        }
-        pop_left(stack, walk, left, floor);
-        return Ok(turn_of(next_case(alloc, stack, walk, floor, meter)?));
-    }
-    if walk.proving {
-        write_split(
-            alloc,
-            &mut walk.tree,
-            stack.lines(),
-            &walk.derived,
-            candidate,
-            &found,
-        )?;
-    }
-    let mut values = Vec::new(alloc);
-    values.extend_from_slice(found.zeros.as_slice())?;
-    let next = branch_by(alloc, stack, walk, candidate.variable, values, floor, meter)?;
+    let values = cases.zeros.clone()?;
+    let x = candidate.variable;
+    let cause = Cause::Roots(candidate, cases);
+    let next = branch_by(alloc, stack, walk, cause, x, values, floor, meter)?;
     Ok(turn_of(next))
 }
 
@@ -145,21 +122,8 @@ fn first_elements<F: Field>(alloc: Global, count: u64) -> Result<Vec<F>, AllocEr
     Ok(elements)
 }
 
-/// How many values of a variable are tried, and whether these are all.
-fn values_to_try<F: Field, O: MonoOrder>(
-    walk: &mut Walk<F, O>,
-    limits: &mut Limits,
-    x: u32,
-    effort: Effort,
-    meter: &Meter,
-) -> Result<u64, AllocError> {
-    if F::ORDER <= MOST_VALUES {
-        if walk.proving {
-            walk.tree.write(CertLine::Values(x, F::ORDER as u32))?;
-        }
-        return Ok(F::ORDER);
-    }
-    walk.proving = false;
+/// How many values of a variable are guessed.
+fn guesses(limits: &mut Limits, effort: Effort, meter: &Meter) -> u64 {
     limits.reached = true;
     let taken = meter.spent();
     let deadline = match limits.deadline {
@@ -168,9 +132,9 @@ fn values_to_try<F: Field, O: MonoOrder>(
     };
     limits.deadline = Some(deadline);
     if taken > deadline {
-        return Ok(0);
+        return 0;
     }
-    Ok(effort.guesses().min(F::ORDER))
+    effort.guesses()
 }
 
 /// Goes on by the values of a variable. Where none is left to choose, the branch is given up.
@@ -191,13 +155,21 @@ fn by_values<F: Field, O: MonoOrder>(
     } else {
         earliest(alloc, stack.lines(), linear)?
     };
+    let floor = task.floor;
     let Some(x) = chosen else {
-        walk.proving = false;
-        return Ok(turn_of(next_case(alloc, stack, walk, task.floor, meter)?));
+        limits.reached = limits.reached || !walk.differences.is_empty();
+        let next = leave(alloc, stack, walk, Ended::GivenUp, floor, meter)?;
+        return Ok(turn_of(next));
     };
-    let count = values_to_try::<F, O>(walk, limits, x, task.effort, meter)?;
+    let are_all = F::ORDER <= MOST_VALUES;
+    let cause = if are_all { Cause::All } else { Cause::Guesses };
+    let count = if are_all {
+        F::ORDER
+    } else {
+        guesses(limits, task.effort, meter)
+    };
     let values = first_elements(alloc, count)?;
-    let next = branch_by(alloc, stack, walk, x, values, task.floor, meter)?;
+    let next = branch_by(alloc, stack, walk, cause, x, values, floor, meter)?;
     Ok(turn_of(next))
 }
 
@@ -228,17 +200,23 @@ fn advance<F: Field, O: MonoOrder>(
     }
     let linear = linear_lines(alloc, stack.lines())?;
     if let Some(x) = said.heaviest {
-        if let Some(values) = zero_at_hand(alloc, stack.lines(), vars, &linear)? {
+        if let Some(values) = zero_at_hand(
+            alloc,
+            stack.lines(),
+            vars,
+            &linear,
+            &walk.differences,
+        )? {
             return Ok(Turn::Values(values));
         }
         if let Some(candidate) = candidate_of_bit(alloc, stack.lines(), x)? {
-            return by_roots(alloc, stack, walk, &candidate, task.floor, meter);
+            return by_roots(alloc, stack, walk, candidate, task.floor, meter);
         }
     }
     if let Some(candidate) = best_candidate(alloc, stack, &linear, &walk.weights, meter)? {
-        return by_roots(alloc, stack, walk, &candidate, task.floor, meter);
+        return by_roots(alloc, stack, walk, candidate, task.floor, meter);
     }
-    if let Some(values) = zero_at_hand(alloc, stack.lines(), vars, &linear)? {
+    if let Some(values) = zero_at_hand(alloc, stack.lines(), vars, &linear, &walk.differences)? {
         return Ok(Turn::Values(values));
     }
     if left {
@@ -246,10 +224,53 @@ fn advance<F: Field, O: MonoOrder>(
     } else {
         let units = limits.left(meter);
         if let Some(candidate) = minimal_candidate(alloc, stack, units, meter)? {
-            return by_roots(alloc, stack, walk, &candidate, task.floor, meter);
+            return by_roots(alloc, stack, walk, candidate, task.floor, meter);
         }
     }
     by_values(alloc, stack, walk, limits, &linear, task, meter)
+}
+
+/// A derived line that is a constant other than 0, where the lines of the innermost case have a sum of few bits that is never 0,
+/// or say that a polynomial is 0 that may not be.
+fn refuted<F: Field, O: MonoOrder>(
+    alloc: Global,
+    stack: &mut BasisStack<F, O>,
+    walk: &mut Walk<F, O>,
+    meter: &mut Meter,
+) -> Result<Option<StepId>, SearchStop>
+    ensures unchanged { stack.new ≡ stack.old }
+    ensures metered { Metered SearchStop.Spent result meter.old meter.new }
+{
+    if walk.reasoning.is_none() {
+        let (fresh, bits) = (walk.fresh, &walk.bits);
+        let found = refuted_sum(alloc, stack.lines(), fresh, bits, &mut walk.derived)?;
+        if found.is_some() {
+            return Ok(found);
+        }
+    }
+    walk.differences.look(stack, &mut walk.derived, meter)
+}
+
+/// Closes the present branch where its lines are refuted beside their completion; else goes on.
+fn compare<F: Field, O: MonoOrder>(
+    alloc: Global,
+    stack: &mut BasisStack<F, O>,
+    walk: &mut Walk<F, O>,
+    limits: &mut Limits,
+    vars: &[u32],
+    task: Task,
+    left: bool,
+    meter: &mut Meter,
+) -> Result<Turn<F>, SearchStop>
+    ensures above { StaysAbove task.floor stack.old stack.new }
+    ensures metered { Metered SearchStop.Spent result meter.old meter.new }
+{
+    let Some(step) = refuted(alloc, stack, walk, meter)? else {
+        return advance(alloc, stack, walk, limits, vars, task, left, meter);
+    };
+    let ended = walk.close_by_line(alloc, stack.lines(), Source::Step(step))?;
+    let next = leave(alloc, stack, walk, ended, task.floor, meter)?;
+    Ok(turn_of(next))
 }
 
 /// One turn, from how far the lines of the present branch were completed.
@@ -268,15 +289,12 @@ fn take_turn<F: Field, O: MonoOrder>(
 {
     match progress {
         Progress::Done(Completion::Constant(line)) => {
-            let left = leave_unneeded(alloc, stack, walk, &[line])?;
-            if walk.proving {
-                write_close(alloc, &mut walk.tree, stack.lines(), &walk.derived, line)?;
-            }
-            pop_left(stack, walk, left, task.floor);
-            Ok(turn_of(next_case(alloc, stack, walk, task.floor, meter)?))
+            let ended = walk.close_by_line(alloc, stack.lines(), Source::Line(line))?;
+            let next = leave(alloc, stack, walk, ended, task.floor, meter)?;
+            Ok(turn_of(next))
         }
-        Progress::Done(_) => advance(alloc, stack, walk, limits, vars, task, false, meter),
-        Progress::Left => advance(alloc, stack, walk, limits, vars, task, true, meter),
+        Progress::Done(_) => compare(alloc, stack, walk, limits, vars, task, false, meter),
+        Progress::Left => compare(alloc, stack, walk, limits, vars, task, true, meter),
     }
 }
 
@@ -298,7 +316,6 @@ fn take_turns<F: Field, O: MonoOrder>(
     loop {
         meter.take(Unit::Trial)?;
         if meter.spent() > limits.end {
-            walk.proving = false;
             limits.reached = true;
             return Ok(None);
         }
@@ -314,14 +331,14 @@ fn take_turns<F: Field, O: MonoOrder>(
 fn outcome_of<F: Field>(
     alloc: Global,
     values: Option<Vec<F>>,
-    proving: bool,
+    root: Option<NodeId>,
     reached: bool,
     tree: Tree,
 ) -> Result<Outcome<F>, AllocError> {
     Ok(if let Some(values) = values {
         Outcome::Values(values)
-    } else if proving {
-        let (lines, sums) = tree.into_lines(alloc)?;
+    } else if let Some(root) = root {
+        let (lines, sums) = tree.into_lines(alloc, root)?;
         Outcome::Closed(lines, sums)
     } else if reached {
         Outcome::GivenUp
@@ -330,10 +347,11 @@ fn outcome_of<F: Field>(
     })
 }
 
-/// One round, on levels above those that are there, with weights that it learns from and adds to.
+/// One round from these generators, on levels above those that are there, with weights that it learns from and adds to.
 pub fn round<F: Field, O: MonoOrder>(
     alloc: Global,
     stack: &mut BasisStack<F, O>,
+    given: &Given<F, O>,
     vars: &[u32],
     task: Task,
     weights: Weights,
@@ -343,8 +361,7 @@ pub fn round<F: Field, O: MonoOrder>(
     ensures metered { Metered SearchStop.Spent result meter.old meter.new }
 {
     let effort = task.effort;
-    let tree = Tree::begin(alloc, stack.lines())?;
-    let mut walk = Walk::begin(alloc, tree, effort.in_branch(), weights);
+    let mut walk = Walk::begin(alloc, given, effort.in_branch(), weights)?;
     let mut limits = Limits {
         end: meter.spent().saturating_add(effort.allowance()),
         deadline: None,
@@ -353,6 +370,7 @@ pub fn round<F: Field, O: MonoOrder>(
     let before = meter.spent();
     let no_generators = Vec::new(alloc);
     let progress = stack.push_within(no_generators.as_slice(), effort.at_root(), meter)?;
+    walk.bits = bit_lines(alloc, stack.lines())?;
     if task.bits {
         let reasoning = Reasoning::begin(alloc, stack.lines(), &mut walk.derived)?;
         walk.reasoning = Some(reasoning);
@@ -368,8 +386,7 @@ pub fn round<F: Field, O: MonoOrder>(
         progress,
         meter,
     )?;
-    let proving = walk.proving;
-    let (tree, weights) = walk.into_parts();
-    let outcome = outcome_of(alloc, values, proving, limits.reached, tree)?;
+    let (tree, root, weights) = walk.into_parts();
+    let outcome = outcome_of(alloc, values, root, limits.reached, tree)?;
     Ok((outcome, weights))
 }

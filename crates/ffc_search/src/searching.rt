@@ -12,8 +12,10 @@ use crate::accepting::is_accepted;
 use crate::answers::Found;
 use crate::branches::pop_to;
 use crate::effort::Effort;
+use crate::inverses::Given;
 use crate::points::is_zero;
 use crate::rounds::{Outcome, Task, round};
+use crate::shallow::Shallow;
 use crate::weights::Weights;
 use ffc_base::{Meter, SearchStop, Unit};
 use ffc_basis::Line;
@@ -23,6 +25,43 @@ use ffc_roots::Elements;
 use ffc_stack::BasisStack;
 use ffc_trees::read_trees_close;
 use std::alloc::{AllocError, Global};
+
+/// One round: a shallow one without the inverses, where these are apart, and else one on the stack.
+fn turn_round<F: Field, O: MonoOrder>(
+    alloc: Global,
+    stack: &mut BasisStack<F, O>,
+    given: &Given<F, O>,
+    shallow: &mut Option<Shallow<F, O>>,
+    vars: &[u32],
+    task: Task,
+    weights: Weights,
+    meter: &mut Meter,
+) -> Result<(Outcome<F>, Weights), SearchStop>
+    ensures above { StaysAbove task.floor stack.old stack.new }
+    ensures metered { Metered SearchStop.Spent result meter.old meter.new }
+{
+    if !task.effort.is_deep() {
+        if let Some(shallow) = shallow {
+            return shallow.round(alloc, vars, task, weights, meter);
+        }
+    }
+    round(alloc, stack, given, vars, task, weights, meter)
+}
+
+/// The stack without inverses, if there are some. Equations of bits are better off with them.
+fn without_inverses<F: Field, O: MonoOrder>(
+    alloc: Global,
+    lines: &[Line<F, O>],
+    bits: bool,
+    meter: &mut Meter,
+) -> Result<Option<Shallow<F, O>>, SearchStop>
+    ensures metered { Metered SearchStop.Spent result meter.old meter.new }
+{
+    if bits {
+        return Ok(None);
+    }
+    Shallow::begin(alloc, lines, meter)
+}
 
 /// Rounds with more and more effort, to a zero or a tree. The levels of the last round are left.
 fn attempt<F: Field, O: MonoOrder>(
@@ -36,13 +75,17 @@ fn attempt<F: Field, O: MonoOrder>(
     ensures above { StaysAbove floor stack.old stack.new }
     ensures metered { Metered SearchStop.Spent result meter.old meter.new }
 {
-    let mut effort = Effort::first();
+    let given = Given::whole(alloc, stack.lines())?;
+    let mut shallow = without_inverses(alloc, stack.lines(), bits, meter)?;
+    let mut effort = Effort::first(given.lines.len() as u64);
     let mut weights = Weights::new(alloc);
     loop {
         meter.take(Unit::Trial)?;
-        let (outcome, learned) = round(
+        let (outcome, learned) = turn_round(
             alloc,
             stack,
+            &given,
+            &mut shallow,
             vars,
             Task {
                 effort,

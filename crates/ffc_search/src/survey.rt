@@ -4,7 +4,7 @@ use ffc_field::Field;
 use ffc_mono::{MonoOrder, MonoRef};
 use ffc_poly::Poly;
 use std::alloc::{AllocError, Global};
-use std::collections::BTreeMap;
+use std::collections::{BTreeMap, BTreeSet};
 
 /// How many terms a short line has at most.
 const SHORT: usize = 8;
@@ -95,6 +95,30 @@ fn greatest_use(uses: &Uses, linear: &Linear) -> Option<u32> {
         }
     }
     best.map(|found| found.0)
+}
+
+/// The variables that occur in products.
+pub fn factors_of<F: Field, O: MonoOrder>(
+    alloc: Global,
+    lines: &[Line<F, O>],
+) -> Result<BTreeSet<u32>, AllocError> {
+    let mut factors = BTreeSet::new(alloc);
+    for line in lines {
+        for (_, m) in line.poly.iter() {
+            add_factors(&mut factors, m)?;
+        }
+    }
+    Ok(factors)
+}
+
+/// Adds the variables of a monomial, if it is a product.
+fn add_factors(factors: &mut BTreeSet<u32>, m: MonoRef<'_>) -> Result<(), AllocError> {
+    if m.degree() > 1 {
+        for power in m.pairs() {
+            factors.insert(power.0)?;
+        }
+    }
+    Ok(())
 }
 
 /// The variable by whose values cases are made: it occurs in most products, and reduction does not replace it.
