@@ -79,7 +79,7 @@ impl<F: Field, O: MonoOrder> Model for Table<F, O> {
 /// Where so many monomials have numbers, a reduction begins with an empty table.
 const MANY_COLUMNS: usize = 65_536;
 
-/// And where the multiples that are kept have so many terms.
+/// And where the multiples that were kept since it was empty have so many terms, after which no more are kept.
 const MANY_TERMS: usize = 4_194_304;
 
 /// What may be spent at first.
@@ -405,7 +405,7 @@ impl<F: Field, O: MonoOrder> Table<F, O> {
             let kept = self.kept.as_slice();
             return Ok(subtract_held(&mut self.dense, kept, slot, line, c, m, q));
         }
-        if self.credit == 0 {
+        if self.credit == 0 || self.stored > MANY_TERMS {
             return Ok(false);
         }
         let count = self.dense.len();
