@@ -18,14 +18,16 @@ use Rattle.ffc_basis.specs.Remainders.{IsRemainder}
 use Rattle.ffc_basis.specs.Completion.{IsSPolynomial, ReducesToZero, IsPairClosed, IsPairOver}
 use Rattle.ffc_basis.specs.Completed.{IsAddedLine, AreAdded, IsFront}
 use Rattle.ffc_basis.specs.Outcomes.{AreSubtracted, IsMonic}
-use Rattle.ffc_basis.specs.PairTable.{AreBothClosed, IsState, ArePairs, forgotten, with_state}
+use Rattle.ffc_basis.specs.PairTable.{AreBothClosed, IsState, ArePairs, IsLeftOut, IsPendingAt, forgotten, seconds, settled_count, with_state}
+use Rattle.ffc_basis.proofs.FewLemmas.{seconds-set, settled_set_none, pending_within}
 use Rattle.ffc_basis.specs.declared.pair.PairRecord.{PairRecord}
-use Rattle.ffc_basis.specs.declared.pair.PairState.TheVariants.{Closed, Over}
+use Rattle.ffc_basis.specs.declared.pair.PairState.TheVariants.{Closed, Represented, Over}
 use Rattle.ffc_basis.proofs.OrderedTerms.{coefficient-none, coefficient-other}
 use Rattle.ffc_basis.proofs.LineLemmas.{AreLinesFrom-alike, polys-append, take_front}
 use Rattle.ffc_basis.proofs.Lists.{length-polys, lists_push}
 use Rattle.ffc_basis.proofs.PairLemmas.{combination-grown, AreBefore-grown, part_is_before, leading_of_scaled, leading_same, one_s_polynomial_closes, symmetric_pairs_close}
-use Rattle.ffc_basis.proofs.PairTableLemmas.{pairs_grown, pairs_cut, pairs_set, record_is, state_by_all, over_by_all}
+use Rattle.ffc_basis.proofs.PairTableLemmas.{pairs_grown, pairs_cut, pairs_set, record_is, state_by_all, over_by_all, represented_by_all}
+use Rattle.ffc_basis.specs.Representations.{AreBothRepresented}
 use Rattle.ffc_basis.proofs.SPolynomialLemmas.{scaled_combination, scaled_before}
 
 -- ---- lists of lines
@@ -118,6 +120,34 @@ settled_closed p cmp ls rs paired place pair count all h is both v =
     let r = record_is p cmp gs rs paired place pair v h is in
     pairs_set p cmp gs rs paired place pair (with_state pair (Closed count)) h is refl refl
     (subst (λ n. IsState p cmp gs pair.first pair.second (Closed n)) (length-polys ls ∙ all) (state_by_all p cmp gs pair.first pair.second r.within both)) v
+
+pub left_out_pair : {F O : Type 0} (p : ℕ) (cmp : Monomial → Monomial → Ordering) (ls : List (Line F O)) (rs : List PairRecord) (paired place : ℕ) (pair : PairRecord) (count : ℕ) → length ls ≡ count → place < length rs → get_or rs place pair ≡ pair
+    → AreBothRepresented p cmp (polys_of ls) pair.first pair.second → ArePairs p cmp (polys_of ls) rs paired → ArePairs p cmp (polys_of ls) (set rs place (with_state pair (Represented count))) paired
+left_out_pair p cmp ls rs paired place pair count all h is both v =
+    let gs = polys_of ls in
+    let r = record_is p cmp gs rs paired place pair v h is in
+    pairs_set p cmp gs rs paired place pair (with_state pair (Represented count)) h is refl refl
+    (subst (λ n. IsState p cmp gs pair.first pair.second (Represented n)) (length-polys ls ∙ all) (represented_by_all p cmp gs pair.first pair.second r.within both)) v
+
+-- a pair more is represented
+pub left_out : {F O : Type 0} (p : ℕ) (cmp : Monomial → Monomial → Ordering) (ls : List (Line F O)) (rs new : List PairRecord) (paired place : ℕ) (pair : PairRecord) → new ≡ set rs place (with_state pair (Represented (length ls)))
+    → IsPendingAt rs place → get_or rs place pair ≡ pair → AreBothRepresented p cmp (polys_of ls) pair.first pair.second → ArePairs p cmp (polys_of ls) rs paired → IsLeftOut p cmp (polys_of ls) rs new paired
+left_out p cmp ls rs new paired place pair is pending there both v =
+    let next = with_state pair (Represented (length ls)) in
+    let h = pending_within rs place pending in
+    record {
+      pairs = subst (λ x. ArePairs p cmp (polys_of ls) x paired) (sym is) (left_out_pair p cmp ls rs paired place pair (length ls) refl h there both v);
+      seconds = ap seconds is ∙ seconds-set rs place pair next h there refl;
+      settled = ap settled_count is ∙ settled_set_none rs place next pending refl;
+    }
+
+-- some pairs and then others are
+pub left_out_both : (p : ℕ) (cmp : Monomial → Monomial → Ordering) (gs : List Terms) (old mid new : List PairRecord) (paired again : ℕ) → IsLeftOut p cmp gs old mid paired → IsLeftOut p cmp gs mid new again → IsLeftOut p cmp gs old new again
+left_out_both p cmp gs old mid new paired again v w = record {
+  pairs = w.pairs;
+  seconds = w.seconds ∙ v.seconds;
+  settled = w.settled ∙ v.settled;
+}
 
 pub settled_over : {F O : Type 0} (p : ℕ) (cmp : Monomial → Monomial → Ordering) (ls : List (Line F O)) (rs : List PairRecord) (paired place : ℕ) (pair : PairRecord) (count : ℕ) → length ls ≡ count → place < length rs → get_or rs place pair ≡ pair
     → IsPairOver p cmp (polys_of ls) pair.first pair.second → ArePairs p cmp (polys_of ls) rs paired → ArePairs p cmp (polys_of ls) (set rs place (with_state pair (Over count))) paired

@@ -31,7 +31,7 @@ use Rattle.ffc_basis.proofs.RaisedLemmas.{raised_quotient, lead_monomial, no_gre
 
 -- ---- parts times a monomial
 
-abbrev raised : Monomial → Parts → Parts
+abbrev pub raised : Monomial → Parts → Parts
 raised u [] = []
 raised u (t ∷ ts) = (t.0, term_product 1 u t.1) ∷ raised u ts
 
@@ -64,19 +64,19 @@ weighted-raised g u gs (t ∷ ts) v lists w =
     ∙ sym (weighted-append g (term_product 1 u (product t.1 b)) (term_product 1 u (combination gs ts)))
     ∙ ap (weighted g) (sym (term_product-append 1 u (product t.1 b) (combination gs ts)))
 
-combination-raised : (p : ℕ) (u : Monomial) (gs : List Terms) (ts : Parts) → IsMonomial u → AreLists gs → AreTermLists ts → SamePolynomial p (combination gs (raised u ts)) (term_product 1 u (combination gs ts))
+pub combination-raised : (p : ℕ) (u : Monomial) (gs : List Terms) (ts : Parts) → IsMonomial u → AreLists gs → AreTermLists ts → SamePolynomial p (combination gs (raised u ts)) (term_product 1 u (combination gs ts))
 combination-raised p u gs ts v lists w =
     SamePolynomial-from_weighted p (combination gs (raised u ts)) (term_product 1 u (combination gs ts)) (λ g. ap (λ k. k % p) (weighted-raised g u gs ts v lists w))
 
-AreBefore-raised : (n : ℕ) (u : Monomial) (ts : Parts) → AreBefore n ts → AreBefore n (raised u ts)
+pub AreBefore-raised : (n : ℕ) (u : Monomial) (ts : Parts) → AreBefore n ts → AreBefore n (raised u ts)
 AreBefore-raised n u [] v = tt
 AreBefore-raised n u (t ∷ ts) v = (v.0, AreBefore-raised n u ts v.1)
 
-AreTermLists-raised : (u : Monomial) (ts : Parts) → IsMonomial u → AreTermLists ts → AreTermLists (raised u ts)
+pub AreTermLists-raised : (u : Monomial) (ts : Parts) → IsMonomial u → AreTermLists ts → AreTermLists (raised u ts)
 AreTermLists-raised u [] v w = tt
 AreTermLists-raised u (t ∷ ts) v w = (AreTerms-raised 1 u t.1 v w.0, AreTermLists-raised u ts v w.1)
 
-HasMonomial-raised : (p : ℕ) (u : Monomial) (ts : Parts) (i : ℕ) (m : Monomial) → IsMonomial u → AreTermLists ts → HasMonomial p (raised u ts) i m → (q : Monomial) × IsMonomial q × (m ≡ mono_mul u q) × HasMonomial p ts i q
+pub HasMonomial-raised : (p : ℕ) (u : Monomial) (ts : Parts) (i : ℕ) (m : Monomial) → IsMonomial u → AreTermLists ts → HasMonomial p (raised u ts) i m → (q : Monomial) × IsMonomial q × (m ≡ mono_mul u q) × HasMonomial p ts i q
 HasMonomial-raised p u [] i m v w has = absurd has
 HasMonomial-raised p u (t ∷ ts) i m v w (inl (here, some)) =
     let found = shifted_monomial p 1 u m t.1 v w.0 some in (found.0, found.1, found.3, inl (here, found.2))
@@ -88,22 +88,22 @@ AreTerms-append [] b v w = w
 AreTerms-append (t ∷ a) b v w = (v.0, AreTerms-append a b v.1 w)
 
 -- so is a difference of multiples
-AreTerms-difference : (p k l : ℕ) (u w : Monomial) (a b : Terms) → IsMonomial u → IsMonomial w → AreTerms a → AreTerms b → AreTerms (difference p (term_product k u a) (term_product l w b))
+pub AreTerms-difference : (p k l : ℕ) (u w : Monomial) (a b : Terms) → IsMonomial u → IsMonomial w → AreTerms a → AreTerms b → AreTerms (difference p (term_product k u a) (term_product l w b))
 AreTerms-difference p k l u w a b v z x y =
     AreTerms-append (term_product k u a) (scaled (p - 1) (term_product l w b)) (AreTerms-raised k u a v x)
     (AreTerms-scaled (p - 1) (term_product l w b) (AreTerms-raised l w b z y))
 
 -- ---- parts one after another
 
-AreBefore-append : (n : ℕ) (xs ys : Parts) → AreBefore n xs → AreBefore n ys → AreBefore n (xs ++ ys)
+pub AreBefore-append : (n : ℕ) (xs ys : Parts) → AreBefore n xs → AreBefore n ys → AreBefore n (xs ++ ys)
 AreBefore-append n [] ys v w = w
 AreBefore-append n (x ∷ xs) ys v w = (v.0, AreBefore-append n xs ys v.1 w)
 
-AreTermLists-append : (xs ys : Parts) → AreTermLists xs → AreTermLists ys → AreTermLists (xs ++ ys)
+pub AreTermLists-append : (xs ys : Parts) → AreTermLists xs → AreTermLists ys → AreTermLists (xs ++ ys)
 AreTermLists-append [] ys v w = w
 AreTermLists-append (x ∷ xs) ys v w = (v.0, AreTermLists-append xs ys v.1 w)
 
-HasMonomial-append : (p : ℕ) (xs ys : Parts) (i : ℕ) (m : Monomial) → HasMonomial p (xs ++ ys) i m → HasMonomial p xs i m ⊎ HasMonomial p ys i m
+pub HasMonomial-append : (p : ℕ) (xs ys : Parts) (i : ℕ) (m : Monomial) → HasMonomial p (xs ++ ys) i m → HasMonomial p xs i m ⊎ HasMonomial p ys i m
 HasMonomial-append p [] ys i m has = inr has
 HasMonomial-append p (x ∷ xs) ys i m (inl here) = inl (inl here)
 HasMonomial-append p (x ∷ xs) ys i m (inr there) =
@@ -156,7 +156,7 @@ weighted-raised_difference p g u q t q_top t_top k l a b v w x y z is also =
 
 module _ (p : ℕ) (prime : IsPrime p) (cmp : Monomial → Monomial → Ordering) (laws : IsMonomialOrder cmp) where
   -- an S-polynomial by given leading terms
-  made_of : (a b s : Terms) (c : ℕ) (m : Monomial) (d : ℕ) (n : Monomial) → IsLeading p cmp a c m → IsLeading p cmp b d n → IsSPolynomial p cmp a b s
+  pub made_of : (a b s : Terms) (c : ℕ) (m : Monomial) (d : ℕ) (n : Monomial) → IsLeading p cmp a c m → IsLeading p cmp b d n → IsSPolynomial p cmp a b s
       → (k : ℕ) × (l : ℕ) × (mul_mod p k c ≡ 1) × (mul_mod p l d ≡ 1) × SamePolynomial p s (difference p (term_product k (mono_quotient (mono_lcm m n) m) a) (term_product l (mono_quotient (mono_lcm m n) n) b))
   made_of a b s c m d n first second (e, u, f, v, third, fourth, x, y, xe, yf, is) =
       let one = one_leading cmp laws p a c e m u first third in
@@ -170,7 +170,7 @@ module _ (p : ℕ) (prime : IsPrime p) (cmp : Monomial → Monomial → Ordering
       )
 
   -- the sum of both multiples
-  chain_sum : (a b e s s1 s2 : Terms) (c d f : ℕ) (m n r u w : Monomial) → AreTerms a → AreTerms b → AreTerms e
+  pub chain_sum : (a b e s s1 s2 : Terms) (c d f : ℕ) (m n r u w : Monomial) → AreTerms a → AreTerms b → AreTerms e
       → IsLeading p cmp a c m → IsLeading p cmp b d n → IsLeading p cmp e f r → IsMonomial u → IsMonomial w
       → mono_mul (mono_lcm m r) u ≡ mono_lcm m n → mono_mul (mono_lcm r n) w ≡ mono_lcm m n
       → IsSPolynomial p cmp a b s → IsSPolynomial p cmp a e s1 → IsSPolynomial p cmp e b s2
@@ -249,7 +249,7 @@ module _ (p : ℕ) (prime : IsPrime p) (cmp : Monomial → Monomial → Ordering
       )
 
   -- an inverse of a leading coefficient
-  inverse_of : (ts : Terms) (c : ℕ) (m : Monomial) → IsLeading p cmp ts c m → (k : ℕ) × (mul_mod p k c ≡ 1)
+  pub inverse_of : (ts : Terms) (c : ℕ) (m : Monomial) → IsLeading p cmp ts c m → (k : ℕ) × (mul_mod p k c ≡ 1)
   inverse_of ts c m lead =
       let low : c < p = subst (λ x. x < p) lead.0 (mod-lt _ (omega (arith, prime.least))) in
       let k = pow_mod p c (p - 2) in

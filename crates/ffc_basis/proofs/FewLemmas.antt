@@ -1,11 +1,11 @@
 -- How many pairs there are of the first lines, and how many are settled.
-use Rattle.std.proofs.Common.{◌≡◌, ℕ, zero, suc, ◌+◌, ◌*◌, ◌<◌, ◌≤◌, List, [], ◌∷◌, ◌++◌, length, get_or, set, map, min, filter, nat_lt, true, false, cond, refl, sym, ap, ap₂, ◌∙◌, subst, inl, inr, arith, length-append, append-nil, append_assoc, if◌then◌else◌}
+use Rattle.std.proofs.Common.{◌≡◌, ◌≢◌, ℕ, zero, suc, ◌+◌, ◌*◌, ◌<◌, ◌≤◌, List, [], ◌∷◌, ◌++◌, length, get_or, set, map, min, filter, nat_lt, true, false, cond, refl, sym, ap, ap₂, ◌∙◌, subst, inl, inr, arith, length-append, append-nil, append_assoc, if◌then◌else◌}
 use Rattle.std.proofs.Math.Nat.{min-eq_left, min-eq_right, mul-le-mul}
 use Rattle.std.proofs.lemmas.Bool.{cases_order}
 use Rattle.std.proofs.lemmas.Bool.Decides.{nat_tests}
 use Rattle.ffc_basis.specs.declared.pair.PairRecord.{PairRecord}
 use Rattle.ffc_basis.specs.declared.pair.PairState.{PairState}
-use Rattle.ffc_basis.specs.declared.pair.PairState.TheVariants.{Pending, Closed, Over}
+use Rattle.ffc_basis.specs.declared.pair.PairState.TheVariants.{Pending, Closed, Represented, Over}
 use Rattle.ffc_basis.specs.PairTable.{forgotten, count_below, seconds, AreFew, ArePendingOf, IsPaired, IsPendingAt, settled_one, settled_count}
 
 -- ---- counts of numbers
@@ -46,6 +46,7 @@ not_less_test k n h = grind (arith, nat_tests)
 settled_one_at_most : (s : PairState) → settled_one s ≤ 1
 settled_one_at_most Pending = omega arith
 settled_one_at_most (Closed n) = omega arith
+settled_one_at_most (Represented n) = omega arith
 settled_one_at_most (Over n) = omega arith
 
 -- ---- few pairs
@@ -141,7 +142,7 @@ settled_at_most (r ∷ rs) = omega (arith, settled_one_at_most r.state, settled_
 pub settled_and_pending : (rs : List PairRecord) (place : ℕ) → IsPendingAt rs place → settled_count rs + 1 ≤ length (seconds rs)
 settled_and_pending [] place pending = absurd pending
 settled_and_pending (r ∷ rs) zero pending =
-    let none : settled_one r.state ≡ 0 = ap settled_one pending in omega (arith, settled_at_most rs)
+    let none : settled_one r.state ≡ 0 = pending in omega (arith, settled_at_most rs)
 settled_and_pending (r ∷ rs) (suc place) pending = omega (arith, settled_one_at_most r.state, settled_and_pending rs place pending)
 
 settled-pending : (line : ℕ) (more : List PairRecord) → ArePendingOf line more → settled_count more ≡ 0
@@ -159,15 +160,26 @@ settled_paired old new line most (more, is, of_line, short) =
 pub settled_set : (rs : List PairRecord) (place : ℕ) (r : PairRecord) → IsPendingAt rs place → settled_one r.state ≡ 1 → settled_count (set rs place r) ≡ settled_count rs + 1
 settled_set [] place r pending one = absurd pending
 settled_set (x ∷ rs) zero r pending one =
-    let none : settled_one x.state ≡ 0 = ap settled_one pending in omega arith
+    let none : settled_one x.state ≡ 0 = pending in omega arith
 settled_set (x ∷ rs) (suc place) r pending one = omega (arith, settled_set rs place r pending one)
+
+-- more is known of a pair that is not settled still
+pub settled_set_none : (rs : List PairRecord) (place : ℕ) (r : PairRecord) → IsPendingAt rs place → settled_one r.state ≡ 0 → settled_count (set rs place r) ≡ settled_count rs
+settled_set_none [] place r pending none = absurd pending
+settled_set_none (x ∷ rs) zero r pending none =
+    let before : settled_one x.state ≡ 0 = pending in omega arith
+settled_set_none (x ∷ rs) (suc place) r pending none = omega (arith, settled_set_none rs place r pending none)
+
+-- a pair is settled or not
+pub not_settled : (s : PairState) → settled_one s ≢ 1 → settled_one s ≡ 0
+not_settled s not = omega (arith, settled_one_at_most s, not)
 
 pub pending_within : (rs : List PairRecord) (place : ℕ) → IsPendingAt rs place → place < length rs
 pending_within [] place pending = absurd pending
 pending_within (r ∷ rs) zero pending = omega arith
 pending_within (r ∷ rs) (suc place) pending = omega (arith, pending_within rs place pending)
 
-pub pending_is_at : (rs : List PairRecord) (place : ℕ) (d : PairRecord) → place < length rs → (get_or rs place d).state ≡ Pending → IsPendingAt rs place
+pub pending_is_at : (rs : List PairRecord) (place : ℕ) (d : PairRecord) → place < length rs → settled_one (get_or rs place d).state ≡ 0 → IsPendingAt rs place
 pending_is_at [] place d h is = absurd (omega arith)
 pending_is_at (r ∷ rs) zero d h is = is
 pending_is_at (r ∷ rs) (suc place) d h is = pending_is_at rs place d (omega arith) is

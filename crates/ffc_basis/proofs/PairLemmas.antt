@@ -174,7 +174,7 @@ pub AreBefore-grown : (n k : ℕ) (ts : Parts) → n ≤ k → AreBefore n ts �
 AreBefore-grown n k [] h v = tt
 AreBefore-grown n k (t ∷ ts) h v = (omega (arith, v.0), AreBefore-grown n k ts h v.1)
 
-length-more : (gs more : List Terms) → length gs ≤ length (gs ++ more)
+pub length-more : (gs more : List Terms) → length gs ≤ length (gs ++ more)
 length-more [] more = omega arith
 length-more (g ∷ gs) more = omega (arith, length-more gs more)
 

@@ -4,20 +4,25 @@ use Rattle.std.proofs.Math.ListN.{get_or-append}
 use Rattle.std.proofs.lemmas.Bool.{cases_eq, cases_order}
 use Rattle.std.proofs.lemmas.Bool.Decides.{nat_tests}
 use Rattle.std.proofs.lemmas.List.{take-append-le, take-append-drop, length-take-le}
+use Rattle.std.specs.List.{AllByRecursion}
 use Rattle.std.specs.declared.cmp.Ordering.{Ordering}
+use Rattle.ffc_field.specs.Modular.{IsPrime}
 use Rattle.ffc_ring.specs.Monomial.{Monomial}
 use Rattle.ffc_ring.specs.Polynomial.{Terms}
 use Rattle.ffc_mono.specs.MonomialOrder.{IsMonomialOrder}
 use Rattle.ffc_basis.specs.declared.pair.PairRecord.{PairRecord}
 use Rattle.ffc_basis.specs.declared.pair.PairState.{PairState}
-use Rattle.ffc_basis.specs.declared.pair.PairState.TheVariants.{Pending, Closed, Over}
+use Rattle.ffc_basis.specs.declared.pair.PairState.TheVariants.{Pending, Closed, Represented, Over}
 use Rattle.ffc_basis.specs.Completion.{IsPairClosed, IsPairOver, AreOver, IsListed}
 use Rattle.ffc_basis.specs.Completed.{IsCompletion}
 use Rattle.ffc_basis.specs.Lines.{AreLists}
-use Rattle.ffc_basis.specs.PairTable.{AreBothClosed, AreNeedless, IsState, IsRecord, AreRecords, HasRecord, ArePairs, AreSettled, known_by, forgotten, with_over, over_of, answer_of}
+use Rattle.ffc_basis.specs.PairTable.{AreBothClosed, AreNeedless, IsState, IsRecord, AreRecords, HasRecord, ArePairs, AreSettled, AreKnown, AreDone, IsRepresentedState, HasRepresented, settled_one, known_by, forgotten, with_over, over_of, answer_of}
 use Rattle.ffc_basis.proofs.LineLemmas.{taken_more}
 use Rattle.ffc_basis.proofs.Lists.{any_default, lists_take}
+use Rattle.ffc_basis.specs.Representations.{IsPairRepresented, AreBothRepresented, AreAllRepresented}
 use Rattle.ffc_basis.proofs.PairLemmas.{grown_pairs_close, same_line_closes}
+use Rattle.ffc_basis.proofs.RepresentedLemmas.{grown_pairs_represented, closed_is_represented, both_closed_are_represented}
+use Rattle.ffc_basis.proofs.StandardLemmas.{all_closed}
 use Rattle.ffc_basis.proofs.PartnerLemmas.{cases_in}
 
 -- ---- lists
@@ -64,6 +69,11 @@ module _ (p : ℕ) (cmp : Monomial → Monomial → Ordering) where
     after,
     subst (λ hs. AreBothClosed p cmp hs i j) (sym (take-append-le n gs more within)) both,
   )
+  state_grown gs more i j (Represented n) (within, after, both) = (
+    omega (arith, within, length-append gs more),
+    after,
+    subst (λ hs. AreBothRepresented p cmp hs i j) (sym (take-append-le n gs more within)) both,
+  )
   state_grown gs more i j (Over n) (within, after, over) = (
     omega (arith, within, length-append gs more),
     after,
@@ -109,6 +119,14 @@ module _ (p : ℕ) (cmp : Monomial → Monomial → Ordering) where
   )
   closed_cut gs len i j n false h is within after both = tt
 
+  represented_cut : (gs : List Terms) (len i j n : ℕ) (b : Bool) → len ≤ length gs → nat_le n len ≡ b → n ≤ length gs → j < n → AreBothRepresented p cmp (take n gs) i j → IsState p cmp (take len gs) i j (if b then Represented n else Pending)
+  represented_cut gs len i j n true h is within after both = (
+    omega (arith, at_most_of_test n len is, length-take-le len gs h),
+    after,
+    subst (λ hs. AreBothRepresented p cmp hs i j) (sym (take-take n len gs (at_most_of_test n len is))) both,
+  )
+  represented_cut gs len i j n false h is within after both = tt
+
   over_cut : (gs : List Terms) (len i j n : ℕ) (b : Bool) → len ≤ length gs → nat_le n len ≡ b → n ≤ length gs → j < n → IsPairOver p cmp (take n gs) i j → IsState p cmp (take len gs) i j (if b then Over n else Pending)
   over_cut gs len i j n true h is within after over = (
     omega (arith, at_most_of_test n len is, length-take-le len gs h),
@@ -120,6 +138,7 @@ module _ (p : ℕ) (cmp : Monomial → Monomial → Ordering) where
   state_cut : (gs : List Terms) (len i j : ℕ) (s : PairState) → len ≤ length gs → IsState p cmp gs i j s → IsState p cmp (take len gs) i j (known_by len s)
   state_cut gs len i j Pending h v = tt
   state_cut gs len i j (Closed n) h (within, after, both) = closed_cut gs len i j n (nat_le n len) h refl within after both
+  state_cut gs len i j (Represented n) h (within, after, both) = represented_cut gs len i j n (nat_le n len) h refl within after both
   state_cut gs len i j (Over n) h (within, after, over) = over_cut gs len i j n (nat_le n len) h refl within after over
 
   abbrev left : ℕ → List PairRecord → List PairRecord
@@ -276,10 +295,13 @@ module _ (p : ℕ) (cmp : Monomial → Monomial → Ordering) where
   pub state_by_all : (gs : List Terms) (i j : ℕ) → j < length gs → AreBothClosed p cmp gs i j → IsState p cmp gs i j (Closed (length gs))
   state_by_all gs i j h both = (omega arith, h, subst (λ hs. AreBothClosed p cmp hs i j) (sym (take_all gs)) both)
 
+  pub represented_by_all : (gs : List Terms) (i j : ℕ) → j < length gs → AreBothRepresented p cmp gs i j → IsState p cmp gs i j (Represented (length gs))
+  represented_by_all gs i j h both = (omega arith, h, subst (λ hs. AreBothRepresented p cmp hs i j) (sym (take_all gs)) both)
+
   pub over_by_all : (gs : List Terms) (i j : ℕ) → j < length gs → IsPairOver p cmp gs i j → IsState p cmp gs i j (Over (length gs))
   over_by_all gs i j h over = (omega arith, h, subst (λ hs. IsPairOver p cmp hs i j) (sym (take_all gs)) over)
 
-  -- ---- no pair is pending
+  -- ---- nothing is left to do
 
   pub closed_by_first : (gs : List Terms) (n i j : ℕ) → n ≤ length gs → i < n → j < n → IsPairClosed p cmp (take n gs) i j → IsPairClosed p cmp gs i j
   closed_by_first gs n i j within low after closed =
@@ -303,10 +325,12 @@ module _ (p : ℕ) (cmp : Monomial → Monomial → Ordering) where
   listed_later : (s : PairState) (t : ℕ × ℕ) (ts : List (ℕ × ℕ)) (i j : ℕ) → IsListed ts i j → IsListed (with_over s t ts) i j
   listed_later Pending t ts i j v = v
   listed_later (Closed n) t ts i j v = v
+  listed_later (Represented n) t ts i j v = v
   listed_later (Over n) t ts i j v = inr (inr v)
 
-  settled_first : (gs : List Terms) (s : PairState) (i j : ℕ) (ts : List (ℕ × ℕ)) → s ≢ Pending → i < j → IsState p cmp gs i j s → IsListed (with_over s (i, j) ts) i j ⊎ AreBothClosed p cmp gs i j
-  settled_first gs Pending i j ts done low v = absurd (done refl)
+  settled_first : (gs : List Terms) (s : PairState) (i j : ℕ) (ts : List (ℕ × ℕ)) → settled_one s ≡ 1 → i < j → IsState p cmp gs i j s → IsListed (with_over s (i, j) ts) i j ⊎ AreBothClosed p cmp gs i j
+  settled_first gs Pending i j ts done low v = absurd (omega (arith, done))
+  settled_first gs (Represented n) i j ts done low v = absurd (omega (arith, done))
   settled_first gs (Closed n) i j ts done low (within, after, both) =
       inr (closed_by_first gs n i j within (omega arith) after both.0, closed_by_first gs n j i within after (omega arith) both.1)
   settled_first gs (Over n) i j ts done low v = inl (inl (refl, refl))
@@ -332,6 +356,7 @@ module _ (p : ℕ) (cmp : Monomial → Monomial → Ordering) where
   are_over_with : (gs : List Terms) (s : PairState) (i j : ℕ) (ts : List (ℕ × ℕ)) → i < j → IsState p cmp gs i j s → AreOver p cmp gs ts → AreOver p cmp gs (with_over s (i, j) ts)
   are_over_with gs Pending i j ts low v rest = rest
   are_over_with gs (Closed n) i j ts low v rest = rest
+  are_over_with gs (Represented n) i j ts low v rest = rest
   are_over_with gs (Over n) i j ts low (within, after, over) rest = ((n, within, omega arith, after, over), rest)
 
   are_over : (gs : List Terms) (rs : List PairRecord) → AreRecords p cmp gs rs → AreOver p cmp gs (over_of rs)
@@ -359,22 +384,91 @@ module _ (p : ℕ) (cmp : Monomial → Monomial → Ordering) where
     answer_is gs [] over v = λ i j h g. elim (v i j h g) [ inl none ↦ absurd none | inr closed ↦ closed ]
     answer_is gs (t ∷ ts) over v = record { some = λ none. absurd (no_list t ts none); over = over; others = v }
 
-    -- then the answer is right
-    pub settled_answer_is : (gs : List Terms) (rs : List PairRecord) (paired : ℕ) → paired ≡ length gs → AreSettled rs → ArePairs p cmp gs rs paired → IsCompletion p cmp gs (answer_of (over_of rs))
-    settled_answer_is gs rs paired all done v =
-        let w = subst (ArePairs p cmp gs rs) all v in
-        answer_is gs (over_of rs) (are_over gs rs v.records) (others gs rs done w)
+  -- ---- pairs that are represented
 
-pub settled_push : (rs : List PairRecord) (r : PairRecord) → AreSettled rs → r.state ≢ Pending → AreSettled (rs ++ r ∷ [])
-settled_push [] r v h = (h, tt)
-settled_push (x ∷ rs) r v h = (v.0, settled_push rs r v.1 h)
+  represented_by_first : (gs : List Terms) (n i j : ℕ) → n ≤ length gs → i < n → j < n → IsPairRepresented p cmp (take n gs) i j → IsPairRepresented p cmp gs i j
+  represented_by_first gs n i j within low after known =
+      subst (λ hs. IsPairRepresented p cmp hs i j) (take-append-drop n gs)
+      (grown_pairs_represented p cmp (take n gs) (drop n gs) i j (omega (arith, length-take-le n gs within)) (omega (arith, length-take-le n gs within)) known)
 
-pub settled_next : (rs : List PairRecord) (i : ℕ) (r : PairRecord) → i < length rs → r ≡ get_or rs i r → AreSettled (take i rs) → r.state ≢ Pending → AreSettled (take (i + 1) rs)
-settled_next rs i r h is v done = subst AreSettled (sym (taken_more rs i r h is)) (settled_push (take i rs) r v done)
+  no_over_before : (s : PairState) (t : ℕ × ℕ) (ts : List (ℕ × ℕ)) → with_over s t ts ≡ [] → ts ≡ []
+  no_over_before Pending t ts none = none
+  no_over_before (Closed n) t ts none = none
+  no_over_before (Represented n) t ts none = none
+  no_over_before (Over n) t ts none = absurd (no_list t ts none)
 
--- a record that is not pending
-pub settled_at : (rs : List PairRecord) (i : ℕ) (d : PairRecord) → i < length rs → AreSettled (take i rs) → (get_or rs i d).state ≢ Pending → AreSettled (take (i + 1) rs)
-settled_at rs i d h v done = settled_next rs i (get_or rs i d) h (any_default rs i d (get_or rs i d) h) v done
+  module _ (prime : IsPrime p) (laws : IsMonomialOrder cmp) (gs : List Terms) (lists : AreLists gs) where
+    represented_state : (s : PairState) (i j : ℕ) → i < j → IsState p cmp gs i j s → IsRepresentedState s → AreBothRepresented p cmp gs i j
+    represented_state Pending i j low v known = absurd known
+    represented_state (Closed n) i j low (within, after, both) known =
+        both_closed_are_represented p prime cmp laws gs lists i j
+        (closed_by_first gs n i j within (omega arith) after both.0, closed_by_first gs n j i within after (omega arith) both.1)
+    represented_state (Represented n) i j low (within, after, both) known =
+        (represented_by_first gs n i j within (omega arith) after both.0, represented_by_first gs n j i within after (omega arith) both.1)
+    represented_state (Over n) i j low v known = absurd known
+
+    pub represented_record : (rs : List PairRecord) (i j : ℕ) → AreRecords p cmp gs rs → HasRepresented rs i j → AreBothRepresented p cmp gs i j
+    represented_record [] i j v has = absurd has
+    represented_record (r ∷ rs) i j v (inl (first, second, known)) =
+        subst (λ x. AreBothRepresented p cmp gs x j) first
+        (subst (λ x. AreBothRepresented p cmp gs r.first x) second (represented_state r.state r.first r.second v.0.ordered v.0.state known))
+    represented_record (r ∷ rs) i j v (inr there) = represented_record rs i j v.1 there
+
+    -- where no limit was passed at a pair, what is known of it is that
+    known_state : (s : PairState) (t : ℕ × ℕ) (ts : List (ℕ × ℕ)) → s ≢ Pending → with_over s t ts ≡ [] → IsRepresentedState s
+    known_state Pending t ts known none = absurd (known refl)
+    known_state (Closed n) t ts known none = tt
+    known_state (Represented n) t ts known none = tt
+    known_state (Over n) t ts known none = absurd (no_list t ts none)
+
+    known_pair : (rs : List PairRecord) (i j : ℕ) → AreKnown rs → over_of rs ≡ [] → HasRecord rs i j → HasRepresented rs i j
+    known_pair [] i j known none has = absurd has
+    known_pair (r ∷ rs) i j known none (inl here) =
+        inl (here.0, here.1, known_state r.state (r.first, r.second) (over_of rs) known.0 none)
+    known_pair (r ∷ rs) i j known none (inr there) =
+        inr (known_pair rs i j known.1 (no_over_before r.state (r.first, r.second) (over_of rs) none) there)
+
+    both_represented : (rs : List PairRecord) → AreKnown rs → over_of rs ≡ [] → ArePairs p cmp gs rs (length gs) → (i j : ℕ) → i < j → j < length gs → AreBothRepresented p cmp gs i j
+    both_represented rs known none v i j low below =
+        elim (v.covered i j low below) [
+          | inl there ↦ represented_record rs i j v.records (known_pair rs i j known none there)
+          | inr needless ↦ both_closed_are_represented p prime cmp laws gs lists i j (needless gs i j (omega arith) below refl refl)
+        ]
+
+    all_represented : (rs : List PairRecord) → AreKnown rs → over_of rs ≡ [] → ArePairs p cmp gs rs (length gs) → AreAllRepresented p cmp gs
+    all_represented rs known none v i j h g =
+        elim (cases_order i j) [
+          | inr (inl less) ↦ (both_represented rs known none v i j less g).0
+          | inl same ↦
+              closed_is_represented p prime cmp laws gs lists i j
+              (subst (IsPairClosed p cmp gs i) same (same_line_closes p cmp laws (omega (arith, prime.least)) gs i))
+          | inr (inr more) ↦ (both_represented rs known none v j i more h).1
+        ]
+
+  -- then the answer is right
+  pub settled_answer_is : (prime : IsPrime p) → (laws : IsMonomialOrder cmp) → (gs : List Terms) (rs : List PairRecord) (paired : ℕ) → paired ≡ length gs → AreDone rs → ArePairs p cmp gs rs paired → IsCompletion p cmp gs (answer_of (over_of rs))
+  settled_answer_is prime laws gs rs paired all (inl (known, none)) v =
+      let w = subst (ArePairs p cmp gs rs) all v in
+      subst (λ ts. IsCompletion p cmp gs (answer_of ts)) (sym none) (all_closed p prime cmp laws gs w.lists (all_represented prime laws gs w.lists rs known none w))
+  settled_answer_is prime laws gs rs paired all (inr done) v =
+      let w = subst (ArePairs p cmp gs rs) all v in
+      answer_is laws (omega (arith, prime.least)) gs (over_of rs) (are_over gs rs v.records) (others laws (omega (arith, prime.least)) gs rs done w)
+
+-- ---- pairs one after another
+
+each_push : (P : PairRecord → Type 0) (rs : List PairRecord) (r : PairRecord) → AllByRecursion P rs → P r → AllByRecursion P (rs ++ r ∷ [])
+each_push P [] r v h = (h, tt)
+each_push P (x ∷ rs) r v h = (v.0, each_push P rs r v.1 h)
+
+pub each_next : (P : PairRecord → Type 0) (rs : List PairRecord) (i : ℕ) (d : PairRecord) → i < length rs → AllByRecursion P (take i rs) → P (get_or rs i d) → AllByRecursion P (take (i + 1) rs)
+each_next P rs i d h v at =
+    subst (AllByRecursion P) (sym (taken_more rs i (get_or rs i d) h (any_default rs i d (get_or rs i d) h))) (each_push P (take i rs) (get_or rs i d) v at)
 
 pub not_so : (b : Bool) → b ≡ false → b ≡ true → ⊥
 not_so b e f = subst (λ x. cond x (Unit {0}) ⊥) (sym f ∙ e) tt
+
+-- the record at a place says what is known of its pair
+pub represented_at : (rs : List PairRecord) (place i j : ℕ) (d : PairRecord) → place < length rs → (get_or rs place d).first ≡ i → (get_or rs place d).second ≡ j → IsRepresentedState (get_or rs place d).state → HasRepresented rs i j
+represented_at [] place i j d h first second known = absurd (omega arith)
+represented_at (r ∷ rs) zero i j d h first second known = inl (first, second, known)
+represented_at (r ∷ rs) (suc place) i j d h first second known = inr (represented_at rs place i j d (omega arith) first second known)

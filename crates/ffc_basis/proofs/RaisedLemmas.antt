@@ -14,7 +14,7 @@ use Rattle.ffc_ring.proofs.MonomialLemmas.{one_monomial, IsMonomial-mono_mul, ex
 use Rattle.ffc_ring.proofs.PolynomialLemmas.{cases_monomial, coefficient-difference, coefficient-term_product, shifted_monomial, monomial_of_coefficient}
 use Rattle.ffc_mono.specs.MonomialOrder.{IsMonomialOrder}
 use Rattle.ffc_mono.specs.Leading.{IsLeading}
-use Rattle.ffc_mono.proofs.LeadingLemmas.{turned, turned_back, greater_trans, not_itself, one_leading}
+use Rattle.ffc_mono.proofs.LeadingLemmas.{turned, turned_back, greater_trans, not_itself, one_leading, leading_at_most}
 use Rattle.ffc_poly.specs.Ordered.{IsOrdered}
 use Rattle.ffc_basis.specs.declared.chain.Raised.{Raised}
 use Rattle.ffc_basis.specs.Chains.{IsAtMost, IsSecond, IsRaised, IsUnder, AreApart, IsLeadLcm, IsLeadOfAll, IsTop}
@@ -244,6 +244,29 @@ module _ (p : ℕ) (prime : IsPrime p) (cmp : Monomial → Monomial → Ordering
               inr (λ nothing. some (coefficient-difference p positive left right z ∙ ap₂ (sub_mod p) none nothing ∙ sub_mod-self p 0 (omega arith)))
           | inr found ↦ inl found
         ]
+
+    -- each monomial that is left is below the least common multiple
+    pub below_lcm : (z : Monomial) → coefficient p (difference p left right) z ≢ 0 → cmp low z ≡ Greater
+    below_lcm z some =
+        let off : z ≢ low = λ e. some (ap (coefficient p (difference p left right)) e ∙ none_at_lcm) in
+        elim (some_of_difference z some) [
+          | inl there ↦ one_below a c m k x first m_monomial (first_divides_lcm m n m_monomial n_monomial) z there off
+          | inr there ↦ one_below b d n l y second n_monomial (second_divides_lcm m n m_monomial n_monomial) z there off
+        ]
+      where
+        one_below : (ts : Terms) (e : ℕ) (r : Monomial) (f : ℕ) → AreTerms ts → IsLeading p cmp ts e r → IsMonomial r → Divides r low
+            → (z : Monomial) → coefficient p (term_product f (mono_quotient low r) ts) z ≢ 0 → z ≢ low → cmp low z ≡ Greater
+        one_below ts e r f t leads rm divides z some off =
+            let q = mono_quotient low r in
+            let qm : IsMonomial q = IsMonomialFrom-mono_quotient 0 low r low_monomial in
+            let found = shifted_monomial p f q z ts qm t some in
+            let i = found.0 in
+            let at : mono_mul q r ≡ low = quotient_times low r low_monomial rm divides in
+            elim (leading_at_most cmp laws p ts e r leads i found.2) [
+              | inl same ↦ absurd (off (found.3 ∙ ap (mono_mul q) same ∙ at))
+              | inr lower ↦
+                  ap₂ cmp (sym at ∙ mono_mul_comm q r qm rm) (found.3 ∙ mono_mul_comm q i qm found.1) ∙ laws.kept r i q rm found.1 qm ∙ lower
+            ]
 
     -- Raised to this multiple, none of them is above what no other monomial of both polynomials is above.
     pub s_polynomial_under : (u top lead : Monomial) → IsMonomial u → IsMonomial top → mono_mul low u ≡ top → IsUnder p cmp a top lead → IsUnder p cmp b top lead

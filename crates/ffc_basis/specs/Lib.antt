@@ -9,4 +9,5 @@ pub mod PairTable
 pub mod Records
 pub mod Reduction
 pub mod Remainders
+pub mod Representations
 pub mod Units

@@ -1,5 +1,6 @@
 -- What is known of the pairs of lines while a basis is completed.
 use Rattle.std.specs.Prelude.{◌≡◌, ◌≢◌, ℕ, zero, suc, ◌+◌, ◌*◌, ◌<◌, ◌≤◌, ◌⊎◌, List, [], ◌∷◌, ◌++◌, length, get_or, map, take, nat_le, nat_lt, if◌then◌else◌}
+use Rattle.std.specs.List.{AllByRecursion}
 use Rattle.std.specs.declared.cmp.Ordering.{Ordering}
 use Rattle.ffc_ring.specs.Monomial.{Monomial}
 use Rattle.ffc_ring.specs.Polynomial.{Terms}
@@ -7,9 +8,10 @@ use Rattle.ffc_basis.specs.declared.completion.Completion.{Completion as Answer}
 use Rattle.ffc_basis.specs.declared.completion.Completion.TheVariants.{Closed as whole, SetAside}
 use Rattle.ffc_basis.specs.declared.pair.PairRecord.{PairRecord}
 use Rattle.ffc_basis.specs.declared.pair.PairState.{PairState}
-use Rattle.ffc_basis.specs.declared.pair.PairState.TheVariants.{Pending, Closed, Over}
+use Rattle.ffc_basis.specs.declared.pair.PairState.TheVariants.{Pending, Closed, Represented, Over}
 use Rattle.ffc_basis.specs.Completion.{IsPairClosed, IsPairOver}
 use Rattle.ffc_basis.specs.Lines.{AreLists}
+use Rattle.ffc_basis.specs.Representations.{AreBothRepresented}
 
 -- both S-polynomials of two lines reduce to zero
 abbrev pub AreBothClosed : ℕ → (Monomial → Monomial → Ordering) → List Terms → ℕ → ℕ → Type 0
@@ -24,6 +26,7 @@ AreNeedless p cmp a b =
 abbrev pub IsState : ℕ → (Monomial → Monomial → Ordering) → List Terms → ℕ → ℕ → PairState → Type 0
 IsState p cmp gs i j Pending = Unit {0}
 IsState p cmp gs i j (Closed n) = (n ≤ length gs) × (j < n) × AreBothClosed p cmp (take n gs) i j
+IsState p cmp gs i j (Represented n) = (n ≤ length gs) × (j < n) × AreBothRepresented p cmp (take n gs) i j
 IsState p cmp gs i j (Over n) = (n ≤ length gs) × (j < n) × IsPairOver p cmp (take n gs) i j
 
 -- a pair of lines
@@ -35,6 +38,18 @@ pub record IsRecord (p : ℕ) (cmp : Monomial → Monomial → Ordering) (gs : L
 abbrev pub AreRecords : ℕ → (Monomial → Monomial → Ordering) → List Terms → List PairRecord → Type 0
 AreRecords p cmp gs [] = Unit {0}
 AreRecords p cmp gs (r ∷ rs) = IsRecord p cmp gs r × AreRecords p cmp gs rs
+
+-- the S-polynomials are known to be sums of multiples below the least common multiple
+abbrev pub IsRepresentedState : PairState → Type 0
+IsRepresentedState Pending = ⊥
+IsRepresentedState (Closed n) = Unit {0}
+IsRepresentedState (Represented n) = Unit {0}
+IsRepresentedState (Over n) = ⊥
+
+-- the pair is there, and this is known of it
+abbrev pub HasRepresented : List PairRecord → ℕ → ℕ → Type 0
+HasRepresented [] i j = ⊥
+HasRepresented (r ∷ rs) i j = ((r.first ≡ i) × (r.second ≡ j) × IsRepresentedState r.state) ⊎ HasRepresented rs i j
 
 -- the pair is there
 abbrev pub HasRecord : List PairRecord → ℕ → ℕ → Type 0
@@ -75,31 +90,36 @@ ArePendingOf line (r ∷ rs) = (r.second ≡ line) × (r.state ≡ Pending) × A
 abbrev pub IsPaired : ℕ → ℕ → List PairRecord → List PairRecord → Type 0
 IsPaired line most old new = (more : List PairRecord) × (new ≡ old ++ more) × ArePendingOf line more × (length more ≤ most)
 
--- the pair at this place is pending
-abbrev pub IsPendingAt : List PairRecord → ℕ → Type 0
-IsPendingAt [] place = ⊥
-IsPendingAt (r ∷ rs) zero = r.state ≡ Pending
-IsPendingAt (r ∷ rs) (suc place) = IsPendingAt rs place
-
--- how many pairs are not pending
+-- how many pairs were reduced or follow from others by themselves
 abbrev pub settled_one : PairState → ℕ
 settled_one Pending = 0
 settled_one (Closed n) = 1
+settled_one (Represented n) = 0
 settled_one (Over n) = 1
 
 abbrev pub settled_count : List PairRecord → ℕ
 settled_count [] = 0
 settled_count (r ∷ rs) = settled_one r.state + settled_count rs
 
--- no pair is pending
+-- the pair at this place was not
+abbrev pub IsPendingAt : List PairRecord → ℕ → Type 0
+IsPendingAt [] place = ⊥
+IsPendingAt (r ∷ rs) zero = settled_one r.state ≡ 0
+IsPendingAt (r ∷ rs) (suc place) = IsPendingAt rs place
+
+-- each pair was
 abbrev pub AreSettled : List PairRecord → Type 0
-AreSettled [] = Unit {0}
-AreSettled (r ∷ rs) = (r.state ≢ Pending) × AreSettled rs
+AreSettled rs = AllByRecursion (λ r. settled_one r.state ≡ 1) rs
+
+-- something is known of each pair
+abbrev pub AreKnown : List PairRecord → Type 0
+AreKnown rs = AllByRecursion (λ r. r.state ≢ Pending) rs
 
 -- what is known by the first lines alone
 abbrev pub known_by : ℕ → PairState → PairState
 known_by len Pending = Pending
 known_by len (Closed n) = if nat_le n len then Closed n else Pending
+known_by len (Represented n) = if nat_le n len then Represented n else Pending
 known_by len (Over n) = if nat_le n len then Over n else Pending
 
 abbrev pub forgotten : ℕ → PairRecord → PairRecord
@@ -113,6 +133,7 @@ with_state r s = record { first = r.first; second = r.second; state = s }
 abbrev pub with_over : PairState → ℕ × ℕ → List (ℕ × ℕ) → List (ℕ × ℕ)
 with_over Pending t ts = ts
 with_over (Closed n) t ts = ts
+with_over (Represented n) t ts = ts
 with_over (Over n) t ts = t ∷ ts
 
 -- the pairs at which one was passed
@@ -120,7 +141,17 @@ abbrev pub over_of : List PairRecord → List (ℕ × ℕ)
 over_of [] = []
 over_of (r ∷ rs) = with_over r.state (r.first, r.second) (over_of rs)
 
--- the answer where no pair is pending
+-- nothing is left to do: something is known of each pair and no limit was passed, or each pair is settled
+abbrev pub AreDone : List PairRecord → Type 0
+AreDone rs = (AreKnown rs × (over_of rs ≡ [])) ⊎ AreSettled rs
+
+-- more pairs are known to be represented
+pub record IsLeftOut (p : ℕ) (cmp : Monomial → Monomial → Ordering) (gs : List Terms) (old new : List PairRecord) (paired : ℕ) : Type 0 where
+  pub pairs : ArePairs p cmp gs new paired
+  pub seconds : seconds new ≡ seconds old
+  pub settled : settled_count new ≡ settled_count old
+
+-- the answer where nothing is left to do
 abbrev pub answer_of : List (ℕ × ℕ) → Answer
 answer_of [] = whole
 answer_of (t ∷ ts) = SetAside (t ∷ ts)

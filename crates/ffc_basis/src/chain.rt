@@ -179,7 +179,7 @@ fn is_under<F: Field, O: MonoOrder>(
 }
 
 /// Where the record of a pair is, if there is one: they are ordered by their second lines and then by their first ones.
-fn place_of_pair(records: &[PairRecord], first: usize, second: usize) -> usize {
+pub(crate) fn place_of_pair(records: &[PairRecord], first: usize, second: usize) -> usize {
     records.partition_point(|r| r.second < second || (r.second == second && r.first < first))
 }
 

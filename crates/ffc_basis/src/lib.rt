@@ -15,6 +15,7 @@ mod queue;
 mod record;
 mod reduction;
 mod remainder;
+mod represented;
 mod spoly;
 
 pub use basis::Basis;

@@ -1,5 +1,7 @@
 //! Pairs of lines, and what is known of them.
-ghost use Rattle.std.specs.Prelude.{◌≡◌, ℕ, ◌∷◌, ◌++◌, ◌↔◌, [], IsTrue, OnOk, OnErr};
+ghost use Rattle.std.specs.Prelude.{◌≡◌, ℕ, ◌∷◌, ◌++◌, ◌↔◌, [], List, IsTrue, OnOk, OnErr};
+ghost use Rattle.std.specs.Bool.{OnFalse};
+ghost use Rattle.ffc_basis.specs.PairTable.{settled_one, with_over, IsRepresentedState};
 ghost use Rattle.ffc_basis.specs.declared.pair.PairState.TheVariants as states;
 
 use crate::line::LineId;
@@ -54,6 +56,9 @@ pub(crate) enum PairState {
     Pending,
     /// Its S-polynomial reduces to zero by so many lines, the first ones.
     Closed(usize),
+    /// By so many lines, the first ones, its S-polynomial is a sum of multiples below the least common multiple of the two
+    /// leading monomials. So it reduces to zero if all pairs are so or closed.
+    Represented(usize),
     /// With so many lines, the first ones, a limit was passed.
     Over(usize),
 }
@@ -67,13 +72,14 @@ pub(crate) struct PairRecord {
 }
 
 impl PairRecord {
-    /// Whether its S-polynomial is still to be reduced.
+    /// Whether nothing is known of its S-polynomial.
     pub fn is_pending(&self) -> bool
         ensures { IsTrue result ↔ (self.now.state ≡ states.Pending) }
     {
         match self.state {
             PairState::Pending => true,
             PairState::Closed(_) => false,
+            PairState::Represented(_) => false,
             PairState::Over(_) => false,
         }
     }
@@ -85,7 +91,44 @@ impl PairRecord {
         match self.state {
             PairState::Pending => false,
             PairState::Closed(_) => true,
+            PairState::Represented(_) => false,
             PairState::Over(_) => false,
+        }
+    }
+
+    /// Whether it is known to be a sum of multiples below the least common multiple.
+    pub fn is_represented(&self) -> bool
+        ensures { IsTrue result → IsRepresentedState self.now.state }
+    {
+        match self.state {
+            PairState::Pending => false,
+            PairState::Closed(_) => true,
+            PairState::Represented(_) => true,
+            PairState::Over(_) => false,
+        }
+    }
+
+    /// Whether its S-polynomial was reduced, or follows from others by itself.
+    pub fn is_settled(&self) -> bool
+        ensures { IsTrue result ↔ (settled_one self.now.state ≡ 1) }
+    {
+        match self.state {
+            PairState::Pending => false,
+            PairState::Closed(_) => true,
+            PairState::Represented(_) => false,
+            PairState::Over(_) => true,
+        }
+    }
+
+    /// Whether a limit was passed at it.
+    pub fn is_over(&self) -> bool
+        ensures { OnFalse result ((t : ℕ × ℕ) (ts : List (ℕ × ℕ)) → with_over self.now.state t ts ≡ ts) }
+    {
+        match self.state {
+            PairState::Pending => false,
+            PairState::Closed(_) => false,
+            PairState::Represented(_) => false,
+            PairState::Over(_) => true,
         }
     }
 }

@@ -9,7 +9,8 @@ ghost use Rattle.ffc_basis.specs.Lines.{polys_of, AreLines, AreLists};
 ghost use Rattle.ffc_basis.specs.Completion.{IsConstantLine};
 ghost use Rattle.ffc_basis.specs.Completed.{IsFront, IsProgress, HasTaken};
 ghost use Rattle.ffc_basis.specs.Outcomes.{IsOutcome};
-ghost use Rattle.ffc_basis.specs.PairTable.{AreNeedless, ArePairs, AreRecords, AreFew, AreSettled, IsPaired};
+ghost use Rattle.ffc_basis.specs.PairTable.{AreNeedless, ArePairs, AreRecords, AreFew, AreKnown, AreSettled, AreDone};
+ghost use Rattle.ffc_basis.specs.PairTable.{IsPaired, IsLeftOut};
 ghost use Rattle.ffc_basis.specs.PairTable.{IsPendingAt, seconds, settled_count, known_by, forgotten, with_state};
 ghost use Rattle.ffc_basis.specs.PairTable.{over_of, answer_of};
 ghost use Rattle.ffc_basis.specs.Units.{TakesReductions, IsPairBound, IsPairsBound, IsCompletionBound};
@@ -20,6 +21,7 @@ use crate::index::{Index, push_line};
 use crate::line::Line;
 use crate::pair::{PairRecord, PairState, Pairs};
 use crate::queue::Queue;
+use crate::represented::follows_from_others;
 use crate::spoly::{Outcome, reduce_pair};
 use ffc_base::{Meter, Stop, Unit};
 use ffc_dense::Table;
@@ -59,8 +61,9 @@ impl Pairing {
         drop_after(&mut self.records, len);
         forget_after(&mut self.records, len);
         self.paired = self.paired.min(len);
+        let is_over = has_over(self.records.as_slice());
         self.queue
-            .cut(*self.records.allocator(), self.records.len());
+            .cut(*self.records.allocator(), self.records.len(), is_over);
     }
 }
 
@@ -80,6 +83,13 @@ fn known_by(state: PairState, len: usize) -> PairState
         PairState::Closed(n) => {
             if n <= len {
                 PairState::Closed(n)
+            } else {
+                PairState::Pending
+            }
+        }
+        PairState::Represented(n) => {
+            if n <= len {
+                PairState::Represented(n)
             } else {
                 PairState::Pending
             }
@@ -192,7 +202,96 @@ fn pair_next<F: Field, O: MonoOrder>(
     }
 }
 
-/// Makes the pairs of the lines that have none yet, and lets all pending pairs wait.
+/// Marks the pair at a place as represented, where it follows from others.
+fn leave_out_at<F: Field, O: MonoOrder>(
+    alloc: Global,
+    lines: &[Line<F, O>],
+    index: &Index,
+    pairing: &mut Pairing,
+    place: usize,
+) -> Result<bool, AllocError>
+    requires index { IsIndexOf F.ORDER O.cmp (polys_of lines.now) index.now }
+    requires pending { IsPendingAt pairing.old.records.items place }
+    requires pairs { ArePairs F.ORDER O.cmp (polys_of lines.now) pairing.old.records.items pairing.old.paired }
+    ensures left_out { IsLeftOut F.ORDER O.cmp (polys_of lines.now) pairing.old.records.items
+        pairing.new.records.items pairing.new.paired }
+    ensures paired { pairing.new.paired ≡ pairing.old.paired }
+{
+    let count = lines.len();
+    let pair = pairing.records[place];
+    if follows_from_others(
+        alloc,
+        lines,
+        index,
+        pairing.records.as_slice(),
+        pair.first,
+        pair.second,
+    )? {
+        mark(
+            &mut pairing.records,
+            place,
+            pair,
+            PairState::Represented(count),
+        );
+        return Ok(true);
+    }
+    Ok(false)
+}
+
+/// Marks the next late pair as represented, where it follows from others, and says whether there was one.
+fn leave_out_next<F: Field, O: MonoOrder>(
+    alloc: Global,
+    lines: &[Line<F, O>],
+    index: &Index,
+    pairing: &mut Pairing,
+) -> Result<bool, AllocError>
+    requires index { IsIndexOf F.ORDER O.cmp (polys_of lines.now) index.now }
+    requires pairs { ArePairs F.ORDER O.cmp (polys_of lines.now) pairing.old.records.items pairing.old.paired }
+    ensures left_out { IsLeftOut F.ORDER O.cmp (polys_of lines.now) pairing.old.records.items
+        pairing.new.records.items pairing.new.paired }
+    ensures paired { pairing.new.paired ≡ pairing.old.paired }
+{
+    let next = pairing.queue.next_late(pairing.records.as_slice())?;
+    let Some(place) = next else {
+        return Ok(false);
+    };
+    if !leave_out_at(alloc, lines, index, pairing, place)? {
+        pairing.queue.put_back()?;
+    }
+    Ok(true)
+}
+
+/// Marks the pairs that follow from others, where no other pair waits.
+fn leave_out<F: Field, O: MonoOrder>(
+    alloc: Global,
+    lines: &[Line<F, O>],
+    index: &Index,
+    pairing: &mut Pairing,
+) -> Result<(), AllocError>
+    requires index { IsIndexOf F.ORDER O.cmp (polys_of lines.now) index.now }
+    requires pairs { ArePairs F.ORDER O.cmp (polys_of lines.now) pairing.old.records.items pairing.old.paired }
+    ensures left_out { IsLeftOut F.ORDER O.cmp (polys_of lines.now) pairing.old.records.items
+        pairing.new.records.items pairing.new.paired }
+    ensures paired { pairing.new.paired ≡ pairing.old.paired }
+{
+    if pairing.queue.keeps_all {
+        return Ok(());
+    }
+    let front = pairing
+        .queue
+        .front(alloc, lines, index, pairing.records.as_slice())?;
+    if front.is_some() {
+        return Ok(());
+    }
+    for _ in 0..u64::MAX {
+        if !leave_out_next(alloc, lines, index, pairing)? {
+            return Ok(());
+        }
+    }
+    Ok(())
+}
+
+/// Makes the pairs of the lines that have none yet, lets all pending pairs wait, and leaves out those that follow from others.
 fn pair_lines<F: Field, O: MonoOrder>(
     alloc: Global,
     lines: &[Line<F, O>],
@@ -211,13 +310,14 @@ fn pair_lines<F: Field, O: MonoOrder>(
     while pairing.paired < lines.len() {
         pair_next(alloc, lines, index, pairing)?;
     }
+    leave_out(alloc, lines, index, pairing)?;
     Ok(())
 }
 
 /// The place of the first pending pair.
 fn first_pending(records: &[PairRecord]) -> Option<usize>
     ensures some { IfSome result (IsPendingAt records.now) }
-    ensures none { IfNone result (AreSettled records.now) }
+    ensures none { IfNone result (AreKnown records.now) }
 {
     for place in 0..records.len() {
         if records[place].is_pending() {
@@ -225,6 +325,43 @@ fn first_pending(records: &[PairRecord]) -> Option<usize>
         }
     }
     None
+}
+
+/// The place of the first pair that is not settled.
+fn first_unsettled(records: &[PairRecord]) -> Option<usize>
+    ensures some { IfSome result (IsPendingAt records.now) }
+    ensures none { IfNone result (AreSettled records.now) }
+{
+    for place in 0..records.len() {
+        if !records[place].is_settled() {
+            return Some(place);
+        }
+    }
+    None
+}
+
+/// Whether a limit was passed at a pair.
+fn has_over(records: &[PairRecord]) -> bool
+    ensures { OnFalse result (over_of records.now ≡ []) }
+{
+    for r in records {
+        if r.is_over() {
+            return true;
+        }
+    }
+    false
+}
+
+/// The place of the first pair that is still to be reduced: pairs that follow from others are not, unless a limit was passed
+/// at a pair.
+fn first_open(records: &[PairRecord]) -> Option<usize>
+    ensures some { IfSome result (IsPendingAt records.now) }
+    ensures none { IfNone result (AreDone records.now) }
+{
+    if has_over(records) {
+        return first_unsettled(records);
+    }
+    first_pending(records)
 }
 
 /// The place of the pair that comes next.
@@ -236,15 +373,18 @@ fn next_place<F: Field, O: MonoOrder>(
     queue: &mut Queue,
 ) -> Result<Option<usize>, AllocError>
     ensures some { IfOk result (λ o. IfSome o (IsPendingAt records.now)) }
-    ensures none { IfOk result (λ o. IfNone o (AreSettled records.now)) }
+    ensures none { IfOk result (λ o. IfNone o (AreDone records.now)) }
 {
     if let Some(place) = queue.next_near(alloc, lines, index, records)? {
+        return Ok(Some(place));
+    }
+    if let Some(place) = queue.next_open(records)? {
         return Ok(Some(place));
     }
     if let Some(place) = queue.next_late(records)? {
         return Ok(Some(place));
     }
-    Ok(first_pending(records))
+    Ok(first_open(records))
 }
 
 /// The pairs at which a limit was passed.
@@ -317,6 +457,7 @@ fn settle<F: Field, O: MonoOrder>(
         }
         Outcome::Over => {
             mark(&mut pairing.records, place, pair, PairState::Over(count));
+            pairing.queue.keeps_all = true;
             Ok(())
         }
         Outcome::Added(line) => {
@@ -333,13 +474,15 @@ fn settle<F: Field, O: MonoOrder>(
     }
 }
 
-/// What the S-polynomial of two lines gives: it is reduced, where the second criterion doesn't show that it reduces to zero.
+/// What the S-polynomial of two lines gives: it is reduced, where the second criterion doesn't show by itself that it reduces to
+/// zero. That is tried where no pair is left out for others.
 fn outcome_of<F: Field, O: MonoOrder>(
     alloc: Global,
     lines: &[Line<F, O>],
     index: &Index,
     table: &mut Table<F, O>,
     records: &[PairRecord],
+    keeps_all: bool,
     i: usize,
     j: usize,
     meter: &mut Meter,
@@ -356,7 +499,7 @@ fn outcome_of<F: Field, O: MonoOrder>(
     ensures takes { TakesReductions meter.old meter.new }
     ensures bound { IsPairBound F.ORDER O.cmp (polys_of lines.now) meter.old meter.new }
 {
-    if is_chained(alloc, lines, index, records, i, j)? {
+    if keeps_all && is_chained(alloc, lines, index, records, i, j)? {
         return Ok(Outcome::Closed);
     }
     reduce_pair(alloc, lines, index, table, i, j, meter)
@@ -398,6 +541,7 @@ fn treat<F: Field, O: MonoOrder>(
         index,
         table,
         pairing.records.as_slice(),
+        pairing.queue.keeps_all,
         pair.first,
         pair.second,
         meter,

@@ -3,15 +3,22 @@
 //! say that a variable is a value or another variable come first, so that a circuit is evaluated, and no line is made by one
 //! that is still to become shorter. Other pairs follow
 //! as S-polynomials: those that cancel a leading term by a divisor, then those of low degree (Cox, Little and O'Shea, chapter
-//! 2, section 10). A pair that the chain criterion leaves out (Gebauer and Möller 1988) comes after all others.
+//! 2, section 10).
+//!
+//! A pair that the criteria of Gebauer and Möller (1988) leave out comes after all others: a third line's leading monomial
+//! divides the least common multiple of the two leading monomials, and its pairs with both lines come before, or are done, or
+//! need none. A pair comes before another whose least common multiple is a proper multiple of its own, or which has the same
+//! one and a later second line, or the same second line and an earlier first line. So those that are left out follow one after
+//! another, in this order, once all others are done.
 //!
 //! The order is a cache. No answer depends on it but by how soon it comes.
-ghost use Rattle.std.specs.Prelude.{IfOk, IfSome};
+ghost use Rattle.std.specs.Prelude.{◌≡◌, ◌<◌, ◌⊎◌, IfOk, IfSome};
 ghost use Rattle.ffc_basis.specs.PairTable.{IsPendingAt};
 
 use crate::index::Index;
 use crate::line::Line;
 use crate::pair::PairRecord;
+use crate::represented::is_recorded;
 use ffc_field::Field;
 use ffc_mono::{Mono, MonoOrder, MonoRef, MonoStop};
 use std::alloc::{AllocError, Global};
@@ -40,15 +47,32 @@ impl Turn {
     }
 }
 
+/// A pair that is left out. The greatest comes first.
+#[derive(Clone, Copy, Debug, PartialEq, Eq, PartialOrd, Ord)]
+struct Late {
+    /// How far the degree of the least common multiple is below all numbers.
+    ease: u32,
+    /// How far the second line is below all numbers.
+    second: usize,
+    first: usize,
+    turn: Turn,
+}
+
 /// Pairs that wait, by their places.
 #[derive(Debug, Drop)]
 pub(crate) struct Queue {
     near: BinaryHeap<Turn>,
-    /// Those that the chain criterion leaves out.
-    late: BinaryHeap<Turn>,
+    /// Those that the criteria leave out.
+    late: BinaryHeap<Late>,
+    /// Those that the criteria left out, and that did not follow from others.
+    open: Vec<Turn>,
     /// Those that were taken out, in that order. What is known of a pair is known by the lines that there were then, so those
     /// that are pending again after lines are dropped are the last.
     taken: Vec<Turn>,
+    /// Whether each pair is reduced, or follows by itself. So it is where a limit was passed at a pair.
+    pub keeps_all: bool,
+    /// Whether the pairs that were left out before wait again.
+    has_all: bool,
 }
 
 impl Queue {
@@ -57,14 +81,24 @@ impl Queue {
         Queue {
             near: BinaryHeap::new(alloc),
             late: BinaryHeap::new(alloc),
+            open: Vec::new(alloc),
             taken: Vec::new(alloc),
+            keeps_all: false,
+            has_all: false,
         }
     }
 
-    /// Drops the places from a number on. It takes no memory.
-    pub fn cut(&mut self, alloc: Global, len: usize) {
-        keep_before(alloc, &mut self.near, len);
-        keep_before(alloc, &mut self.late, len);
+    /// Drops the places from a number on, where limits were passed at some of the others or not. It takes no memory.
+    pub fn cut(&mut self, alloc: Global, len: usize, is_over: bool) {
+        let mut near = mem::replace(&mut self.near, BinaryHeap::new(alloc)).into_vec();
+        near.retain(|turn| turn.place() < len);
+        self.near = BinaryHeap::from(near);
+        let mut late = mem::replace(&mut self.late, BinaryHeap::new(alloc)).into_vec();
+        late.retain(|late| late.turn.place() < len);
+        self.late = BinaryHeap::from(late);
+        self.open.retain(|turn| turn.place() < len);
+        self.keeps_all = is_over;
+        self.has_all = self.has_all && is_over;
     }
 
     /// Lets a pair wait.
@@ -75,14 +109,24 @@ impl Queue {
         pair: &PairRecord,
         place: usize,
     ) -> Result<(), AllocError> {
-        let turn = turn_of(alloc, lines, pair, place)?;
+        let turn = turn_of(lines, pair, place);
         self.near.push(turn)?;
         Ok(())
     }
 
-    /// Lets the pairs wait again that were taken out and are pending. It is called after lines are dropped, before their
-    /// places are used again.
+    /// Lets the pairs wait again that were taken out and are pending, and those that were left out where each is to be reduced.
+    /// It is called after lines are dropped, before their places are used again.
     pub fn refresh(&mut self, pairs: &[PairRecord]) -> Result<(), AllocError> {
+        self.put_pending(pairs)?;
+        if self.keeps_all && !self.has_all {
+            self.put_unsettled(pairs)?;
+            self.has_all = true;
+        }
+        Ok(())
+    }
+
+    /// Lets the pairs wait again that were taken out as the last ones and are pending.
+    fn put_pending(&mut self, pairs: &[PairRecord]) -> Result<(), AllocError> {
         while let Some(turn) = self.taken.last().copied() {
             let place = turn.place();
             if place < pairs.len() {
@@ -96,8 +140,18 @@ impl Queue {
         Ok(())
     }
 
-    /// The place of the next pair that the chain criterion does not leave out, and whether it simplifies. It still waits.
-    fn front<F: Field, O: MonoOrder>(
+    /// Lets all pairs wait again that were taken out and are not settled.
+    fn put_unsettled(&mut self, pairs: &[PairRecord]) -> Result<(), AllocError> {
+        for turn in &self.taken {
+            if waiting_at(pairs, turn.place()).is_some() {
+                self.near.push(*turn)?;
+            }
+        }
+        Ok(())
+    }
+
+    /// The place of the next pair that the criteria do not leave out, and whether it simplifies. It still waits.
+    pub fn front<F: Field, O: MonoOrder>(
         &mut self,
         alloc: Global,
         lines: &[Line<F, O>],
@@ -108,11 +162,16 @@ impl Queue {
     {
         while let Some(turn) = self.near.peek().copied() {
             let place = turn.place();
-            if let Some(pair) = pending_at(pairs, place) {
-                if !is_covered(alloc, lines, index, &pair)? {
+            if let Some(pair) = waiting_at(pairs, place) {
+                if !is_covered(alloc, lines, index, pairs, &pair)? {
                     return Ok(Some((place, turn.simplifies)));
                 }
-                self.late.push(turn)?;
+                self.late.push(Late {
+                    ease: turn.ease,
+                    second: usize::MAX - pair.second,
+                    first: pair.first,
+                    turn,
+                })?;
             }
             self.near.pop();
         }
@@ -129,11 +188,11 @@ impl Queue {
     ) -> Result<bool, AllocError> {
         match self.front(alloc, lines, index, pairs)? {
             Some((_, simplifies)) => Ok(simplifies),
-            None => Ok(self.late.is_empty()),
+            None => Ok(self.late.is_empty() && self.open.is_empty()),
         }
     }
 
-    /// Takes out the next pair that the chain criterion does not leave out.
+    /// Takes out the next pair that the criteria do not leave out.
     pub fn next_near<F: Field, O: MonoOrder>(
         &mut self,
         alloc: Global,
@@ -152,13 +211,35 @@ impl Queue {
         Ok(Some(place))
     }
 
-    /// Takes out the next pair that it leaves out.
+    /// Takes out the next pair that they leave out.
     pub fn next_late(&mut self, pairs: &[PairRecord]) -> Result<Option<usize>, AllocError>
         ensures { IfOk result (λ o. IfSome o (IsPendingAt pairs.now)) }
     {
-        while let Some(turn) = self.late.pop() {
+        while let Some(late) = self.late.pop() {
+            let place = late.turn.place();
+            if waiting_at(pairs, place).is_some() {
+                self.taken.push(late.turn)?;
+                return Ok(Some(place));
+            }
+        }
+        Ok(None)
+    }
+
+    /// Lets the pair wait again that was taken out as the last one, until no other waits.
+    pub fn put_back(&mut self) -> Result<(), AllocError> {
+        if let Some(turn) = self.taken.pop() {
+            self.open.push(turn)?;
+        }
+        Ok(())
+    }
+
+    /// Takes out a pair that was put back.
+    pub fn next_open(&mut self, pairs: &[PairRecord]) -> Result<Option<usize>, AllocError>
+        ensures { IfOk result (λ o. IfSome o (IsPendingAt pairs.now)) }
+    {
+        while let Some(turn) = self.open.pop() {
             let place = turn.place();
-            if pending_at(pairs, place).is_some() {
+            if waiting_at(pairs, place).is_some() {
                 self.taken.push(turn)?;
                 return Ok(Some(place));
             }
@@ -167,18 +248,11 @@ impl Queue {
     }
 }
 
-/// Drops the turns of the places from a number on. It takes no memory.
-fn keep_before(alloc: Global, turns: &mut BinaryHeap<Turn>, len: usize) {
-    let mut kept = mem::replace(turns, BinaryHeap::new(alloc)).into_vec();
-    kept.retain(|turn| turn.place() < len);
-    *turns = BinaryHeap::from(kept);
-}
-
-/// The pair at a place, where it is pending.
-fn pending_at(pairs: &[PairRecord], place: usize) -> Option<PairRecord>
+/// The pair at a place, where it was not settled.
+fn waiting_at(pairs: &[PairRecord], place: usize) -> Option<PairRecord>
     ensures { IfSome result (λ _. IsPendingAt pairs.now place) }
 {
-    if place < pairs.len() && pairs[place].is_pending() {
+    if place < pairs.len() && !pairs[place].is_settled() {
         Some(pairs[place])
     } else {
         None
@@ -191,6 +265,26 @@ fn lead_of<F: Field, O: MonoOrder>(lines: &[Line<F, O>], line: usize) -> Option<
     Some(lead)
 }
 
+/// The exponent of a variable in a monomial.
+fn exponent_in(powers: &[(u32, u32)], x: u32) -> u32 {
+    for power in powers {
+        if power.0 == x {
+            return power.1;
+        }
+    }
+    0
+}
+
+/// The degree of the least common multiple of two monomials.
+fn lcm_degree(m: MonoRef<'_>, n: MonoRef<'_>) -> u32 {
+    let mut degree = m.degree();
+    for power in n.pairs() {
+        let more = power.1.saturating_sub(exponent_in(m.pairs(), power.0));
+        degree = degree.saturating_add(more);
+    }
+    degree
+}
+
 /// The least common multiple of two monomials, where it is within the limit on degrees.
 fn lcm_of(alloc: Global, m: MonoRef<'_>, n: MonoRef<'_>) -> Result<Option<Mono>, AllocError> {
     match m.to_mono(alloc)?.lcm(&n.to_mono(alloc)?) {
@@ -201,12 +295,7 @@ fn lcm_of(alloc: Global, m: MonoRef<'_>, n: MonoRef<'_>) -> Result<Option<Mono>,
 }
 
 /// The turn of a pair.
-fn turn_of<F: Field, O: MonoOrder>(
-    alloc: Global,
-    lines: &[Line<F, O>],
-    pair: &PairRecord,
-    place: usize,
-) -> Result<Turn, AllocError> {
+fn turn_of<F: Field, O: MonoOrder>(lines: &[Line<F, O>], pair: &PairRecord, place: usize) -> Turn {
     let mut turn = Turn {
         simplifies: false,
         replaces: false,
@@ -214,22 +303,19 @@ fn turn_of<F: Field, O: MonoOrder>(
         ease: 0,
         age: usize::MAX - place,
     };
-    if let Some(m) = lead_of(lines, pair.first) {
-        if let Some(n) = lead_of(lines, pair.second) {
-            if let Some(lcm) = lcm_of(alloc, m, n)? {
-                let by_first = lcm.as_ref() == n;
-                let by_second = lcm.as_ref() == m;
-                turn.divides = by_first || by_second;
-                turn.replaces = by_first && is_replacing(lines, pair.first)
-                    || by_second && is_replacing(lines, pair.second);
-                turn.simplifies = lcm.degree() <= 1
-                    || by_first && is_no_longer(lines, pair.first, pair.second)
-                    || by_second && is_no_longer(lines, pair.second, pair.first);
-                turn.ease = u32::MAX - lcm.degree();
-            }
-        }
+    if let (Some(m), Some(n)) = (lead_of(lines, pair.first), lead_of(lines, pair.second)) {
+        let degree = lcm_degree(m, n);
+        let by_first = m.divides(n);
+        let by_second = n.divides(m);
+        turn.divides = by_first || by_second;
+        turn.replaces = by_first && is_replacing(lines, pair.first)
+            || by_second && is_replacing(lines, pair.second);
+        turn.simplifies = degree <= 1
+            || by_first && is_no_longer(lines, pair.first, pair.second)
+            || by_second && is_no_longer(lines, pair.second, pair.first);
+        turn.ease = u32::MAX - degree;
     }
-    Ok(turn)
+    turn
 }
 
 /// Whether a line has no more terms than another, or at most two: replacing a variable by a variable or a value makes no
@@ -252,11 +338,12 @@ fn is_replacing<F: Field, O: MonoOrder>(lines: &[Line<F, O>], line: usize) -> bo
     }
 }
 
-/// Whether the chain criterion leaves a pair out.
+/// Whether the criteria leave a pair out.
 fn is_covered<F: Field, O: MonoOrder>(
     alloc: Global,
     lines: &[Line<F, O>],
     index: &Index,
+    pairs: &[PairRecord],
     pair: &PairRecord,
 ) -> Result<bool, AllocError> {
     let Some(m) = lead_of(lines, pair.first) else {
@@ -269,67 +356,80 @@ fn is_covered<F: Field, O: MonoOrder>(
         return Ok(false);
     };
     for power in lcm.as_ref().pairs() {
-        if is_covered_by(alloc, lines, index.begun_by(power.0), pair, &lcm)? {
+        if is_covered_by(lines, index.begun_by(power.0), pairs, pair, lcm.as_ref()) {
             return Ok(true);
         }
     }
     Ok(false)
+}
+
+/// The place to look at in a step: first those before a number, from the last one on, and then the others. A pair mostly follows
+/// from those with the last line before its second one.
+pub(crate) fn turned(before: usize, step: usize) -> usize
+    ensures { (result ≡ step) ⊎ (result < before) }
+{
+    if step < before {
+        before - 1 - step
+    } else {
+        step
+    }
 }
 
 /// Whether one of these lines leaves a pair with this least common multiple out.
 fn is_covered_by<F: Field, O: MonoOrder>(
-    alloc: Global,
     lines: &[Line<F, O>],
     numbers: &[usize],
+    pairs: &[PairRecord],
     pair: &PairRecord,
-    lcm: &Mono,
-) -> Result<bool, AllocError> {
-    for number in numbers {
-        if covers(alloc, lines, *number, pair, lcm)? {
-            return Ok(true);
+    lcm: MonoRef<'_>,
+) -> bool {
+    let before = numbers
+        .partition_point(|number| *number < pair.second)
+        .min(numbers.len());
+    for step in 0..numbers.len() {
+        if covers(lines, numbers[turned(before, step)], pairs, pair, lcm) {
+            return true;
         }
     }
-    Ok(false)
+    false
 }
 
-/// Whether a line leaves a pair with this least common multiple out: its leading monomial divides it, and its own pairs with
-/// the two lines come before.
+/// Whether a line leaves a pair with this least common multiple out.
 fn covers<F: Field, O: MonoOrder>(
-    alloc: Global,
     lines: &[Line<F, O>],
     line: usize,
+    pairs: &[PairRecord],
     pair: &PairRecord,
-    lcm: &Mono,
-) -> Result<bool, AllocError> {
+    lcm: MonoRef<'_>,
+) -> bool {
     if line == pair.first || line == pair.second {
-        return Ok(false);
+        return false;
     }
     let Some(m) = lead_of(lines, line) else {
-        return Ok(false);
+        return false;
     };
-    if !m.divides(lcm.as_ref()) {
-        return Ok(false);
-    }
-    let by_second = is_lcm(alloc, lines, m, pair.second, lcm)?;
-    if line > pair.second {
-        return Ok(!by_second && !is_lcm(alloc, lines, m, pair.first, lcm)?);
-    }
-    Ok(!by_second || line < pair.first)
+    m.divides(lcm)
+        && is_earlier(lines, line, pair.second, pairs, pair, lcm)
+        && is_earlier(lines, line, pair.first, pairs, pair, lcm)
 }
 
-/// Whether the least common multiple of a monomial and a line's leading one is this.
-fn is_lcm<F: Field, O: MonoOrder>(
-    alloc: Global,
+/// Whether the pair of a line and one of the lines of a pair, whose leading monomials divide the least common multiple of that
+/// pair, comes before that pair, or is done, or needs nothing.
+fn is_earlier<F: Field, O: MonoOrder>(
     lines: &[Line<F, O>],
-    m: MonoRef<'_>,
     line: usize,
-    lcm: &Mono,
-) -> Result<bool, AllocError> {
-    let Some(n) = lead_of(lines, line) else {
-        return Ok(false);
+    other: usize,
+    pairs: &[PairRecord],
+    pair: &PairRecord,
+    lcm: MonoRef<'_>,
+) -> bool {
+    let (Some(m), Some(n)) = (lead_of(lines, line), lead_of(lines, other)) else {
+        return false;
     };
-    let Some(both) = lcm_of(alloc, m, n)? else {
-        return Ok(false);
-    };
-    Ok(both.as_ref() == lcm.as_ref())
+    let second = line.max(other);
+    second < pair.second
+        || second == pair.second && line.min(other) > pair.first
+        || lcm_degree(m, n) < lcm.degree()
+        || m.is_coprime(n)
+        || is_recorded(pairs, line.min(other), second)
 }

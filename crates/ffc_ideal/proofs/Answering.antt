@@ -35,7 +35,7 @@ use Rattle.ffc_basis.proofs.PartLemmas.{combination-append}
 use Rattle.ffc_basis.proofs.SPolynomialLemmas.{scaled_combination, scaled_before}
 use Rattle.ffc_ideal.specs.Ideals.{Ideal, one}
 use Rattle.ffc_ideal.specs.Answers.{IsSumLine, AreSumsFrom, HaveParts, AreLinesOf, ShowSums, ShowOne, ShowMember, AreBasisLines, HasNoConstant, IsWithinCompletion, IsWithinMembership, IsRest, ArePairsOf}
-use Rattle.ffc_ideal.proofs.Exchange.{term_product-twice}
+use Rattle.ffc_basis.proofs.Exchange.{term_product-twice}
 use Rattle.ffc_ideal.proofs.Criterion.{numbered, numbered_before, numbered_terms, combination-numbered, of_combination, one_leads, constant_line}
 
 -- ---- generators
@@ -174,7 +174,7 @@ before_append : (n : ℕ) (xs ys : Parts) → AreBefore n xs → AreBefore n ys 
 before_append n [] ys v w = w
 before_append n (x ∷ xs) ys v w = (v.0, before_append n xs ys v.1 w)
 
-module _ (p : ℕ) (prime : IsPrime p) (cmp : Monomial → Monomial → Ordering) (laws : IsMonomialOrder cmp) (graded : IsGraded cmp) where
+module _ (p : ℕ) (prime : IsPrime p) (cmp : Monomial → Monomial → Ordering) (laws : IsMonomialOrder cmp) where
   -- what is left of a member is a combination of the lines, so that it is not reduced unless it is 0
   rest_is_zero : {F O : Type 0} (gens : List Terms) (lines further : List (Line F O)) → AreLinesOf p gens lines further → AreLists (polys_of lines) → IsClosed p cmp (polys_of lines) → (poly rest : Terms) (parts : Parts)
       → SamePolynomial p rest (difference p poly (combination (polys_of lines) parts)) → AreBefore (length lines) parts → AreTermLists parts → IsReduced p cmp (polys_of lines) rest
@@ -190,7 +190,7 @@ module _ (p : ℕ) (prime : IsPrime p) (cmp : Monomial → Monomial → Ordering
       ∙ ap (λ ts. coefficient p ts z) (sym (combination-append gs own opposite)) in
       let counted : AreBefore (length gs) parts = subst (λ n. AreBefore n parts) (sym (length-polys lines)) before in
       let (i, h, d, n, lead, divides) =
-      of_combination p prime cmp laws gs lists graded closed (own ++ opposite)
+      of_combination p prime cmp laws gs lists closed (own ++ opposite)
       (before_append (length gs) own opposite own_before (scaled_before p (p - 1) (length gs) parts opposite (negated_are_scaled p parts) counted))
       (terms_append own opposite own_terms (negated_terms p parts terms)) rest whole c m leads in
       reduced m (λ none. leads.1 (sym leads.0 ∙ none)) i h d n lead divides
@@ -208,7 +208,7 @@ module _ (p : ℕ) (prime : IsPrime p) (cmp : Monomial → Monomial → Ordering
   free gens lines basis lists closed none member =
       let gs = polys_of lines in
       let (own, before, terms, sum) = member_of_lines p gens lines basis.0 basis.1 one member in
-      let led = of_combination p prime cmp laws gs lists graded closed own before terms one sum 1 [] (one_leads p cmp (omega (arith, prime.least))) in
+      let led = of_combination p prime cmp laws gs lists closed own before terms one sum 1 [] (one_leads p cmp (omega (arith, prime.least))) in
       none led.0 (constant_line p cmp laws gs lists led)
 
 -- nothing is left

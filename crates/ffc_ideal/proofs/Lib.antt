@@ -1,9 +1,2 @@
 pub mod Answering
 pub mod Criterion
-pub mod Descent
-pub mod Exchange
-pub mod Greatest
-pub mod Leads
-pub mod Lists
-pub mod Multiples
-pub mod Variables

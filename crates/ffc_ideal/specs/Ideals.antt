@@ -6,7 +6,6 @@ use Rattle.ffc_field.specs.Modular.{IsPrime}
 use Rattle.ffc_ring.specs.Monomial.{Monomial, Divides}
 use Rattle.ffc_ring.specs.Polynomial.{Terms, AreTerms, coefficient, SamePolynomial, product}
 use Rattle.ffc_mono.specs.MonomialOrder.{IsMonomialOrder}
-use Rattle.ffc_mono.specs.Graded.{IsGraded}
 use Rattle.ffc_mono.specs.Leading.{IsLeading}
 use Rattle.ffc_basis.specs.Lines.{AreLists}
 use Rattle.ffc_basis.specs.Completion.{IsClosed, IsConstantLine}
@@ -38,18 +37,17 @@ IsLedByLine p cmp gs m =
     (i : ℕ) × (i < length gs) × (c : ℕ) × (n : Monomial) × IsLeading p cmp (get_or gs i []) c n × Divides n m
 
 -- Buchberger's criterion: where every S-polynomial of the lines reduces to zero, the leading monomial of each nonzero member of
--- their ideal is divisible by the leading monomial of a line. Lines may be 0. The order is graded: then finitely many monomials
--- in the variables that occur are below a monomial.
+-- their ideal is divisible by the leading monomial of a line. Lines may be 0.
 abbrev pub BuchbergersCriterion : Type 0
 BuchbergersCriterion =
-    (p : ℕ) → IsPrime p → (cmp : Monomial → Monomial → Ordering) → IsMonomialOrder cmp → IsGraded cmp
+    (p : ℕ) → IsPrime p → (cmp : Monomial → Monomial → Ordering) → IsMonomialOrder cmp
     → (gs : List Terms) → AreLists gs → IsClosed p cmp gs
     → (f : Terms) → Ideal p gs f → (c : ℕ) (m : Monomial) → IsLeading p cmp f c m → IsLedByLine p cmp gs m
 
 -- so 1 is no sum of polynomial multiples of such lines, unless one of them is a constant other than 0
 abbrev pub ClosedWithoutConstant : Type 0
 ClosedWithoutConstant =
-    (p : ℕ) → IsPrime p → (cmp : Monomial → Monomial → Ordering) → IsMonomialOrder cmp → IsGraded cmp
+    (p : ℕ) → IsPrime p → (cmp : Monomial → Monomial → Ordering) → IsMonomialOrder cmp
     → (gs : List Terms) → AreLists gs → IsClosed p cmp gs → ((i : ℕ) → IsConstantLine p gs i → ⊥)
     → Ideal p gs one → ⊥
 

@@ -1,7 +1,7 @@
 use Rattle.std.proofs.Common.{◌≡◌, length, sym, ap, ◌∙◌, subst, arith, IfNone, IfSome}
 use Rattle.ffc_basis.specs.Lines.{polys_of}
 use Rattle.ffc_basis.specs.Completed.{IsCompletion}
-use Rattle.ffc_basis.specs.PairTable.{ArePairs, AreSettled, IsPendingAt, settled_count, over_of, answer_of}
+use Rattle.ffc_basis.specs.PairTable.{ArePairs, AreDone, IsPendingAt, settled_count, over_of, answer_of}
 use Rattle.ffc_basis.specs.Units.{IsPairsBound}
 use Rattle.ffc_basis.proofs.BoundLemmas.{bound_next, settled_is_bounded, pending_is_bounded}
 use Rattle.ffc_basis.proofs.FewLemmas.{few_same}
@@ -39,11 +39,11 @@ returns-in_default-next-clause-found g c =
     let rs = c.loop-lines.pairing.records.items in
     let paired = c.loop-lines.pairing.paired in
     let all : paired ≡ length (polys_of ls) = c.loop-lines.invariant.paired ∙ sym (length-polys ls) in
-    let none : AreSettled c.as_slice-in-loop-lines-4.result.now =
-    subst (λ o. IfNone o (AreSettled c.as_slice-in-loop-lines-4.result.now)) c.in_default-next.is c.in_ok-next.ensures.none in
-    let settled : AreSettled rs = subst AreSettled c.as_slice-in-loop-lines-4.ensures.value none in
+    let none : AreDone c.as_slice-in-loop-lines-4.result.now =
+    subst (λ o. IfNone o (AreDone c.as_slice-in-loop-lines-4.result.now)) c.in_default-next.is c.in_ok-next.ensures.none in
+    let done : AreDone rs = subst AreDone c.as_slice-in-loop-lines-4.ensures.value none in
     subst (IsCompletion p cmp (polys_of ls)) (sym (c.in_ok-answer.ensures ∙ ap (λ x. answer_of (over_of x)) c.as_slice-in_default-next.ensures.value))
-    (settled_answer_is p cmp g.met.O.MonoOrder.laws (omega (arith, g.met.F.Field.prime.least)) (polys_of ls) rs paired all settled c.loop-lines.invariant.pairs)
+    (settled_answer_is p cmp g.met.F.Field.prime g.met.O.MonoOrder.laws (polys_of ls) rs paired all done c.loop-lines.invariant.pairs)
 
 pub returns-in_err-treat-clause-front : goal.returns-in_err-treat-clause-front
 returns-in_err-treat-clause-front g c =

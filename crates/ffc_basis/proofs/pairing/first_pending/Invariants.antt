@@ -1,6 +1,6 @@
 use Rattle.std.proofs.Common.{take}
-use Rattle.ffc_basis.specs.PairTable.{AreSettled}
+use Rattle.ffc_basis.specs.PairTable.{AreKnown}
 use Rattle.ffc_basis.proofs.pairing.first_pending.Given as goal
 
 abbrev pub invariant-loop-place : goal.invariant-loop-place
-invariant-loop-place l = AreSettled (take l.place l.records)
+invariant-loop-place l = AreKnown (take l.place l.records)

@@ -2,7 +2,6 @@ use Rattle.std.proofs.Common.{◌≡◌, ◌≢◌, [], sym, ◌∙◌, subst, a
 use Rattle.std.proofs.lemmas.Bool.{false≢true}
 use Rattle.ffc_mono.specs.Orders.{graded_reverse_lex_cmp}
 use Rattle.ffc_mono.specs.OrderLaws.{graded_reverse_lex_laws}
-use Rattle.ffc_mono.proofs.LeadingLemmas.{graded_reverse_lex_is_graded}
 use Rattle.ffc_ring.specs.Polynomial.{SamePolynomial}
 use Rattle.ffc_basis.specs.Lines.{polys_of, combination}
 use Rattle.ffc_basis.specs.Reduction.{IsReduced, IsStopped}
@@ -38,7 +37,7 @@ returns-then-is_empty g c = λ gens basis.
     let r = c.args.reduced in
     let some : r.rest ≢ [] = λ none. false≢true (sym c.if-is_zero.false ∙ c.is_zero.ensures.1 none) in
     let none : c.args.pairs ≡ [] = empty_list c.as_slice.result.now c.args.pairs c.is_empty.result c.is_empty.ensures c.if-is_empty.true c.as_slice.ensures in
-    outside p g.met.F.Field.prime graded_reverse_lex_cmp graded_reverse_lex_laws graded_reverse_lex_is_graded 1024 gens lines basis c.requires.lists
+    outside p g.met.F.Field.prime graded_reverse_lex_cmp graded_reverse_lex_laws 1024 gens lines basis c.requires.lists
     (subst (ArePairsOf p graded_reverse_lex_cmp gs) none c.requires.pairs) c.args.poly.now r.rest r.parts.items c.requires.difference c.requires.before
     (lists_of_polynomials p graded_reverse_lex_cmp r.parts.items c.requires.polynomials)
     (not_over r.over (IsReduced p graded_reverse_lex_cmp gs r.rest) (sym c.if-is_some.false ∙ c.is_some.ensures) c.requires.reduced) c.len-terms.ensures.ordered some

@@ -1,4 +1,4 @@
-use Rattle.ffc_ideal.proofs.Leads.{leading_or_zero}
+use Rattle.ffc_basis.proofs.NormalForms.{leading_or_zero}
 use Rattle.ffc_ideal.proofs.Criterion.{criterion, closed_without_constant}
 use Rattle.ffc_ideal.proofs.laws.buchbergers_criterion.Goals as goal
 

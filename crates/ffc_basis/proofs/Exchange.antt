@@ -1,5 +1,5 @@
 -- Of two multiples with one top, the one is a multiple of the other's line and multiples with lower tops: their S-polynomial,
--- which reduces to zero, multiplied by a term (Cox, Little and O'Shea, chapter 2, section 6, lemma 5 and theorem 6).
+-- which is a sum of multiples below the least common multiple, multiplied by a term (Cox, Little and O'Shea, chapter 2, section 6, lemma 5 and theorem 6).
 use Rattle.std.proofs.Common.{◌≡◌, ◌≢◌, ℕ, ◌+◌, ◌-◌, ◌*◌, ◌%◌, ◌<◌, List, [], ◌∷◌, ◌++◌, get_or, refl, sym, ap, ap₂, ◌∙◌, subst, inl, inr, arith, mod-lt, mod-eq_of_lt, mul_assoc, one-mul}
 use Rattle.std.proofs.Math.Nat.{zero-mod, mul-mod_right}
 use Rattle.std.proofs.lemmas.Bool.{cases_eq}
@@ -18,11 +18,11 @@ use Rattle.ffc_mono.specs.MonomialOrder.{IsMonomialOrder}
 use Rattle.ffc_mono.specs.Leading.{IsLeading}
 use Rattle.ffc_mono.proofs.LeadingLemmas.{one_leading, leading_of_multiple, cancelled_step}
 use Rattle.ffc_basis.specs.Lines.{AreLists}
-use Rattle.ffc_basis.specs.Completion.{IsPairClosed}
-use Rattle.ffc_ideal.proofs.Greatest.{IsUpTo, compared, below_trans}
-use Rattle.ffc_ideal.proofs.Lists.{each_both}
-use Rattle.ffc_ideal.proofs.Multiples.{Multiple, top, polynomial, sum_of, IsMultiple, HasVariables, IsBelow, IsOfParts, written-term_product, more_variables, variables_of_all, lead_is_monomial, multiples_of}
-use Rattle.ffc_ideal.proofs.Variables.{AreAmong, in_product, in_quotient}
+use Rattle.ffc_basis.specs.Representations.{IsPairRepresented}
+use Rattle.ffc_basis.proofs.Greatest.{IsUpTo, compared, below_trans}
+use Rattle.ffc_basis.proofs.Each.{each_both}
+use Rattle.ffc_basis.proofs.Multiples.{Multiple, top, polynomial, sum_of, IsMultiple, HasVariables, IsBelow, IsOfParts, written-term_product, more_variables, variables_of_all, lead_is_monomial, multiples_of}
+use Rattle.ffc_basis.proofs.Variables.{AreAmong, in_product, in_quotient}
 
 -- ---- multiples of multiples
 
@@ -117,15 +117,6 @@ module _ (p : ℕ) (prime : IsPrime p) (cmp : Monomial → Monomial → Ordering
   positive : 0 < p
   positive = omega (arith, prime.least)
 
-  -- what is not above a monomial is it, or below it
-  no_higher : (m x : Monomial) → cmp x m ≢ Greater → IsUpTo cmp m x
-  no_higher m x low =
-      elim (compared cmp laws m x) [
-        | inl at ↦ at
-        | inr (inl same) ↦ inl (sym same)
-        | inr (inr above) ↦ absurd (low above)
-      ]
-
   -- the inverse of a leading coefficient
   inverse : (ts : Terms) (c : ℕ) (m : Monomial) → IsLeading p cmp ts c m → (k : ℕ) × (k < p) × (mul_mod p k c ≡ 1)
   inverse ts c m leads =
@@ -168,36 +159,19 @@ module _ (p : ℕ) (prime : IsPrime p) (cmp : Monomial → Monomial → Ordering
     low_monomial : IsMonomial low
     low_monomial = IsMonomial-mono_lcm m n m_monomial n_monomial
 
-    -- the leading terms of an S-polynomial cancel
-    below_lcm : (k l : ℕ) → k < p → l < p → mul_mod p k c ≡ 1 → mul_mod p l d ≡ 1 → (x : Monomial) → coefficient p (s_polynomial p a b m n k l) x ≢ 0 → cmp low x ≡ Greater
-    below_lcm k l kp lp kc ld x some =
-        let q = mono_quotient low m in
-        let r = mono_quotient low n in
-        let qm : IsMonomial q = IsMonomialFrom-mono_quotient 0 low m low_monomial in
-        let rm : IsMonomial r = IsMonomialFrom-mono_quotient 0 low n low_monomial in
-        let at_m : mono_mul q m ≡ low = quotient_times low m low_monomial m_monomial (first_divides_lcm m n m_monomial n_monomial) in
-        let at_n : mono_mul r n ≡ low = quotient_times low n low_monomial n_monomial (second_divides_lcm m n m_monomial n_monomial) in
-        let lead : IsLeading p cmp (term_product k q a) (mul_mod p k c) (mono_mul q m) =
-        leading_of_multiple cmp laws p prime a (lists i) k c q m qm (inverse_is_some k c kc) kp first in
-        let lead_there : IsLeading p cmp (term_product k q a) (mul_mod p k c) (mono_mul r n) =
-        subst (IsLeading p cmp (term_product k q a) (mul_mod p k c)) (at_m ∙ sym at_n) lead in
-        ap (λ y. cmp y x) (sym at_n)
-        ∙ cancelled_step cmp laws p prime (term_product k q a) b (lists j) l d (mul_mod p k c) r n rm (inverse_is_some l d ld) lp second lead_there (ld ∙ sym kc) x some
-
-    -- an S-polynomial that reduces to zero
-    pub replaced : IsPairClosed p cmp gs i j → (vs : List ℕ) × IsReplaced p cmp gs vs i j c m d n
-    replaced closed =
+    -- the S-polynomial by the list of multiples that it is the sum of
+    pub replaced : IsPairRepresented p cmp gs i j → (vs : List ℕ) × IsReplaced p cmp gs vs i j c m d n
+    replaced represented =
         let (k, kp, kc) = inverse a c m first in
         let (l, lp, ld) = inverse b d n second in
         let s = s_polynomial p a b m n k l in
-        let (parts, before, at_most, same, terms) = closed s (c, m, d, n, first, second, k, l, kc, ld, (λ _. refl)) in
+        let (parts, before, under, same, terms) = represented c m d n first second s (c, m, d, n, first, second, k, l, kc, ld, (λ _. refl)) in
         let (ts, are, of, sum) = multiples_of cmp laws p gs lists parts before terms in
         let (vs, variables) = variables_of_all ts in
         let is_below : (t : Multiple) → IsMultiple p cmp gs t → IsOfParts cmp laws p gs lists parts t → IsBelow cmp low t = λ t v has.
-        let (e, q, leads, (f, r, lead, not_higher)) = at_most t.line t.monomial has in
+        let (e, q, leads, lower) = under t.line t.monomial has in
         let q_is : q ≡ t.lead = (one_leading cmp laws p (get_or gs t.line []) e t.coefficient q t.lead leads v.leads).1 in
-        below_trans cmp laws low r (top t) (below_lcm k l kp lp kc ld r (λ none. lead.1 (sym lead.0 ∙ none)))
-        (no_higher r (top t) (subst (λ x. cmp (mono_mul t.monomial x) r ≢ Greater) q_is not_higher)) in (
+        subst (λ x. cmp low (mono_mul t.monomial x) ≡ Greater) q_is lower in (
           vs,
           record {
             k = k;

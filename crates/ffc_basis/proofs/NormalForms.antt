@@ -10,8 +10,8 @@ use Rattle.ffc_ring.proofs.PolynomialLemmas.{without, written-at, written-off, w
 use Rattle.ffc_mono.specs.MonomialOrder.{IsMonomialOrder}
 use Rattle.ffc_mono.specs.Leading.{IsLeading}
 use Rattle.ffc_basis.proofs.OrderedTerms.{coefficient-none, coefficient-other}
-use Rattle.ffc_ideal.proofs.Greatest.{IsUpTo, greatest}
-use Rattle.ffc_ideal.proofs.Lists.{each_weaker}
+use Rattle.ffc_basis.proofs.Greatest.{IsUpTo, greatest}
+use Rattle.ffc_basis.proofs.Each.{each_weaker}
 
 -- ---- the terms of one monomial taken out
 

@@ -15,10 +15,10 @@ use Rattle.ffc_mono.proofs.LeadingLemmas.{leading_at_most}
 use Rattle.ffc_basis.specs.Lines.{Parts, combination, AreBefore, AreTermLists, AreLists, HasMonomial}
 use Rattle.ffc_basis.proofs.OrderedTerms.{coefficient-none}
 use Rattle.ffc_basis.proofs.PartLemmas.{some_of_sum}
-use Rattle.ffc_ideal.proofs.Greatest.{IsUpTo, below_trans}
-use Rattle.ffc_ideal.proofs.Leads.{IsSome, normal_form, leading_or_zero}
-use Rattle.ffc_ideal.proofs.Lists.{each_append, each_weaker}
-use Rattle.ffc_ideal.proofs.Variables.{AreAmong, among_first, among_second, in_more, variables_of, in_own_variables}
+use Rattle.ffc_basis.proofs.Greatest.{IsUpTo, below_trans}
+use Rattle.ffc_basis.proofs.NormalForms.{IsSome, normal_form, leading_or_zero}
+use Rattle.ffc_basis.proofs.Each.{each_append, each_weaker}
+use Rattle.ffc_basis.proofs.Variables.{AreAmong, among_first, among_second, in_more, variables_of, in_own_variables}
 
 -- a factor and a monomial by which a line is multiplied, and the line's leading term
 pub record Multiple : Type 0 where
