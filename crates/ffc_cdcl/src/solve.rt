@@ -35,7 +35,8 @@ impl Solver {
             let found = self.learn_from(search, conflict, meter)?;
             return Ok(refuted_by(found));
         }
-        match theory.check(search.trail.literals(), meter)? {
+        let standing = search.trail.take_kept();
+        match theory.check(standing, search.trail.literals(), meter)? {
             TheoryAnswer::Agreed => {
                 if search.is_done(self.added.as_slice()) {
                     let trail = Literals::copied(self.alloc, search.trail.literals())?;

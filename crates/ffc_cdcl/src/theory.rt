@@ -1,5 +1,5 @@
 //! Theories, which are asked about trails.
-ghost use Rattle.std.specs.Prelude.{◌≡◌, List, IfOk};
+ghost use Rattle.std.specs.Prelude.{◌≡◌, ◌≤◌, List, IfOk, length};
 ghost use Rattle.ffc_base.specs.Metering.{Metered};
 ghost use Rattle.ffc_clause.specs.Clauses.{Literal, Clause};
 ghost use Rattle.ffc_cdcl.specs.Literals.{NamesNoNodeTwice};
@@ -26,9 +26,15 @@ pub trait Theory {
     /// Its present values fit a trail.
     ghost fits: { Self → List Literal → Type 0 };
 
-    /// Judges a trail.
-    fn check(&mut self, trail: &[Lit], meter: &mut Meter) -> Result<TheoryAnswer, SearchStop>
-        requires { NamesNoNodeTwice trail.now }
+    /// Judges a trail, whose first `standing` literals are those of the trail that was judged before. No clause rests on that.
+    fn check(
+        &mut self,
+        standing: usize,
+        trail: &[Lit],
+        meter: &mut Meter,
+    ) -> Result<TheoryAnswer, SearchStop>
+        requires distinct { NamesNoNodeTwice trail.now }
+        requires within { standing ≤ length trail.now }
         ensures kept { KeepsLemmas (lemmas self.old) (lemmas self.new) }
         ensures agreed { IfOk result (OnAgreed (fits self.new trail.now)) }
         ensures lemma { IfOk result (NamesLemma (lemmas self.new)) }

@@ -1,5 +1,5 @@
 //! The trail: literals that are true together, in the order in which they were put there.
-ghost use Rattle.std.specs.Prelude.{◌≡◌, ◌<◌, ◌++◌, ◌∷◌, [], true, false, Some, None, Contains, IfOk, IfSome, IsErrOf};
+ghost use Rattle.std.specs.Prelude.{◌≡◌, ◌<◌, ◌≤◌, ◌++◌, ◌∷◌, [], true, false, Some, None, Contains, IfOk, IfSome, IsErrOf};
 ghost use Rattle.std.specs.Prelude.{length, slice_set};
 ghost use Rattle.ffc_base.specs.Metering.{Metered};
 ghost use Rattle.ffc_clause.specs.Clauses.{negated};
@@ -36,6 +36,8 @@ pub struct Trail {
     literals: Vec<Lit>,
     entries: Vec<Entry>,
     starts: Vec<usize>,
+    /// The least number of literals that it had since it was last asked for.
+    kept: usize,
 }
 
 impl Model for Trail {
@@ -88,6 +90,7 @@ impl Trail {
             literals: Vec::new(alloc),
             entries: vec![in alloc; entry; nodes]?,
             starts: Vec::new(alloc),
+            kept: 0,
         })
     }
 
@@ -173,6 +176,17 @@ impl Trail {
         }
     }
 
+    /// How many of its first literals have stood since this was last asked; at first none.
+    pub fn take_kept(&mut self) -> usize
+        ensures within { result ≤ length self.new.literals }
+        ensures same { self.new ≡ self.old }
+    {
+        let count = self.literals.len();
+        let kept = self.kept.min(count);
+        self.kept = count;
+        kept
+    }
+
     /// Begins a level.
     pub fn begin_level(&mut self) -> Result<(), AllocError>
         ensures { self.new ≡ self.old }
@@ -230,7 +244,9 @@ impl Trail {
         ensures { self.new.nodes ≡ self.old.nodes }
     {
         if self.literals.len() > self.end_of(level) {
-            return self.pop();
+            let literal = self.pop();
+            self.kept = self.kept.min(self.literals.len());
+            return literal;
         }
         self.starts.truncate(level as usize);
         None

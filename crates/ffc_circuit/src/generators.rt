@@ -136,6 +136,21 @@ pub fn differences<F: Field>(
     Ok(made)
 }
 
+/// Copies of the polynomials at these places.
+pub fn copies_at<F: Field>(
+    alloc: Global,
+    polys: &[Generator<F>],
+    places: &[usize],
+) -> Result<Vec<Generator<F>>, GeneratorStop> {
+    let mut copies = Vec::new(alloc);
+    for place in places {
+        if let Some(poly) = polys.get(*place) {
+            copies.push(poly.scale(F::of(1))?)?;
+        }
+    }
+    Ok(copies)
+}
+
 /// Appends the variables of a polynomial.
 fn append_variables<F: Field>(
     poly: &Generator<F>,

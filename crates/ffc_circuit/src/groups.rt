@@ -5,41 +5,6 @@ use ffc_cdcl::Lit;
 use ffc_field::Field;
 use std::alloc::{AllocError, Global};
 
-/// Equalities, and the differences of their sides.
-pub struct Group<F: Field> {
-    pub equalities: Vec<Lit>,
-    pub polys: Vec<Generator<F>>,
-}
-
-impl<F: Field> Drop for Group<F> {
-    fn drop(self) {
-        let Group {
-            equalities: _,
-            polys: _,
-        } = self;
-    }
-}
-
-impl<F: Field> Group<F> {
-    /// No equalities. It takes no memory.
-    fn new(alloc: Global) -> Self {
-        Group {
-            equalities: Vec::new(alloc),
-            polys: Vec::new(alloc),
-        }
-    }
-
-    /// Whether all of its equalities hold.
-    fn holds(&self) -> bool {
-        for equality in self.equalities.as_slice() {
-            if !equality.positive {
-                return false;
-            }
-        }
-        true
-    }
-}
-
 /// Gives a polynomial the number of a group, and all that are linked to it by shared variables.
 fn label_from(
     occurrences: &mut Occurrences,
@@ -83,38 +48,28 @@ fn labels_of<F: Field>(
     Ok((labels, count))
 }
 
-/// Equalities and the differences of their sides in groups that share no variable. Groups in which some do not hold come
-/// first: a contradiction rather lies there. Within a group the order stays.
-pub fn groups_of<F: Field>(
-    alloc: Global,
-    equalities: &[Lit],
-    polys: Vec<Generator<F>>,
-) -> Result<Vec<Group<F>>, AllocError> {
-    let (labels, count) = labels_of(alloc, polys.as_slice())?;
-    let mut groups = Vec::new(alloc);
-    for _ in 0..count {
-        groups.push(Group::new(alloc))?;
-    }
-    for (k, poly) in polys.into_iter().enumerate() {
-        if let (Some(Some(label)), Some(equality)) = (labels.get(k), equalities.get(k)) {
-            if let Some(group) = groups.get_mut(*label) {
-                group.equalities.push(*equality)?;
-                group.polys.push(poly)?;
+/// Whether all equalities at these places hold.
+fn hold(equalities: &[Lit], places: &[usize]) -> bool {
+    for place in places {
+        if let Some(equality) = equalities.get(*place) {
+            if !equality.positive {
+                return false;
             }
         }
     }
-    contradictory_first(alloc, groups)
+    true
 }
 
 /// The groups, those first in which some equalities do not hold.
-fn contradictory_first<F: Field>(
+fn contradictory_first(
     alloc: Global,
-    groups: Vec<Group<F>>,
-) -> Result<Vec<Group<F>>, AllocError> {
+    equalities: &[Lit],
+    groups: Vec<Vec<usize>>,
+) -> Result<Vec<Vec<usize>>, AllocError> {
     let mut first = Vec::new(alloc);
     let mut later = Vec::new(alloc);
     for group in groups {
-        if group.holds() {
+        if hold(equalities, group.as_slice()) {
             later.push(group)?;
         } else {
             first.push(group)?;
@@ -124,4 +79,26 @@ fn contradictory_first<F: Field>(
         first.push(group)?;
     }
     Ok(first)
+}
+
+/// The places of equalities, of which these are the differences of the sides, in groups that share no variable. Groups in which
+/// some do not hold come first: a contradiction rather lies there. Within a group the order stays.
+pub fn groups_of<F: Field>(
+    alloc: Global,
+    equalities: &[Lit],
+    polys: &[Generator<F>],
+) -> Result<Vec<Vec<usize>>, AllocError> {
+    let (labels, count) = labels_of(alloc, polys)?;
+    let mut groups: Vec<Vec<usize>> = Vec::new(alloc);
+    for _ in 0..count {
+        groups.push(Vec::new(alloc))?;
+    }
+    for (place, label) in labels.iter().enumerate() {
+        if let Some(label) = label {
+            if let Some(group) = groups.get_mut(*label) {
+                group.push(place)?;
+            }
+        }
+    }
+    contradictory_first(alloc, equalities, groups)
 }

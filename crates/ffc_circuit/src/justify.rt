@@ -37,8 +37,23 @@ impl Cost {
     }
 }
 
+/// What a walk did, as far as it has to be known to undo it.
+#[derive(Clone, Copy)]
+enum Change {
+    /// The last open node became needed.
+    Wanted,
+    /// An open node was looked at.
+    Visited(NodeId),
+    /// The choice of a child was put off.
+    PutOff,
+    /// A choice was made.
+    Chosen(NodeId),
+    /// An equality was found.
+    Found,
+}
+
 /// A walk from assertions down to what their truth rests on. It waits at the first node on the way that has no value, and goes on
-/// from there once the trail has grown.
+/// from there once the trail has grown. Where literals leave the trail it undoes what it did since they came.
 #[derive(Drop)]
 pub struct Walk<'a> {
     alloc: Global,
@@ -54,12 +69,20 @@ pub struct Walk<'a> {
     waits: bool,
     /// The needed equalities so far that have values, in the order in which they were come upon.
     found: Vec<Lit>,
+    /// What was done since it began.
+    changes: Vec<Change>,
+    /// For each literal of the trail, how many changes there were before it.
+    marks: Vec<usize>,
 }
 
 impl<'a> Walk<'a> {
-    /// A walk that has not begun.
-    pub fn new(alloc: Global, table: &'a NodeTable) -> Result<Walk<'a>, AllocError> {
-        Ok(Walk {
+    /// A walk that begins at assertions, with no values.
+    pub fn new(
+        alloc: Global,
+        table: &'a NodeTable,
+        assertions: &[NodeId],
+    ) -> Result<Walk<'a>, AllocError> {
+        let mut walk = Walk {
             alloc,
             table,
             truths: Truths::new(alloc, table.len())?,
@@ -68,24 +91,58 @@ impl<'a> Walk<'a> {
             choices: Vec::new(alloc),
             waits: false,
             found: Vec::new(alloc),
-        })
+            changes: Vec::new(alloc),
+            marks: Vec::new(alloc),
+        };
+        walk.want_all(assertions)?;
+        walk.changes.clear();
+        Ok(walk)
     }
 
-    /// Begins at assertions, with no values.
-    pub fn begin(&mut self, assertions: &[NodeId]) -> Result<(), AllocError> {
-        self.truths.clear();
-        for mark in self.needed.as_mut_slice() {
-            *mark = false;
+    /// Goes on with a trail, whose first `standing` literals are those of the trail before. Gives how many of the equalities that it
+    /// had come upon stand.
+    pub fn follow(&mut self, standing: usize, trail: &[Lit]) -> Result<usize, AllocError> {
+        self.keep(standing)?;
+        let kept = self.found.len();
+        for place in self.marks.len()..trail.len() {
+            self.marks.push(self.changes.len())?;
+            self.truths.push(trail[place])?;
         }
-        self.open.clear();
-        self.choices.clear();
-        self.found.clear();
-        self.want_all(assertions)
+        self.go_on()?;
+        Ok(kept)
     }
 
-    /// Takes over the values of further literals of the trail.
-    pub fn follow(&mut self, literals: &[Lit]) {
-        self.truths.set_all(literals);
+    /// Undoes what was done since the trail had so many literals.
+    fn keep(&mut self, standing: usize) -> Result<(), AllocError> {
+        if let Some(before) = self.marks.get(standing).copied() {
+            for _ in before..self.changes.len() {
+                self.undo_last()?;
+            }
+            self.marks.truncate(standing);
+            self.truths.keep(standing);
+        }
+        Ok(())
+    }
+
+    /// Undoes the last change. The lists have had what is put back, so that it takes no memory.
+    fn undo_last(&mut self) -> Result<(), AllocError> {
+        match self.changes.pop() {
+            Some(Change::Wanted) => {
+                if let Some(id) = self.open.pop() {
+                    self.unmark(id);
+                }
+            }
+            Some(Change::Visited(id)) => self.open.push(id)?,
+            Some(Change::PutOff) => {
+                self.choices.pop();
+            }
+            Some(Change::Chosen(id)) => self.choices.push(id)?,
+            Some(Change::Found) => {
+                self.found.pop();
+            }
+            None => {}
+        }
+        Ok(())
     }
 
     /// The needed equalities that it has come upon so far, with their values.
@@ -117,9 +174,16 @@ impl<'a> Walk<'a> {
         }
     }
 
+    fn unmark(&mut self, id: NodeId) {
+        if let Some(mark) = self.needed.get_mut(id as usize) {
+            *mark = false;
+        }
+    }
+
     fn want(&mut self, id: NodeId) -> Result<(), AllocError> {
         if self.mark(id) {
             self.open.push(id)?;
+            self.changes.push(Change::Wanted)?;
         }
         Ok(())
     }
@@ -131,22 +195,45 @@ impl<'a> Walk<'a> {
         Ok(())
     }
 
-    /// Waits for a value before it goes on with a node.
-    fn wait_at(&mut self, id: NodeId) -> Result<(), AllocError> {
-        self.waits = true;
-        self.open.push(id)?;
-        Ok(())
-    }
-
     fn has_value(&self, id: NodeId) -> bool {
         self.truths.get(id).is_some()
     }
 
-    /// Wants the condition of a node and the branch that it takes. Where the condition has no value, both branches are needed, and
-    /// it waits until they have values: another literal may give the condition one before.
+    /// The condition and the branches of a node that has them.
+    fn branching(&self, id: NodeId) -> Option<(NodeId, NodeId, NodeId)> {
+        if id >= self.table.len() {
+            return None;
+        }
+        match self.table.node(id) {
+            Node::IteBool(c, a, b) => Some((*c, *a, *b)),
+            Node::IteField(c, _, _) => {
+                let (first, second) = self.table.branches(id);
+                Some((*c, first, second))
+            }
+            _ => None,
+        }
+    }
+
+    /// Whether a value is missing before it can go on with a node. Where a condition has no value, both branches are needed, and it
+    /// waits until they have values: another literal may give the condition one before.
+    fn lacks_value(&self, id: NodeId) -> bool {
+        if id >= self.table.len() {
+            return false;
+        }
+        if matches!(self.table.sort_of(id), Sort::Bool) && !self.has_value(id) {
+            return true;
+        }
+        match self.branching(id) {
+            Some((condition, then, otherwise)) => {
+                !self.has_value(condition) && !(self.has_value(then) && self.has_value(otherwise))
+            }
+            None => false,
+        }
+    }
+
+    /// Wants the condition of a node and the branch that it takes, or both branches where the condition has no value.
     fn want_branch(
         &mut self,
-        id: NodeId,
         condition: NodeId,
         then: NodeId,
         otherwise: NodeId,
@@ -154,13 +241,7 @@ impl<'a> Walk<'a> {
         match self.truths.get(condition) {
             Some(true) => self.want_all(&[condition, then]),
             Some(false) => self.want_all(&[condition, otherwise]),
-            None => {
-                if self.has_value(then) && self.has_value(otherwise) {
-                    self.want_all(&[then, otherwise])
-                } else {
-                    self.wait_at(id)
-                }
-            }
+            None => self.want_all(&[then, otherwise]),
         }
     }
 
@@ -175,7 +256,17 @@ impl<'a> Walk<'a> {
             return self.want_all(children);
         }
         self.choices.push(id)?;
+        self.changes.push(Change::PutOff)?;
         Ok(())
+    }
+
+    /// Notes a needed equality with its value, and wants its sides.
+    fn find(&mut self, id: NodeId, left: NodeId, right: NodeId) -> Result<(), AllocError> {
+        if let Some(positive) = self.truths.get(id) {
+            self.found.push(Lit { node: id, positive })?;
+            self.changes.push(Change::Found)?;
+        }
+        self.want_all(&[left, right])
     }
 
     /// Wants what the value of a node rests on.
@@ -184,29 +275,29 @@ impl<'a> Walk<'a> {
         if id >= table.len() {
             return Ok(());
         }
-        if matches!(table.sort_of(id), Sort::Bool) && !self.has_value(id) {
-            return self.wait_at(id);
+        if let Some((condition, then, otherwise)) = self.branching(id) {
+            return self.want_branch(condition, then, otherwise);
         }
         match table.node(id) {
-            Node::True | Node::False | Node::BoolConst(_) | Node::FieldConst(..) | Node::Num(..) =>
-                Ok(()),
             Node::Not(a) | Node::Neg(a) => self.want(*a),
             Node::Iff(a, b) | Node::Xor(a, b) => self.want_all(&[*a, *b]),
-            Node::Eq(a, b) => {
-                if let Some(positive) = self.truths.get(id) {
-                    self.found.push(Lit { node: id, positive })?;
-                }
-                self.want_all(&[*a, *b])
-            }
-            Node::IteBool(c, a, b) => self.want_branch(id, *c, *a, *b),
-            Node::IteField(c, _, _) => {
-                let (first, second) = table.branches(id);
-                self.want_branch(id, *c, first, second)
-            }
+            Node::Eq(a, b) => self.find(id, *a, *b),
             Node::And(ids) => self.want_children(id, ids.as_slice(), true),
             Node::Or(ids) => self.want_children(id, ids.as_slice(), false),
             Node::Add(ids) | Node::Mul(ids) | Node::Bitsum(ids) => self.want_all(ids.as_slice()),
+            _ => Ok(()),
         }
+    }
+
+    /// Looks at the open node that was put there last. Says whether it went on.
+    fn visit_last(&mut self, id: NodeId) -> Result<bool, AllocError> {
+        if self.lacks_value(id) {
+            return Ok(false);
+        }
+        self.open.pop();
+        self.changes.push(Change::Visited(id))?;
+        self.visit(id)?;
+        Ok(true)
     }
 
     /// What a node with this value costs.
@@ -251,39 +342,42 @@ impl<'a> Walk<'a> {
         best.map(|found| found.1)
     }
 
-    /// Wants the child that makes a gate what it is.
-    fn choose(&mut self, id: NodeId) -> Result<(), AllocError> {
-        let table = self.table;
-        if id >= table.len() {
-            return Ok(());
+    /// The child that makes a gate what it is.
+    fn choice(&self, id: NodeId) -> Option<NodeId> {
+        if id >= self.table.len() {
+            return None;
         }
-        let found = match table.node(id) {
+        match self.table.node(id) {
             Node::And(ids) => self.best(ids.as_slice(), false),
             Node::Or(ids) => self.best(ids.as_slice(), true),
             _ => None,
-        };
-        match found {
-            Some(child) => self.want(child),
-            None => {
-                self.waits = true;
-                self.choices.push(id)?;
-                Ok(())
-            }
         }
     }
 
+    /// Wants the child that makes the gate what it is whose choice was put off last. Says whether it went on.
+    fn choose_last(&mut self, id: NodeId) -> Result<bool, AllocError> {
+        let Some(child) = self.choice(id) else {
+            return Ok(false);
+        };
+        self.choices.pop();
+        self.changes.push(Change::Chosen(id))?;
+        self.want(child)?;
+        Ok(true)
+    }
+
     /// Goes on until nothing is open, or a value is missing. Each node is looked at once, and has its choice at most once.
-    pub fn go_on(&mut self) -> Result<(), AllocError> {
+    fn go_on(&mut self) -> Result<(), AllocError> {
         self.waits = false;
         for _ in 0..2 * u64::from(self.table.len()) {
-            if self.waits {
-                break;
-            }
-            if let Some(id) = self.open.pop() {
-                self.visit(id)?;
-            } else if let Some(id) = self.choices.pop() {
-                self.choose(id)?;
+            let went_on = if let Some(id) = self.open.last().copied() {
+                self.visit_last(id)?
+            } else if let Some(id) = self.choices.last().copied() {
+                self.choose_last(id)?
             } else {
+                break;
+            };
+            if !went_on {
+                self.waits = true;
                 break;
             }
         }
@@ -298,15 +392,18 @@ impl<'a> Walk<'a> {
     /// The equalities on which the truth of the assertions rests, with their values, in the order of their nodes; all that have a
     /// value where one is missing.
     pub fn equalities(&self) -> Result<Vec<Lit>, AllocError> {
-        let mut found = Vec::new(self.alloc);
-        for node in 0..self.table.len() {
-            if (self.waits || self.is_needed(node)) && is_equality(self.table, node) {
-                if let Some(positive) = self.truths.get(node) {
-                    found.push(Lit { node, positive })?;
+        let mut equalities = Vec::new(self.alloc);
+        if self.waits {
+            for literal in self.truths.literals() {
+                if is_equality(self.table, literal.node) {
+                    equalities.push(*literal)?;
                 }
             }
+        } else {
+            equalities.extend_from_slice(self.found.as_slice())?;
         }
-        Ok(found)
+        equalities.sort_unstable_by(|a, b| a.node.cmp(&b.node));
+        Ok(equalities)
     }
 }
 

@@ -1,87 +1,76 @@
 //! The truth values of a trail, by node.
-ghost use Rattle.std.specs.Prelude.{◌≡◌, ◌++◌, ◌∷◌, [], true, Some, List, Bool, All, IfOk, slice_get};
-ghost use Rattle.ffc_clause.specs.Clauses.{Literal};
+ghost use Rattle.std.specs.Prelude.{◌≡◌, true, All, Contains};
+ghost use Rattle.ffc_clause.specs.Clauses.{Literal, negated};
 
 use ffc_cdcl::Lit;
 use ffc_term::NodeId;
 use std::alloc::{AllocError, Global};
 
-/// The truth value of each node of a table, where a trail has one.
+/// The literals of a trail, with a place among them for each node of a table. A place says nothing where the literal there is one
+/// of another node, so literals are forgotten by a truncation (Briggs and Torczon 1993: sparse sets).
 #[derive(Drop)]
 pub struct Truths {
-    items: Vec<Option<bool>>,
+    places: Vec<usize>,
+    literals: Vec<Lit>,
+}
+
+/// Whether a trail has this literal at a place.
+fn is_at(trail: &[Lit], place: usize, literal: Lit) -> bool
+    ensures { result ≡ true → Contains trail.now literal }
+{
+    place < trail.len() && trail[place].is_same(literal)
 }
 
 impl Truths {
-    ghost use Rattle.ffc_circuit.specs.Values.{AreOn, IsFalseIn, values_of};
-
     /// No values, of the nodes below a number.
-    pub(crate) fn new(alloc: Global, nodes: u32) -> Result<Self, AllocError>
-        ensures { IfOk result (λ t. AreOn [] (values_of t)) }
-    {
+    pub(crate) fn new(alloc: Global, nodes: u32) -> Result<Self, AllocError> {
         Ok(Truths {
-            items: vec![in alloc; None; nodes as usize]?,
+            places: vec![in alloc; 0; nodes as usize]?,
+            literals: Vec::new(alloc),
         })
     }
 
-    /// The values of a trail over the nodes below a number.
-    pub fn of(alloc: Global, nodes: u32, trail: &[Lit]) -> Result<Self, AllocError>
-        ensures { IfOk result (λ t. AreOn trail.now (values_of t)) }
-    {
-        let mut truths = Truths::new(alloc, nodes)?;
-        truths.set_all(trail);
-        Ok(truths)
-    }
-
-    /// Forgets all values.
-    pub(crate) fn clear(&mut self) {
-        for item in self.items.as_mut_slice() {
-            *item = None;
-        }
+    /// The literals, in the order of the trail.
+    pub(crate) fn literals(&self) -> &[Lit] {
+        self.literals.as_slice()
     }
 
     /// Makes a literal true.
-    fn set(&mut self, literal: Lit)
-        ensures { (trail : List Literal) → AreOn trail (values_of self.old)
-            → AreOn (trail ++ literal ∷ []) (values_of self.new) }
-    {
-        if let Some(item) = self.items.get_mut(literal.node as usize) {
-            *item = Some(literal.positive);
+    pub(crate) fn push(&mut self, literal: Lit) -> Result<(), AllocError> {
+        if let Some(place) = self.places.get_mut(literal.node as usize) {
+            *place = self.literals.len();
         }
+        self.literals.push(literal)?;
+        Ok(())
     }
 
-    /// Makes literals true.
-    pub(crate) fn set_all(&mut self, literals: &[Lit])
-        ensures { (trail : List Literal) → AreOn trail (values_of self.old)
-            → AreOn (trail ++ literals.now) (values_of self.new) }
-    {
-        for literal in literals {
-            self.set(*literal);
+    /// Forgets all literals but so many.
+    pub(crate) fn keep(&mut self, count: usize) {
+        self.literals.truncate(count);
+    }
+
+    /// Where the trail has the literal of a node, if it has one.
+    fn place_of(&self, node: NodeId) -> usize {
+        match self.places.get(node as usize) {
+            Some(place) => *place,
+            None => usize::MAX,
         }
     }
 
     /// The value of a node.
-    pub fn get(&self, node: NodeId) -> Option<bool>
-        ensures { (value : Bool) → result ≡ Some value → slice_get (values_of self.now) node ≡ Some (Some value) }
-    {
-        match self.items.get(node as usize) {
-            Some(item) => *item,
-            None => None,
+    pub fn get(&self, node: NodeId) -> Option<bool> {
+        match self.literals.get(self.place_of(node)) {
+            Some(literal) if literal.node == node => Some(literal.positive),
+            _ => None,
         }
     }
 
-    fn is_false(&self, literal: Lit) -> bool
-        ensures { result ≡ true → IsFalseIn (values_of self.now) literal }
-    {
-        self.get(literal.node) == Some(!literal.positive)
-    }
-
-    /// Whether each literal of a clause is false.
-    pub fn falsify(&self, clause: &[Lit]) -> bool
-        ensures { result ≡ true → All (IsFalseIn (values_of self.now)) clause.now }
+    /// Whether each literal of a clause is false on the trail that these values are of.
+    pub fn falsify(&self, trail: &[Lit], clause: &[Lit]) -> bool
+        ensures { result ≡ true → All (λ (l : Literal). Contains trail.now (negated l)) clause.now }
     {
         for literal in clause {
-            if !self.is_false(*literal) {
+            if !is_at(trail, self.place_of(literal.node), literal.negated()) {
                 return false;
             }
         }

@@ -5,7 +5,6 @@ use ffc_cdcl::Lit;
 use ffc_circuit::sides;
 use ffc_term::{NodeId, NodeTable};
 use std::alloc::{AllocError, Global};
-use std::collections::BTreeMap;
 
 /// Values that do not go together.
 #[derive(Clone, Copy)]
@@ -16,31 +15,61 @@ pub enum Clash {
     Values(NodeId, Reason),
 }
 
-/// What was gone through, and what is still to be.
+/// A way back from a clash to the equalities that it rests on. Its lists are kept for the next one.
 #[derive(Drop)]
-struct Tracing<'a> {
-    table: &'a NodeTable,
-    found: BTreeMap<NodeId, bool>,
+pub struct Tracing {
+    /// Which nodes were reached.
     seen: Vec<bool>,
-    waiting: Vec<NodeId>,
+    /// Those nodes, in the order in which they are gone through.
+    reached: Vec<NodeId>,
+    /// The equalities among them.
+    found: Vec<Lit>,
 }
 
-impl Tracing<'_> {
-    /// Lets a node wait, unless it did before.
-    fn want(&mut self, id: NodeId) -> Result<(), AllocError> {
+impl Tracing {
+    /// One over the nodes below a number.
+    pub fn new(alloc: Global, nodes: u32) -> Result<Self, AllocError> {
+        Ok(Tracing {
+            seen: vec![in alloc; false; nodes as usize]?,
+            reached: Vec::new(alloc),
+            found: Vec::new(alloc),
+        })
+    }
+
+    /// Forgets what was reached.
+    fn clear(&mut self) {
+        for id in self.reached.as_slice() {
+            if let Some(seen) = self.seen.get_mut(*id as usize) {
+                *seen = false;
+            }
+        }
+        self.reached.clear();
+        self.found.clear();
+    }
+
+    /// Reaches a node, and says whether it did not before.
+    fn want(&mut self, id: NodeId) -> Result<bool, AllocError> {
         if let Some(seen) = self.seen.get_mut(id as usize) {
             if !*seen {
                 *seen = true;
-                self.waiting.push(id)?;
+                self.reached.push(id)?;
+                return Ok(true);
             }
         }
-        Ok(())
+        Ok(false)
     }
 
-    /// Notes an equality, and lets its sides wait but for one.
-    fn want_sides(&mut self, equality: Lit, but: Option<NodeId>) -> Result<(), AllocError> {
-        self.found.insert(equality.node, equality.positive)?;
-        if let Some((a, b)) = sides(self.table, equality.node) {
+    /// Notes an equality, and reaches its sides but for one.
+    fn want_sides(
+        &mut self,
+        table: &NodeTable,
+        equality: Lit,
+        but: Option<NodeId>,
+    ) -> Result<(), AllocError> {
+        if self.want(equality.node)? {
+            self.found.push(equality)?;
+        }
+        if let Some((a, b)) = sides(table, equality.node) {
             for side in [a, b] {
                 if Some(side) != but {
                     self.want(side)?;
@@ -50,9 +79,14 @@ impl Tracing<'_> {
         Ok(())
     }
 
-    /// Lets the children of a node wait but for one.
-    fn want_children(&mut self, id: NodeId, but: Option<NodeId>) -> Result<(), AllocError> {
-        for child in children(self.table, id) {
+    /// Reaches the children of a node but for one.
+    fn want_children(
+        &mut self,
+        table: &NodeTable,
+        id: NodeId,
+        but: Option<NodeId>,
+    ) -> Result<(), AllocError> {
+        for child in children(table, id) {
             if Some(*child) != but {
                 self.want(*child)?;
             }
@@ -60,61 +94,64 @@ impl Tracing<'_> {
         Ok(())
     }
 
-    /// Lets what the value of a node rests on for a reason wait.
-    fn want_reason(&mut self, id: NodeId, reason: Reason) -> Result<(), AllocError> {
+    /// Reaches what the value of a node rests on for a reason.
+    fn want_reason(
+        &mut self,
+        table: &NodeTable,
+        id: NodeId,
+        reason: Reason,
+    ) -> Result<(), AllocError> {
         match reason {
-            Reason::Children => self.want_children(id, None),
-            Reason::Zero(child) => self.want(child),
+            Reason::Children => self.want_children(table, id, None),
+            Reason::Zero(child) => {
+                self.want(child)?;
+                Ok(())
+            }
             Reason::Parent(parent) => {
                 self.want(parent)?;
-                self.want_children(parent, Some(id))
+                self.want_children(table, parent, Some(id))
             }
             Reason::Equality(equality) => {
                 let equality = Lit {
                     node: equality,
                     positive: true,
                 };
-                self.want_sides(equality, Some(id))
+                self.want_sides(table, equality, Some(id))
             }
         }
     }
-}
 
-/// The equalities that a clash rests on, in the order of their nodes.
-pub fn explained(
-    alloc: Global,
-    table: &NodeTable,
-    values: &Values,
-    clash: Clash,
-) -> Result<Vec<Lit>, AllocError> {
-    let mut tracing = Tracing {
-        table,
-        found: BTreeMap::new(alloc),
-        seen: vec![in alloc; false; table.len() as usize]?,
-        waiting: Vec::new(alloc),
-    };
-    match clash {
-        Clash::Equality(equality) => tracing.want_sides(equality, None)?,
-        Clash::Values(id, reason) => {
-            tracing.want(id)?;
-            tracing.want_reason(id, reason)?;
+    /// Goes from a clash to all that it rests on.
+    pub fn trace(
+        &mut self,
+        table: &NodeTable,
+        values: &Values,
+        clash: Clash,
+    ) -> Result<(), AllocError> {
+        self.clear();
+        match clash {
+            Clash::Equality(equality) => self.want_sides(table, equality, None)?,
+            Clash::Values(id, reason) => {
+                self.want(id)?;
+                self.want_reason(table, id, reason)?;
+            }
         }
-    }
-    // Each node waits once at most.
-    for _ in 0..table.len() {
-        let Some(id) = tracing.waiting.pop() else {
-            break;
-        };
-        if let Some(known) = values.get(id) {
-            tracing.want_reason(id, known.reason)?;
+        // Each node is reached once at most.
+        for place in 0..table.len() {
+            let Some(id) = self.reached.get(place as usize).copied() else {
+                break;
+            };
+            if let Some(known) = values.get(id) {
+                self.want_reason(table, id, known.reason)?;
+            }
         }
+        Ok(())
     }
-    let mut equalities = Vec::new(alloc);
-    for (node, positive) in &tracing.found {
-        equalities.push(Lit {
-            node: *node,
-            positive: *positive,
-        })?;
+
+    /// The equalities that it found, in the order of their nodes.
+    pub fn found(&self, alloc: Global) -> Result<Vec<Lit>, AllocError> {
+        let mut found = Vec::from_slice(alloc, self.found.as_slice())?;
+        found.sort_unstable_by(|a, b| a.node.cmp(&b.node));
+        Ok(found)
     }
-    Ok(equalities)
 }

@@ -1,12 +1,20 @@
 //! Values of nodes by the equalities of a trail, one equality after another.
 use crate::arithmetic::{inverse, negative, product, sum};
-use crate::explaining::{Clash, explained};
+use crate::explaining::{Clash, Tracing};
 use crate::known::{Known, Reason, Values, order_of};
 use crate::users::{Users, children};
 use ffc_cdcl::Lit;
 use ffc_circuit::sides;
 use ffc_term::{Node, NodeId, NodeTable};
 use std::alloc::{AllocError, Global};
+
+/// An equality that was added, with how many values there were before, and how many of them were looked at.
+#[derive(Clone, Copy)]
+struct Added {
+    equality: NodeId,
+    values: usize,
+    looked: usize,
+}
 
 /// What the equalities so far fix.
 #[derive(Drop)]
@@ -20,9 +28,10 @@ pub struct Fixed<'a> {
     /// Whether each equality that was added holds.
     truths: Vec<Option<bool>>,
     /// The equalities that were added.
-    added: Vec<NodeId>,
+    added: Vec<Added>,
     /// How many of the values were looked at.
     looked: usize,
+    tracing: Tracing,
 }
 
 /// What is known of a list of children.
@@ -71,33 +80,59 @@ impl<'a> Fixed<'a> {
             truths: vec![in alloc; None; table.len() as usize]?,
             added: Vec::new(alloc),
             looked: 0,
+            tracing: Tracing::new(alloc, table.len())?,
         })
     }
 
-    /// Forgets all equalities. It costs what they fixed.
-    pub fn clear(&mut self) {
-        for id in self.added.as_slice() {
-            if let Some(truth) = self.truths.get_mut(*id as usize) {
-                *truth = None;
-            }
+    /// How many equalities were added.
+    pub fn len(&self) -> usize {
+        self.added.len()
+    }
+
+    /// Forgets all equalities but the first so many. It costs what the others fixed.
+    pub fn keep(&mut self, count: usize) {
+        let Some(first) = self.added.get(count).copied() else {
+            return;
+        };
+        for place in count..self.added.len() {
+            self.forget_truth(place);
         }
-        self.added.truncate(0);
-        for place in 0..self.looked {
+        self.added.truncate(count);
+        for place in first.looked..self.looked {
             if let Some(id) = self.values.at(place) {
-                for user in self.users.of_node(id) {
-                    if let Some(open) = self.open.get_mut(*user as usize) {
-                        *open = open.saturating_add(1);
-                    }
-                }
+                self.reopen_users(id);
             }
         }
-        self.values.clear();
-        self.looked = 0;
+        self.looked = self.looked.min(first.looked);
+        self.values.keep(first.values);
+    }
+
+    /// Forgets whether the equality holds that was added at a place.
+    fn forget_truth(&mut self, place: usize) {
+        let Some(added) = self.added.get(place).copied() else {
+            return;
+        };
+        if let Some(truth) = self.truths.get_mut(added.equality as usize) {
+            *truth = None;
+        }
+    }
+
+    /// Counts a node again for those that use it.
+    fn reopen_users(&mut self, id: NodeId) {
+        for user in self.users.of_node(id) {
+            if let Some(open) = self.open.get_mut(*user as usize) {
+                *open = open.saturating_add(1);
+            }
+        }
     }
 
     /// Adds an equality of field nodes, which holds or does not. Where values clash now, these equalities do not go together.
     pub fn add(&mut self, equality: Lit) -> Result<Option<Vec<Lit>>, AllocError> {
-        self.added.push(equality.node)?;
+        self.added.push(Added {
+            equality: equality.node,
+            values: self.values.len(),
+            looked: self.looked,
+        })?;
         if let Some(truth) = self.truths.get_mut(equality.node as usize) {
             *truth = Some(equality.positive);
         }
@@ -105,8 +140,8 @@ impl<'a> Fixed<'a> {
         // Each node gets a value once at most.
         for _ in 0..=self.table.len() {
             if let Some(clash) = clash {
-                let equalities = explained(self.alloc, self.table, &self.values, clash)?;
-                return Ok(Some(equalities));
+                self.tracing.trace(self.table, &self.values, clash)?;
+                return Ok(Some(self.tracing.found(self.alloc)?));
             }
             let Some(id) = self.values.at(self.looked) else {
                 break;

@@ -86,13 +86,26 @@ impl Values {
         self.order.get(place).copied()
     }
 
-    /// Takes the values away that are not of numbers.
-    pub fn clear(&mut self) {
-        for id in self.order.as_slice() {
-            if let Some(item) = self.items.get_mut(*id as usize) {
-                *item = None;
-            }
+    /// How many nodes have values, but for numbers.
+    pub fn len(&self) -> usize {
+        self.order.len()
+    }
+
+    /// Takes away the value that was found at a place of the order.
+    fn unset(&mut self, place: usize) {
+        let Some(id) = self.at(place) else {
+            return;
+        };
+        if let Some(item) = self.items.get_mut(id as usize) {
+            *item = None;
         }
-        self.order.truncate(0);
+    }
+
+    /// Takes all values away but the first so many, and those of numbers.
+    pub fn keep(&mut self, count: usize) {
+        for place in count..self.order.len() {
+            self.unset(place);
+        }
+        self.order.truncate(count);
     }
 }
