@@ -20,6 +20,9 @@ pub fn negative(a: u64, p: u64) -> u64 {
 
 /// The inverse of a residue other than 0 modulo a prime, by Fermat's theorem.
 pub fn inverse(a: u64, p: u64) -> u64 {
+    if a == 1 || a == p.wrapping_sub(1) {
+        return a;
+    }
     let mut power = a;
     let mut rest = p.saturating_sub(2);
     let mut inverse = reduced(1, p);

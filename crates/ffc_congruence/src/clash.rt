@@ -1,8 +1,7 @@
 //! Equalities that do not go together with what follows from the others.
-use crate::closure::Closure;
-use crate::nodes::sides;
-use ffc_cdcl::Lit;
 use ffc_term::NodeId;
+use std::alloc::{AllocError, Global};
+use std::collections::BTreeMap;
 
 /// Two ids that are equal and are not to be.
 #[derive(Clone, Copy)]
@@ -23,19 +22,68 @@ impl Clash {
     }
 }
 
-impl Closure<'_> {
-    /// What clashes of these equalities, if anything does.
-    pub fn clash_among(&self, equalities: &[Lit]) -> Option<Clash> {
-        if let Some((one, other)) = self.clash {
-            return Some(Clash::Values(one, other));
+/// A side of an equality that does not hold, and the entry of the same id before it.
+#[derive(Clone, Copy)]
+struct Side {
+    id: u32,
+    clash: Clash,
+    before: Option<usize>,
+}
+
+/// The equalities that do not hold, by their sides, the last of which can be taken away.
+#[derive(Drop)]
+pub struct Unequal {
+    sides: Vec<Side>,
+    /// Of each id its last entry.
+    last: BTreeMap<u32, usize>,
+}
+
+impl Unequal {
+    /// None. It takes no memory.
+    pub fn new(alloc: Global) -> Unequal {
+        Unequal {
+            sides: Vec::new(alloc),
+            last: BTreeMap::new(alloc),
         }
-        for equality in equalities {
-            if let (Some((a, b)), false) = (sides(self.table, equality.node), equality.positive) {
-                if self.classes.root(a) == self.classes.root(b) {
-                    return Some(Clash::Unequal(equality.node, a, b));
+    }
+
+    pub fn len(&self) -> usize {
+        self.sides.len()
+    }
+
+    /// Notes a side of an equality that does not hold.
+    pub fn push(&mut self, id: u32, clash: Clash) -> Result<(), AllocError> {
+        let before = self.last.insert(id, self.sides.len())?;
+        self.sides.push(Side { id, clash, before })?;
+        Ok(())
+    }
+
+    /// Keeps only the first sides. It takes no memory.
+    pub fn truncate(&mut self, count: usize) {
+        for _ in count..self.sides.len() {
+            let Some(side) = self.sides.pop() else {
+                break;
+            };
+            match (side.before, self.last.get_mut(&side.id)) {
+                (Some(before), Some(last)) => *last = before,
+                _ => {
+                    let _ = self.last.remove(&side.id);
                 }
             }
         }
-        None
+    }
+
+    /// The equalities that do not hold and have this id as a side.
+    pub fn of_id(&self, alloc: Global, id: u32) -> Result<Vec<Clash>, AllocError> {
+        let mut found = Vec::new(alloc);
+        let mut at = self.last.get(&id).copied();
+        for _ in 0..self.sides.len() {
+            let Some(side) = at.and_then(|place| self.sides.get(place)) else {
+                break;
+            };
+            found.push(side.clash)?;
+            at = side.before;
+        }
+        Ok(found)
     }
 }

@@ -1,8 +1,9 @@
-//! Classes of equal ids, and the edges that made them so.
+//! Classes of equal ids, and the edges that made them so, the last of which can be taken away.
 //!
 //! Two forests over the ids. In one each id is below another one of its class, by sizes, so that a root is found in a few steps;
 //! it says too which root an id had at an earlier time (Tarjan 1975, without compression). In the other each edge is one that was
-//! added, so that the way between two ids says why they are equal (Nieuwenhuis and Oliveras 2005).
+//! added, so that the way between two ids says why they are equal (Nieuwenhuis and Oliveras 2005). Besides, the ids of a class are
+//! in a circle.
 use std::alloc::{AllocError, Global};
 
 /// How many edges had been added.
@@ -22,6 +23,15 @@ pub struct Step {
     pub forward: bool,
 }
 
+/// An edge: its ends, and the roots of their classes before, of which the first one stayed.
+#[derive(Clone, Copy)]
+pub struct Edge {
+    pub from: u32,
+    pub to: u32,
+    pub kept: u32,
+    pub gone: u32,
+}
+
 #[derive(Drop)]
 pub struct Classes {
     /// For each id but the roots the one above it, since the edge that put it there.
@@ -29,8 +39,9 @@ pub struct Classes {
     /// For each id the next one on its way along the edges to the end that its class has there.
     beside: Vec<Option<Link>>,
     weights: Vec<u64>,
-    /// The ends of each edge.
-    ends: Vec<(u32, u32)>,
+    /// For each id the next one of its class.
+    circle: Vec<u32>,
+    edges: Vec<Edge>,
 }
 
 fn link_at(links: &[Option<Link>], id: u32) -> Option<Link> {
@@ -47,33 +58,38 @@ impl Classes {
             above: Vec::new(alloc),
             beside: Vec::new(alloc),
             weights: Vec::new(alloc),
-            ends: Vec::new(alloc),
+            circle: Vec::new(alloc),
+            edges: Vec::new(alloc),
         }
     }
 
-    /// Adds the next id, alone in its class.
-    pub fn add(&mut self) -> Result<(), AllocError> {
+    /// Adds the next id, alone in its class, with a weight. Of two classes the heavier one's root stays.
+    pub fn add(&mut self, weight: u64) -> Result<(), AllocError> {
+        let id = u32::try_from(self.circle.len()).unwrap_or(u32::MAX);
         self.above.push(None)?;
         self.beside.push(None)?;
-        self.weights.push(1)?;
+        self.weights.push(weight)?;
+        self.circle.push(id)?;
         Ok(())
     }
 
-    /// Makes the class of a root heavier. Of two classes the heavier one's root stays.
-    pub fn weigh(&mut self, root: u32) {
-        if let Some(weight) = self.weights.get_mut(root as usize) {
-            *weight = weight.saturating_add(1);
-        }
+    /// Takes the ids from this one on away, which are alone in their classes.
+    pub fn truncate(&mut self, count: usize) {
+        self.above.truncate(count);
+        self.beside.truncate(count);
+        self.weights.truncate(count);
+        self.circle.truncate(count);
     }
 
     /// How many edges there are.
     pub fn now(&self) -> Time {
-        self.ends.len()
+        self.edges.len()
     }
 
     /// The ends of an edge.
     pub fn ends(&self, edge: usize) -> Option<(u32, u32)> {
-        self.ends.get(edge).copied()
+        let edge = self.edges.get(edge)?;
+        Some((edge.from, edge.to))
     }
 
     /// The root of an id's class at a time.
@@ -94,27 +110,36 @@ impl Classes {
         self.root_at(id, usize::MAX)
     }
 
-    fn weight(&self, root: u32) -> u64 {
-        match self.weights.get(root as usize) {
-            Some(weight) => *weight,
-            None => 0,
-        }
+    /// The next id of a class.
+    pub fn next(&self, id: u32) -> u32 {
+        self.circle.get(id as usize).copied().unwrap_or(id)
     }
 
-    /// Adds an edge between two ids of different classes. Answers the root that stays, and the one that does not.
-    pub fn join(&mut self, a: u32, b: u32) -> Result<(u32, u32), AllocError> {
-        let edge = self.ends.len();
-        self.ends.push((a, b))?;
+    fn weight(&self, root: u32) -> u64 {
+        self.weights.get(root as usize).copied().unwrap_or(0)
+    }
+
+    /// Adds an edge between two ids of different classes. In the circle the ids of the class whose root does not stay come just
+    /// after the root that does.
+    pub fn join(&mut self, a: u32, b: u32) -> Result<Edge, AllocError> {
+        let number = self.edges.len();
         let (first, second) = (self.root(a), self.root(b));
-        if self.weight(first) < self.weight(second) {
-            self.turn(a, b, edge);
-            self.put_below(first, second, edge);
-            Ok((second, first))
+        let first_stays = self.weight(first) >= self.weight(second);
+        let edge = Edge {
+            from: a,
+            to: b,
+            kept: if first_stays { first } else { second },
+            gone: if first_stays { second } else { first },
+        };
+        self.edges.push(edge)?;
+        if first_stays {
+            self.turn(b, a, number);
         } else {
-            self.turn(b, a, edge);
-            self.put_below(second, first, edge);
-            Ok((first, second))
+            self.turn(a, b, number);
         }
+        self.put_below(edge.gone, edge.kept, number);
+        self.swap_next(edge.kept, edge.gone);
+        Ok(edge)
     }
 
     fn put_below(&mut self, root: u32, other: u32, edge: usize) {
@@ -124,6 +149,45 @@ impl Classes {
         }
         if let Some(sum) = self.weights.get_mut(other as usize) {
             *sum = sum.saturating_add(weight);
+        }
+    }
+
+    /// Makes one circle of two, or two of one.
+    fn swap_next(&mut self, one: u32, other: u32) {
+        let (first, second) = (self.next(one), self.next(other));
+        if let Some(next) = self.circle.get_mut(one as usize) {
+            *next = second;
+        }
+        if let Some(next) = self.circle.get_mut(other as usize) {
+            *next = first;
+        }
+    }
+
+    /// Takes the last edge away.
+    pub fn part(&mut self) -> Option<Edge> {
+        let edge = self.edges.pop()?;
+        let number = self.edges.len();
+        self.swap_next(edge.kept, edge.gone);
+        let weight = self.weight(edge.gone);
+        if let Some(sum) = self.weights.get_mut(edge.kept as usize) {
+            *sum = sum.saturating_sub(weight);
+        }
+        if let Some(link) = self.above.get_mut(edge.gone as usize) {
+            *link = None;
+        }
+        self.cut(edge.from, number);
+        self.cut(edge.to, number);
+        Some(edge)
+    }
+
+    /// Ends the way of an id there, where it leads along an edge.
+    fn cut(&mut self, id: u32, edge: usize) {
+        if let Some(place) = self.beside.get_mut(id as usize) {
+            if let Some(link) = *place {
+                if link.edge == edge {
+                    *place = None;
+                }
+            }
         }
     }
 
@@ -164,8 +228,8 @@ impl Classes {
 
     /// Whether an id is the first end of an edge.
     fn begins(&self, edge: usize, id: u32) -> bool {
-        match self.ends.get(edge) {
-            Some(ends) => ends.0 == id,
+        match self.edges.get(edge) {
+            Some(edge) => edge.from == id,
             None => false,
         }
     }

@@ -1,20 +1,14 @@
-//! The congruence closure of equalities of one field: which nodes are equal by them, and why (Downey, Sethi and Tarjan 1980).
-use crate::classes::{Classes, Time};
-use crate::forms::Form;
-use crate::nodes::{children, is_of_order, sides};
-use ffc_cdcl::Lit;
-use ffc_term::{Node, NodeId, NodeTable};
+//! The congruence closure of the equalities of a trail: which nodes are equal by them, and why (Downey, Sethi and Tarjan 1980).
+//! Whatever an equality leads to is noted behind what was noted before, so that the last equalities can be taken away.
+use crate::clash::{Clash, Unequal};
+use crate::classes::{Classes, Edge, Time};
+use crate::index::{Index, Solved};
+use crate::nodes::children;
+use crate::queue::Queue;
+use crate::users::Users;
+use ffc_term::{Node, NodeId, NodeTable, Sort};
 use std::alloc::{AllocError, Global};
 use std::collections::BTreeMap;
-
-/// A node that says of a term of its own what it is by the others, as of a time: the term's coefficient in the sum that is 0.
-#[derive(Clone, Copy)]
-pub struct Solved {
-    pub node: NodeId,
-    pub pivot: u32,
-    pub coefficient: u64,
-    pub time: Time,
-}
 
 /// Why the ends of an edge are equal.
 #[derive(Clone, Copy)]
@@ -29,9 +23,22 @@ pub enum Reason {
 
 /// The value of a class, and since when it has it.
 #[derive(Clone, Copy)]
-pub struct Known {
-    pub value: u64,
-    pub since: Time,
+struct Known {
+    value: u64,
+    since: Time,
+}
+
+/// How much there was before an equality was added.
+#[derive(Clone, Copy)]
+pub struct Mark {
+    edges: usize,
+    values: usize,
+    sums: usize,
+    products: usize,
+    active: usize,
+    unequal: usize,
+    work: usize,
+    clash: Option<Clash>,
 }
 
 /// The classes so far. Their ids are the nodes of the table, and after these values that no node of it is.
@@ -39,137 +46,98 @@ pub struct Known {
 pub struct Closure<'a> {
     pub alloc: Global,
     pub table: &'a NodeTable,
-    pub order: u64,
     pub classes: Classes,
     /// Of each root the value.
     known: Vec<Option<Known>>,
-    /// Of each root the nodes to look at when its class changes: its own, and those that have one of them as a child.
-    users: Vec<Vec<NodeId>>,
+    users: Users,
     /// Of each edge.
     reasons: Vec<Reason>,
-    /// The ids of values.
-    numbers: BTreeMap<u64, u32>,
+    /// The ids of values, by their orders.
+    numbers: BTreeMap<(u64, u64), u32>,
+    /// The orders and values of the ids past the table.
+    values: Vec<(u64, u64)>,
     /// What sums of classes are, and products.
-    pub sums: BTreeMap<Form, Solved>,
-    pub products: BTreeMap<Form, NodeId>,
-    /// Nodes to look at, of which so many were.
-    waiting: Vec<NodeId>,
-    looked: usize,
-    waits: Vec<bool>,
-    /// Two values that are equal.
-    pub clash: Option<(u32, u32)>,
+    pub sums: Index,
+    pub products: Index,
+    pub queue: Queue,
+    /// The nodes below the equalities, which alone are looked at.
+    active: Vec<NodeId>,
+    is_active: Vec<bool>,
+    unequal: Unequal,
+    /// How much may still be looked at.
+    pub work: usize,
+    /// Of each equality.
+    pub marks: Vec<Mark>,
+    /// What clashes.
+    pub clash: Option<Clash>,
 }
 
 impl<'a> Closure<'a> {
-    /// No equalities. Looked at are the nodes below the sides of these.
-    pub fn new(
-        alloc: Global,
-        table: &'a NodeTable,
-        order: u64,
-        equalities: &[Lit],
-    ) -> Result<Closure<'a>, AllocError> {
+    /// No equalities.
+    pub fn new(alloc: Global, table: &'a NodeTable) -> Result<Closure<'a>, AllocError> {
+        let count = table.len() as usize;
         let mut closure = Closure {
             alloc,
             table,
-            order,
             classes: Classes::new(alloc),
             known: Vec::new(alloc),
-            users: Vec::new(alloc),
+            users: Users::of(alloc, table)?,
             reasons: Vec::new(alloc),
             numbers: BTreeMap::new(alloc),
-            sums: BTreeMap::new(alloc),
-            products: BTreeMap::new(alloc),
-            waiting: Vec::new(alloc),
-            looked: 0,
-            waits: vec![in alloc; false; table.len() as usize]?,
+            values: Vec::new(alloc),
+            sums: Index::new(alloc),
+            products: Index::new(alloc),
+            queue: Queue::new(alloc, count)?,
+            active: Vec::new(alloc),
+            is_active: vec![in alloc; false; count]?,
+            unequal: Unequal::new(alloc),
+            work: crate::looking::MORE_WORK,
+            marks: Vec::new(alloc),
             clash: None,
         };
-        for _ in 0..table.len() {
-            closure.add_id(None)?;
-        }
-        let marks = below(alloc, table, equalities)?;
-        for (id, mark) in (0..table.len()).zip(&marks) {
-            if *mark && is_of_order(table, order, id) {
-                closure.register(id)?;
+        for id in 0..table.len() {
+            match table.node(id) {
+                Node::Num(value, order) => closure.add_id(id, Some((*order, *value)))?,
+                _ => closure.add_id(id, None)?,
             }
         }
         Ok(closure)
     }
 
-    /// Adds an id, alone in its class.
-    fn add_id(&mut self, value: Option<u64>) -> Result<(), AllocError> {
-        self.classes.add()?;
-        self.users.push(Vec::new(self.alloc))?;
-        self.known
-            .push(value.map(|value| Known { value, since: 0 }))?;
-        Ok(())
-    }
-
-    /// Has a node looked at, now and whenever its class or one of its children's changes.
-    fn register(&mut self, id: NodeId) -> Result<(), AllocError> {
-        let table = self.table;
-        if id < table.len() {
-            if let Node::Num(value, _) = table.node(id) {
-                self.numbers.insert(*value, id)?;
-                if let Some(known) = self.known.get_mut(id as usize) {
-                    *known = Some(Known {
-                        value: *value,
-                        since: 0,
-                    });
-                }
-            }
-        }
-        let ids = children(table, id);
-        for child in ids {
-            self.add_user(*child, id)?;
-        }
-        if !ids.is_empty() {
-            self.add_user(id, id)?;
-            self.want(id)?;
+    /// Adds an id, alone in its class; of a value with its order and itself.
+    fn add_id(&mut self, id: u32, number: Option<(u64, u64)>) -> Result<(), AllocError> {
+        let weight = self.users.of_node(id).len() as u64;
+        self.classes.add(weight.saturating_add(1))?;
+        self.known.push(number.map(|number| Known {
+            value: number.1,
+            since: 0,
+        }))?;
+        if let Some(number) = number {
+            self.numbers.insert(number, id)?;
         }
         Ok(())
     }
 
-    /// Notes that a node is to be looked at when the class of an id changes that is alone in it.
-    fn add_user(&mut self, id: u32, user: NodeId) -> Result<(), AllocError> {
-        if let Some(users) = self.users.get_mut(id as usize) {
-            users.push(user)?;
-            self.classes.weigh(id);
+    /// The order of an id's field; 0 where it has none.
+    pub fn order_of(&self, id: u32) -> u64 {
+        if id < self.table.len() {
+            return match self.table.sort_of(id) {
+                Sort::Bool => 0,
+                Sort::Field(order) => order,
+            };
         }
-        Ok(())
-    }
-
-    /// Lets a node wait, unless it does.
-    pub fn want(&mut self, id: NodeId) -> Result<(), AllocError> {
-        if let Some(waits) = self.waits.get_mut(id as usize) {
-            if !*waits {
-                *waits = true;
-                self.waiting.push(id)?;
-            }
+        let place = id.saturating_sub(self.table.len()) as usize;
+        match self.values.get(place) {
+            Some(number) => number.0,
+            None => 0,
         }
-        Ok(())
-    }
-
-    /// The next node that waits.
-    pub fn next(&mut self) -> Option<NodeId> {
-        let id = self.waiting.get(self.looked).copied()?;
-        self.looked = self.looked.saturating_add(1);
-        if let Some(waits) = self.waits.get_mut(id as usize) {
-            *waits = false;
-        }
-        Some(id)
-    }
-
-    /// The nodes that wait, and those that did.
-    pub fn waiting(&self) -> &[NodeId] {
-        self.waiting.as_slice()
     }
 
     /// The value of an id's class at a time.
     pub fn value_at(&self, id: u32, time: Time) -> Option<u64> {
         let root = self.classes.root_at(id, time);
-        match self.known.get(root as usize) {
-            Some(Some(known)) if known.since <= time => Some(known.value),
+        match self.known(root) {
+            Some(known) if known.since <= time => Some(known.value),
             _ => None,
         }
     }
@@ -177,11 +145,6 @@ impl<'a> Closure<'a> {
     /// What an id is from the beginning, where it is a number.
     pub fn value_of(&self, id: u32) -> Option<u64> {
         self.value_at(id, 0)
-    }
-
-    /// How many ids there are.
-    pub fn count(&self) -> usize {
-        self.known.len()
     }
 
     /// How many terms an id or an equality has at most.
@@ -193,55 +156,25 @@ impl<'a> Closure<'a> {
         }
     }
 
-    /// The id of a value, if it has one.
-    pub fn id_of(&self, value: u64) -> Option<u32> {
-        self.numbers.get(&value).copied()
+    /// The id of a value of an order, if it has one.
+    pub fn id_of(&self, order: u64, value: u64) -> Option<u32> {
+        self.numbers.get(&(order, value)).copied()
     }
 
-    /// The id of a value.
-    pub fn number(&mut self, value: u64) -> Result<u32, AllocError> {
-        if let Some(id) = self.id_of(value) {
+    /// The id of a value of an order.
+    pub fn number(&mut self, order: u64, value: u64) -> Result<u32, AllocError> {
+        if let Some(id) = self.id_of(order, value) {
             return Ok(id);
         }
         let id = u32::try_from(self.known.len()).unwrap_or(u32::MAX);
-        self.add_id(Some(value))?;
-        self.numbers.insert(value, id)?;
+        self.values.push((order, value))?;
+        self.add_id(id, Some((order, value)))?;
         Ok(id)
     }
 
     /// Why the ends of an edge are equal.
     pub fn reason(&self, edge: usize) -> Option<Reason> {
         self.reasons.get(edge).copied()
-    }
-
-    /// Lets the users of a root wait.
-    fn want_users(&mut self, root: u32) -> Result<(), AllocError> {
-        let count = match self.users.get(root as usize) {
-            Some(users) => users.len(),
-            None => 0,
-        };
-        for place in 0..count {
-            let user = match self.users.get(root as usize) {
-                Some(users) => users.get(place).copied(),
-                None => None,
-            };
-            if let Some(user) = user {
-                self.want(user)?;
-            }
-        }
-        Ok(())
-    }
-
-    /// Gives the users of a root to another one.
-    fn move_users(&mut self, from: u32, to: u32) -> Result<(), AllocError> {
-        let mut moved = Vec::new(self.alloc);
-        if let Some(users) = self.users.get_mut(from as usize) {
-            std::mem::swap(users, &mut moved);
-        }
-        if let Some(users) = self.users.get_mut(to as usize) {
-            users.append(&mut moved)?;
-        }
-        Ok(())
     }
 
     fn known(&self, root: u32) -> Option<Known> {
@@ -251,64 +184,174 @@ impl<'a> Closure<'a> {
         }
     }
 
-    /// Gives the class of the root that stays the value of the other one.
-    fn merge_values(&mut self, kept: u32, gone: u32) -> Result<(), AllocError> {
-        match (self.known(kept), self.known(gone)) {
-            (Some(one), Some(other)) if one.value != other.value => {
-                if let (Some(a), Some(b)) = (self.id_of(one.value), self.id_of(other.value)) {
-                    self.clash = Some((a, b));
-                }
+    fn set_known(&mut self, root: u32, known: Option<Known>) {
+        if let Some(place) = self.known.get_mut(root as usize) {
+            *place = known;
+        }
+    }
+
+    /// Whether a node is below the equalities.
+    pub fn is_active(&self, id: NodeId) -> bool {
+        self.is_active.get(id as usize).copied().unwrap_or(false)
+    }
+
+    /// Adds a node to those that are looked at, or takes it away.
+    fn set_active(&mut self, id: NodeId, truth: bool) {
+        if let Some(is_active) = self.is_active.get_mut(id as usize) {
+            *is_active = truth;
+        }
+    }
+
+    /// Has a node looked at whenever its class or one of its children's changes.
+    pub fn activate(&mut self, id: NodeId) -> Result<(), AllocError> {
+        self.active.push(id)?;
+        self.set_active(id, true);
+        Ok(())
+    }
+
+    /// Lets a node wait, and those that have it as a child, as far as they are looked at.
+    fn want_around(&mut self, id: u32) -> Result<(), AllocError> {
+        if self.is_active(id) && !children(self.table, id).is_empty() {
+            self.queue.push(id)?;
+        }
+        for user in self.users.of_node(id) {
+            if let Some(true) = self.is_active.get(*user as usize) {
+                self.queue.push(*user)?;
             }
-            (None, Some(other)) => {
-                let since = self.classes.now();
-                if let Some(known) = self.known.get_mut(kept as usize) {
-                    *known = Some(Known {
-                        value: other.value,
-                        since,
-                    });
-                }
-                self.want_users(kept)?;
-            }
-            _ => {}
         }
         Ok(())
     }
 
+    /// Lets the nodes wait that see the class of an edge change which has come to a value: those around its ids so far.
+    fn want_kept(&mut self, edge: Edge) -> Result<(), AllocError> {
+        let mut id = self.classes.next(edge.gone);
+        for _ in 0..self.known.len() {
+            self.want_around(id)?;
+            if id == edge.kept {
+                break;
+            }
+            id = self.classes.next(id);
+        }
+        Ok(())
+    }
+
+    /// Lets the nodes wait around the ids that an edge has put below another root, and sees which of these are not to be equal
+    /// to what is there.
+    fn want_gone(&mut self, edge: Edge) -> Result<(), AllocError> {
+        let mut id = self.classes.next(edge.kept);
+        for _ in 0..self.known.len() {
+            self.want_around(id)?;
+            for clash in self.unequal.of_id(self.alloc, id)? {
+                let (left, right) = clash.ends();
+                if self.clash.is_none() && self.classes.root(left) == self.classes.root(right) {
+                    self.clash = Some(clash);
+                }
+            }
+            if id == edge.gone {
+                break;
+            }
+            id = self.classes.next(id);
+        }
+        Ok(())
+    }
+
+    /// Gives the class of the root that stays the value of the other one.
+    fn merge_values(&mut self, edge: Edge) -> Result<(), AllocError> {
+        match (self.known(edge.kept), self.known(edge.gone)) {
+            (Some(one), Some(other)) if one.value != other.value => {
+                let order = self.order_of(edge.kept);
+                let (a, b) = (self.id_of(order, one.value), self.id_of(order, other.value));
+                if let (Some(a), Some(b)) = (a, b) {
+                    self.clash = Some(Clash::Values(a, b));
+                }
+                Ok(())
+            }
+            (None, Some(other)) => {
+                let since = self.classes.now();
+                let value = other.value;
+                self.set_known(edge.kept, Some(Known { value, since }));
+                self.want_kept(edge)
+            }
+            _ => Ok(()),
+        }
+    }
+
     /// Notes that two ids are equal, and says whether that is new.
     pub fn merge(&mut self, a: u32, b: u32, reason: Reason) -> Result<bool, AllocError> {
-        if self.classes.root(a) == self.classes.root(b) {
+        if self.clash.is_some() || self.classes.root(a) == self.classes.root(b) {
             return Ok(false);
         }
         self.reasons.push(reason)?;
-        let (kept, gone) = self.classes.join(a, b)?;
-        self.merge_values(kept, gone)?;
-        self.want_users(gone)?;
-        self.move_users(gone, kept)?;
+        let edge = self.classes.join(a, b)?;
+        self.merge_values(edge)?;
+        self.want_gone(edge)?;
         Ok(true)
     }
-}
 
-/// Marks of the nodes below the sides of equalities.
-fn below(alloc: Global, table: &NodeTable, equalities: &[Lit]) -> Result<Vec<bool>, AllocError> {
-    let mut marks = vec![in alloc; false; table.len() as usize]?;
-    for equality in equalities {
-        if let Some((left, right)) = sides(table, equality.node) {
-            mark(&mut marks, left);
-            mark(&mut marks, right);
+    /// Notes that the sides of an equality are not to be equal.
+    pub fn set_unequal(&mut self, equality: NodeId, a: u32, b: u32) -> Result<(), AllocError> {
+        let clash = Clash::Unequal(equality, a, b);
+        if self.classes.root(a) == self.classes.root(b) {
+            self.clash = Some(clash);
+        }
+        self.unequal.push(a, clash)?;
+        self.unequal.push(b, clash)
+    }
+
+    /// How much there is.
+    pub fn mark(&self) -> Mark {
+        Mark {
+            edges: self.classes.now(),
+            values: self.values.len(),
+            sums: self.sums.len(),
+            products: self.products.len(),
+            active: self.active.len(),
+            unequal: self.unequal.len(),
+            work: self.work,
+            clash: self.clash,
         }
     }
-    for id in (0..table.len()).rev() {
-        if let Some(true) = marks.get(id as usize) {
-            for child in children(table, id) {
-                mark(&mut marks, *child);
+
+    /// Takes edges away until there are so many.
+    fn part_to(&mut self, count: usize) {
+        for _ in count..self.classes.now() {
+            let Some(edge) = self.classes.part() else {
+                break;
+            };
+            match self.known(edge.kept) {
+                Some(known) if known.since > self.classes.now() => self.set_known(edge.kept, None),
+                _ => {}
             }
         }
+        self.reasons.truncate(count);
     }
-    Ok(marks)
-}
 
-fn mark(marks: &mut [bool], id: u32) {
-    if let Some(mark) = marks.get_mut(id as usize) {
-        *mark = true;
+    /// Takes the last ids away until so many are past the table.
+    fn drop_values(&mut self, count: usize) {
+        for _ in count..self.values.len() {
+            if let Some(number) = self.values.pop() {
+                let _ = self.numbers.remove(&number);
+            }
+        }
+        let ids = (self.table.len() as usize).saturating_add(self.values.len());
+        self.classes.truncate(ids);
+        self.known.truncate(ids);
+    }
+
+    /// Takes all away that came after a mark. It takes no memory.
+    pub fn go_back(&mut self, mark: Mark) {
+        self.queue.clear();
+        self.part_to(mark.edges);
+        self.drop_values(mark.values);
+        self.sums.truncate(mark.sums);
+        self.products.truncate(mark.products);
+        self.unequal.truncate(mark.unequal);
+        for _ in mark.active..self.active.len() {
+            if let Some(id) = self.active.pop() {
+                self.set_active(id, false);
+            }
+        }
+        self.work = mark.work;
+        self.clash = mark.clash;
     }
 }

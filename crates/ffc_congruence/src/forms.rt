@@ -1,5 +1,5 @@
 //! Sums over ids or classes, with residues as coefficients.
-use crate::arithmetic::{inverse, negative, product, sum};
+use crate::arithmetic::{product, sum};
 use std::alloc::{AllocError, Global};
 
 /// A constant and coefficients of classes in increasing order, none of which is 0; or the residue of a product and exponents of
@@ -47,19 +47,18 @@ fn push_nonzero(found: &mut Vec<(u32, u64)>, term: Option<(u32, u64)>) -> Result
     Ok(())
 }
 
-/// What a class with this coefficient is, where a form is 0.
-pub fn solved_for(
+/// A form without a class, times a factor.
+pub fn said(
     alloc: Global,
     form: &Form,
-    class: u32,
-    coefficient: u64,
+    but: Option<u32>,
+    factor: u64,
     p: u64,
 ) -> Result<Form, AllocError> {
-    let factor = negative(inverse(coefficient, p), p);
     let mut terms = Vec::new(alloc);
-    for (other, weight) in &form.1 {
-        if *other != class {
-            terms.push((*other, product(*weight, factor, p)))?;
+    for (class, coefficient) in &form.1 {
+        if Some(*class) != but {
+            terms.push((*class, product(*coefficient, factor, p)))?;
         }
     }
     Ok((product(form.0, factor, p), terms))

@@ -7,19 +7,25 @@
 //! of an edge is a sum of multiples of differences of earlier ones (premises.rt).
 #![tactic(auto)]
 
+mod adding;
 mod arithmetic;
 mod clash;
 mod classes;
 mod closure;
 mod forms;
+mod index;
 mod looking;
 mod nodes;
 mod premises;
+mod queue;
+mod users;
 
 pub use arithmetic::{inverse, negative, product, sum};
 pub use clash::Clash;
-pub use classes::{Classes, Step, Time};
-pub use closure::{Closure, Reason, Solved};
+pub use classes::{Classes, Edge, Step, Time};
+pub use closure::{Closure, Mark, Reason};
 pub use forms::{Form, merged};
-pub use nodes::{children, is_of_order, sides};
+pub use index::{Index, Solved};
+pub use nodes::{children, sides};
 pub use premises::Premise;
+pub use queue::Queue;

@@ -1,20 +1,30 @@
 //! What nodes say of the classes of their children and of their own.
-use crate::arithmetic::{negative, product, sum};
+use crate::arithmetic::{inverse, negative, product, sum};
 use crate::classes::Time;
-use crate::closure::{Closure, Reason, Solved};
-use crate::forms::{Form, Relation, merged, solved_for};
-use crate::nodes::{children, is_of_order, sides};
-use ffc_cdcl::Lit;
+use crate::closure::{Closure, Reason};
+use crate::forms::{Form, Relation, merged, said};
+use crate::index::{Solved, hash_of};
+use crate::nodes::children;
 use ffc_term::{Node, NodeId};
 use std::alloc::AllocError;
 
 /// A sum of more classes says of the node alone what it is.
-const MOST_PIVOTS: usize = 32;
+const MOST_PIVOTS: usize = 16;
 
-/// Nodes are looked at until so many times as many children were as there are, and so many more.
-const LOOKS: usize = 64;
+/// Nodes are looked at until all of them could have been so many times, and so many terms more.
+pub const LOOKS: usize = 64;
 
-const MORE_LOOKS: usize = 65_536;
+pub const MORE_WORK: usize = 1_048_576;
+
+/// How many terms are gone through at a look at a node with so many children.
+pub fn cost(children: usize) -> usize {
+    let terms = children.saturating_add(1);
+    if terms > MOST_PIVOTS {
+        terms
+    } else {
+        terms.saturating_mul(terms)
+    }
+}
 
 /// What the factors of a product are at a time.
 #[derive(Drop)]
@@ -37,7 +47,7 @@ impl Closure<'_> {
         first: u64,
         ratio: u64,
     ) -> Result<Relation, AllocError> {
-        let p = self.order;
+        let p = self.order_of(id);
         let mut terms = Vec::new(self.alloc);
         terms.push((id, negative(1, p)))?;
         let mut weight = first;
@@ -49,7 +59,7 @@ impl Closure<'_> {
     }
 
     /// The factors of a product at a time.
-    pub fn factors_at(&self, ids: &[NodeId], time: Time) -> Result<Factors, AllocError> {
+    pub fn factors_at(&self, ids: &[NodeId], time: Time, p: u64) -> Result<Factors, AllocError> {
         let mut factors = Factors {
             zero: None,
             scale: 1,
@@ -61,7 +71,7 @@ impl Closure<'_> {
                     factors.zero = Some(*child);
                     break;
                 }
-                Some(value) => factors.scale = product(factors.scale, value, self.order),
+                Some(value) => factors.scale = product(factors.scale, value, p),
                 None => factors
                     .open
                     .push((self.classes.root_at(*child, time), *child))?,
@@ -81,8 +91,9 @@ impl Closure<'_> {
             terms: Vec::new(self.alloc),
             constant: 0,
         };
-        relation.terms.push((id, negative(1, self.order)))?;
-        let factors = self.factors_at(ids, time)?;
+        let p = self.order_of(id);
+        relation.terms.push((id, negative(1, p)))?;
+        let factors = self.factors_at(ids, time, p)?;
         if factors.zero.is_some() {
             return Ok(Some(relation));
         }
@@ -103,7 +114,7 @@ impl Closure<'_> {
         Ok(match table.node(id) {
             Node::Add(ids) => Some(self.sum_relation(id, ids.as_slice(), 1, 1)?),
             Node::Bitsum(ids) => Some(self.sum_relation(id, ids.as_slice(), 1, 2)?),
-            Node::Neg(a) => Some(self.sum_relation(id, &[*a], negative(1, self.order), 1)?),
+            Node::Neg(a) => Some(self.sum_relation(id, &[*a], negative(1, self.order_of(id)), 1)?),
             Node::Mul(ids) => self.product_relation(id, ids.as_slice(), time)?,
             _ => None,
         })
@@ -115,8 +126,8 @@ impl Closure<'_> {
         terms: &[(u32, u64)],
         constant: u64,
         time: Time,
+        p: u64,
     ) -> Result<Form, AllocError> {
-        let p = self.order;
         let mut rest = constant;
         let mut classes = Vec::new(self.alloc);
         for (id, coefficient) in terms {
@@ -126,23 +137,6 @@ impl Closure<'_> {
             }
         }
         Ok((rest, merged(self.alloc, classes, p)?))
-    }
-
-    /// Notes what an id is by a form. Says whether its class has changed.
-    fn settle(&mut self, solved: Solved, form: Form) -> Result<bool, AllocError> {
-        let alone = Reason::Sums(solved, None);
-        let Some((class, coefficient)) = form.1.first().copied() else {
-            let number = self.number(form.0)?;
-            return self.merge(solved.pivot, number, alone);
-        };
-        if form.1.len() == 1 && coefficient == 1 && form.0 == 0 {
-            return self.merge(solved.pivot, class, alone);
-        }
-        if let Some(other) = self.sums.get(&form).copied() {
-            return self.merge(solved.pivot, other.pivot, Reason::Sums(solved, Some(other)));
-        }
-        self.sums.insert(form, solved)?;
-        Ok(false)
     }
 
     /// A term of a class at a time.
@@ -155,26 +149,103 @@ impl Closure<'_> {
         None
     }
 
+    /// Whether what was noted says the same of its term as a form without a class does.
+    fn says_same(
+        &self,
+        other: Solved,
+        form: &Form,
+        but: Option<u32>,
+        factor: u64,
+    ) -> Result<bool, AllocError> {
+        let p = self.order_of(other.pivot);
+        let Some(relation) = self.relation_at(other.node, other.time)? else {
+            return Ok(false);
+        };
+        let (terms, class) = match relation.terms.as_slice() {
+            [_, terms @ ..] if other.pivot == other.node => (terms, None),
+            terms => (terms, Some(self.classes.root_at(other.pivot, other.time))),
+        };
+        let that = self.form_at(terms, relation.constant, other.time, p)?;
+        let that = said(self.alloc, &that, class, factor_of(other, p), p)?;
+        let this = said(self.alloc, form, but, factor, p)?;
+        Ok(that.0 == this.0 && that.1 == this.1)
+    }
+
+    /// Notes what an id is by a form without a class, or that another one is the same. Says whether its class has changed.
+    fn match_sum(
+        &mut self,
+        solved: Solved,
+        form: &Form,
+        but: Option<u32>,
+    ) -> Result<bool, AllocError> {
+        let p = self.order_of(solved.pivot);
+        let factor = factor_of(solved, p);
+        let hash = hash_of(form, but, factor, p);
+        for other in self.sums.found(self.alloc, hash)? {
+            if self.classes.root(other.pivot) == self.classes.root(solved.pivot) {
+                return Ok(false);
+            }
+            if self.says_same(other, form, but, factor)? {
+                let reason = Reason::Sums(solved, Some(other));
+                return self.merge(solved.pivot, other.pivot, reason);
+            }
+        }
+        self.sums.insert(self.alloc, hash, solved)?;
+        Ok(false)
+    }
+
+    /// Notes what an id is by a form of terms, without a class. Says whether its class has changed.
+    fn settle(
+        &mut self,
+        solved: Solved,
+        terms: &[(u32, u64)],
+        form: &Form,
+        but: Option<u32>,
+    ) -> Result<bool, AllocError> {
+        let p = self.order_of(solved.pivot);
+        let factor = factor_of(solved, p);
+        let alone = Reason::Sums(solved, None);
+        let (mut count, mut last) = (0usize, None);
+        for (class, coefficient) in &form.1 {
+            if Some(*class) != but {
+                count = count.saturating_add(1);
+                last = Some((*class, *coefficient));
+            }
+        }
+        match last {
+            None => {
+                let number = self.number(p, product(form.0, factor, p))?;
+                self.merge(solved.pivot, number, alone)
+            }
+            Some((class, coefficient))
+                if count == 1 && form.0 == 0 && product(coefficient, factor, p) == 1 => {
+                let other = self.term_of(terms, class, solved.time).unwrap_or(class);
+                self.merge(solved.pivot, other, alone)
+            }
+            Some(_) => self.match_sum(solved, form, but),
+        }
+    }
+
     /// Notes what each class of a relation but the node's own is by the others.
     fn solve_for_terms(&mut self, id: NodeId, relation: &Relation) -> Result<(), AllocError> {
         let time = self.classes.now();
         let own = self.classes.root(id);
-        let form = self.form_at(relation.terms.as_slice(), relation.constant, time)?;
+        let terms = relation.terms.as_slice();
+        let form = self.form_at(terms, relation.constant, time, self.order_of(id))?;
         if form.1.len() > MOST_PIVOTS {
             return Ok(());
         }
         for (class, coefficient) in &form.1 {
-            let pivot = self.term_of(relation.terms.as_slice(), *class, time);
+            let pivot = self.term_of(terms, *class, time);
             if let (Some(pivot), true) = (pivot, *class != own) {
-                let what = solved_for(self.alloc, &form, *class, *coefficient, self.order)?;
                 let solved = Solved {
                     node: id,
                     pivot,
                     coefficient: *coefficient,
                     time,
                 };
-                if self.settle(solved, what)? {
-                    return self.want(id);
+                if self.settle(solved, terms, &form, Some(*class))? {
+                    return self.queue.push(id);
                 }
             }
         }
@@ -184,37 +255,55 @@ impl Closure<'_> {
     /// Notes what a node is by its children, and what these are by it.
     fn solve(&mut self, id: NodeId, relation: &Relation) -> Result<(), AllocError> {
         let time = self.classes.now();
+        let p = self.order_of(id);
         let [_, terms @ ..] = relation.terms.as_slice() else {
             return Ok(());
         };
-        let form = self.form_at(terms, relation.constant, time)?;
+        let form = self.form_at(terms, relation.constant, time, p)?;
         let own = Solved {
             node: id,
             pivot: id,
-            coefficient: negative(1, self.order),
+            coefficient: negative(1, p),
             time,
         };
-        if self.settle(own, form)? {
-            return self.want(id);
+        if self.settle(own, terms, &form, None)? {
+            return self.queue.push(id);
         }
         self.solve_for_terms(id, relation)
+    }
+
+    /// The classes of a product's factors at a time with their exponents, and the product of those that are values.
+    fn product_form(&self, id: NodeId, time: Time) -> Result<Form, AllocError> {
+        let factors = self.factors_at(children(self.table, id), time, self.order_of(id))?;
+        let mut exponents = Vec::new(self.alloc);
+        for (class, _) in &factors.open {
+            exponents.push((*class, 1))?;
+        }
+        Ok((factors.scale, merged(self.alloc, exponents, u64::MAX)?))
     }
 
     /// Notes what a product of several factors is.
     fn match_product(&mut self, id: NodeId) -> Result<(), AllocError> {
         let time = self.classes.now();
-        let factors = self.factors_at(children(self.table, id), time)?;
-        let mut exponents = Vec::new(self.alloc);
-        for (class, _) in &factors.open {
-            exponents.push((*class, 1))?;
+        let form = self.product_form(id, time)?;
+        let hash = hash_of(&form, None, 1, u64::MAX);
+        for other in self.products.found(self.alloc, hash)? {
+            if self.classes.root(other.node) == self.classes.root(id) {
+                return Ok(());
+            }
+            let that = self.product_form(other.node, other.time)?;
+            if that.0 == form.0 && that.1 == form.1 {
+                self.merge(id, other.node, Reason::Products)?;
+                return Ok(());
+            }
         }
-        let form = (factors.scale, merged(self.alloc, exponents, u64::MAX)?);
-        if let Some(other) = self.products.get(&form).copied() {
-            self.merge(id, other, Reason::Products)?;
-            return Ok(());
-        }
-        self.products.insert(form, id)?;
-        Ok(())
+        let solved = Solved {
+            node: id,
+            pivot: id,
+            coefficient: 1,
+            time,
+        };
+        self.products.insert(self.alloc, hash, solved)
     }
 
     /// Looks at a node.
@@ -225,41 +314,25 @@ impl Closure<'_> {
         }
     }
 
-    /// Merges the sides of the equalities that hold.
-    fn merge_sides(&mut self, equalities: &[Lit]) -> Result<(), AllocError> {
-        for equality in equalities {
-            if let (Some((a, b)), true) = (sides(self.table, equality.node), equality.positive) {
-                if is_of_order(self.table, self.order, a) {
-                    self.merge(a, b, Reason::Equality(equality.node))?;
-                }
-            }
-        }
-        Ok(())
-    }
-
-    /// Merges the sides of the equalities that hold, and then all that follows.
-    pub fn close(&mut self, equalities: &[Lit]) -> Result<(), AllocError> {
-        self.merge_sides(equalities)?;
-        let mut work = MORE_LOOKS.saturating_add(self.all_children().saturating_mul(LOOKS));
+    /// Looks at the nodes that wait, until none does or something clashes.
+    pub fn close(&mut self) -> Result<(), AllocError> {
         for _ in 0..u64::MAX {
-            if work == 0 || self.clash.is_some() {
+            if self.work == 0 || self.clash.is_some() {
                 break;
             }
-            let Some(id) = self.next() else {
+            let Some(id) = self.queue.pop() else {
                 break;
             };
-            work = work.saturating_sub(children(self.table, id).len().saturating_add(1));
+            let work = cost(children(self.table, id).len());
+            self.work = self.work.saturating_sub(work);
             self.look_at(id)?;
         }
+        self.queue.clear();
         Ok(())
     }
+}
 
-    /// How many children the nodes have that wait.
-    fn all_children(&self) -> usize {
-        let mut count = 0usize;
-        for id in self.waiting() {
-            count = count.saturating_add(children(self.table, *id).len());
-        }
-        count
-    }
+/// What a form is multiplied by to say what the term is.
+fn factor_of(solved: Solved, p: u64) -> u64 {
+    negative(inverse(solved.coefficient, p), p)
 }

@@ -1,5 +1,5 @@
 //! Nodes of a field, and what stands below them.
-use ffc_term::{Node, NodeId, NodeTable, Sort};
+use ffc_term::{Node, NodeId, NodeTable};
 
 /// The children of a sum, a product or a negation.
 pub fn children(table: &NodeTable, id: NodeId) -> &[NodeId] {
@@ -22,9 +22,4 @@ pub fn sides(table: &NodeTable, id: NodeId) -> Option<(NodeId, NodeId)> {
         Node::Eq(a, b) => Some((*a, *b)),
         _ => None,
     }
-}
-
-/// Whether a node is of the field of an order.
-pub fn is_of_order(table: &NodeTable, order: u64, id: NodeId) -> bool {
-    id < table.len() && matches!(table.sort_of(id), Sort::Field(own) if own == order)
 }

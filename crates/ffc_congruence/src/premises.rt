@@ -1,18 +1,26 @@
 //! What the difference of the ends of an edge is: a sum of multiples of earlier differences of equal ids.
 use crate::arithmetic::{inverse, negative, product};
 use crate::classes::Time;
-use crate::closure::{Closure, Reason, Solved};
+use crate::closure::{Closure, Reason};
 use crate::forms::merged;
+use crate::index::Solved;
 use crate::looking::Factors;
 use crate::nodes::children;
 use ffc_term::{Node, NodeId};
 use std::alloc::AllocError;
 
-/// The weight times the product of the other ids times the difference of two equal ones.
+/// Products of at least so many equal factors that are sums, or of so many equal factors, are taken as powers. Written as one
+/// multiple of the difference of the factors they are long.
+const MANY_SUMS: usize = 4;
+
+const MANY_FACTORS: usize = 16;
+
+/// The weight times the product of the other ids times the difference of a power of two equal ones.
 #[derive(Drop)]
 pub struct Premise {
     pub from: u32,
     pub to: u32,
+    pub power: u32,
     pub weight: u64,
     pub others: Vec<u32>,
 }
@@ -47,12 +55,33 @@ impl Closure<'_> {
             let counts = !is_over && (!has_zero || value == Some(0));
             is_over = is_over || value == Some(0);
             let number = match value {
-                Some(value) if counts => self.id_of(value),
+                Some(value) if counts => self.id_of(self.order_of(*id), value),
                 _ => None,
             };
             replaced.push(number.unwrap_or(*id))?;
         }
         Ok(replaced)
+    }
+
+    /// How many factors from a place on are replaced together: as many as are equal there, where they make a long power.
+    fn count_together(&self, pairs: &[(u32, u32)], place: usize) -> usize {
+        let Some((old, new)) = pairs.get(place).copied() else {
+            return 1;
+        };
+        let (_, rest) = pairs.split_at(place.min(pairs.len()));
+        let mut count = 0usize;
+        for pair in rest {
+            if pair.0 != old || pair.1 != new {
+                break;
+            }
+            count = count.saturating_add(1);
+        }
+        let are_sums = self.length(old) > 1 && self.length(new) > 1;
+        if count >= MANY_FACTORS || are_sums && count >= MANY_SUMS {
+            count
+        } else {
+            1
+        }
     }
 
     /// Appends what a product of some ids is, less the product of others in their places, times a weight and further factors.
@@ -64,23 +93,52 @@ impl Closure<'_> {
         weight: u64,
         premises: &mut Vec<Premise>,
     ) -> Result<(), AllocError> {
-        for (place, (old, new)) in from.iter().zip(to).enumerate() {
+        let mut pairs = Vec::new(self.alloc);
+        for (old, new) in from.iter().zip(to) {
+            pairs.push((*old, *new))?;
+        }
+        pairs.sort_unstable();
+        let mut place = 0usize;
+        for _ in 0..pairs.len() {
+            let Some((old, new)) = pairs.get(place).copied() else {
+                break;
+            };
+            let count = self.count_together(pairs.as_slice(), place);
+            let end = place.saturating_add(count);
             if old != new {
-                let mut others = Vec::new(self.alloc);
-                let (before, _) = to.split_at(place.min(to.len()));
-                let (_, after) = from.split_at(place.saturating_add(1).min(from.len()));
-                others.extend_from_slice(before)?;
-                others.extend_from_slice(after)?;
-                others.extend_from_slice(rest)?;
+                let others = self.factors_beside(pairs.as_slice(), place, end, rest)?;
                 premises.push(Premise {
-                    from: *old,
-                    to: *new,
+                    from: old,
+                    to: new,
+                    power: u32::try_from(count).unwrap_or(1),
                     weight,
                     others,
                 })?;
             }
+            place = end;
         }
         Ok(())
+    }
+
+    /// The new factors before a place, the old ones from another place on, and further factors.
+    fn factors_beside(
+        &self,
+        pairs: &[(u32, u32)],
+        place: usize,
+        end: usize,
+        rest: &[u32],
+    ) -> Result<Vec<u32>, AllocError> {
+        let mut others = Vec::new(self.alloc);
+        let (before, _) = pairs.split_at(place.min(pairs.len()));
+        let (_, after) = pairs.split_at(end.min(pairs.len()));
+        for (_, new) in before {
+            others.push(*new)?;
+        }
+        for (old, _) in after {
+            others.push(*old)?;
+        }
+        others.extend_from_slice(rest)?;
+        Ok(others)
     }
 
     /// Appends what a product of several factors is, less another one of equal factors, where an edge says so.
@@ -91,11 +149,12 @@ impl Closure<'_> {
         time: Time,
         premises: &mut Vec<Premise>,
     ) -> Result<(), AllocError> {
+        let p = self.order_of(one);
         let (ids, others) = (children(self.table, one), children(self.table, other));
         let values = self.with_values(ids, time)?;
         let other_values = self.with_values(others, time)?;
-        let open = ordered(self.alloc, self.factors_at(ids, time)?)?;
-        let other_open = ordered(self.alloc, self.factors_at(others, time)?)?;
+        let open = ordered(self.alloc, self.factors_at(ids, time, p)?)?;
+        let other_open = ordered(self.alloc, self.factors_at(others, time, p)?)?;
         let mut constants = Vec::new(self.alloc);
         for id in &values {
             if self.value_at(*id, time).is_some() {
@@ -110,7 +169,7 @@ impl Closure<'_> {
             1,
             premises,
         )?;
-        let minus = negative(1, self.order);
+        let minus = negative(1, p);
         self.append_replaced(others, other_values.as_slice(), &[], minus, premises)
     }
 
@@ -123,7 +182,7 @@ impl Closure<'_> {
         terms: &mut Vec<(u32, u64)>,
         premises: &mut Vec<Premise>,
     ) -> Result<(), AllocError> {
-        let p = self.order;
+        let p = self.order_of(solved.pivot);
         let factor = product(factor, inverse(solved.coefficient, p), p);
         if let Some(relation) = self.relation_at(solved.node, solved.time)? {
             for (id, coefficient) in &relation.terms {
@@ -148,7 +207,7 @@ impl Closure<'_> {
             None => true,
         };
         let number = match self.value_at(id, time) {
-            Some(value) if !cancels => self.id_of(value),
+            Some(value) if !cancels => self.id_of(self.order_of(id), value),
             _ => None,
         };
         number.unwrap_or(id)
@@ -159,6 +218,7 @@ impl Closure<'_> {
         &self,
         terms: &[(u32, u64)],
         time: Time,
+        p: u64,
     ) -> Result<(Vec<(u32, u64)>, Vec<(u32, u64)>), AllocError> {
         let mut places = Vec::new(self.alloc);
         let mut totals = Vec::new(self.alloc);
@@ -170,7 +230,7 @@ impl Closure<'_> {
             place = place.saturating_add(1);
         }
         places.sort_unstable();
-        Ok((places, merged(self.alloc, totals, self.order)?))
+        Ok((places, merged(self.alloc, totals, p)?))
     }
 
     /// Appends the differences of terms to what each is compared with, where the terms of each class cancel.
@@ -178,9 +238,10 @@ impl Closure<'_> {
         &self,
         terms: &[(u32, u64)],
         time: Time,
+        p: u64,
         premises: &mut Vec<Premise>,
     ) -> Result<(), AllocError> {
-        let (places, totals) = self.places_by_class(terms, time)?;
+        let (places, totals) = self.places_by_class(terms, time, p)?;
         let mut current: Option<(u32, u32)> = None;
         for (root, place) in &places {
             let Some((id, coefficient)) = terms.get(*place as usize).copied() else {
@@ -195,7 +256,8 @@ impl Closure<'_> {
                 premises.push(Premise {
                     from: id,
                     to,
-                    weight: negative(coefficient, self.order),
+                    power: 1,
+                    weight: negative(coefficient, p),
                     others: Vec::new(self.alloc),
                 })?;
             }
@@ -211,7 +273,7 @@ impl Closure<'_> {
         };
         match self.reason(edge) {
             Some(Reason::Sums(one, other)) => {
-                let p = self.order;
+                let p = self.order_of(first);
                 let mut terms = Vec::new(self.alloc);
                 terms.push((first, negative(1, p)))?;
                 terms.push((second, 1))?;
@@ -220,7 +282,7 @@ impl Closure<'_> {
                     self.append_solved(other, negative(1, p), &mut terms, &mut premises)?;
                 }
                 let terms = merged(self.alloc, terms, p)?;
-                self.append_by_classes(terms.as_slice(), edge, &mut premises)?;
+                self.append_by_classes(terms.as_slice(), edge, p, &mut premises)?;
             }
             Some(Reason::Products) => self.append_products(first, second, edge, &mut premises)?,
             _ => {}

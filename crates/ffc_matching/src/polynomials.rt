@@ -1,222 +1,238 @@
 //! Polynomials with residues as coefficients, and those of the nodes that are factors.
-use ffc_congruence::{Closure, children, negative, product, sum};
+use crate::monomials::{Monomials, ONE};
+use ffc_congruence::{Closure, children, merged, negative, product};
 use ffc_term::{Node, NodeId};
 use std::alloc::{AllocError, Global};
 use std::collections::BTreeMap;
 
-/// Longer polynomials are not made.
+/// Longer polynomials are not made, nor products of so many times as many pairs of terms.
 const MOST_TERMS: usize = 4_096;
 
-/// Variables in increasing order with their exponents.
-pub type Monomial = Vec<(u32, u32)>;
+const PAIRS: usize = 16;
 
+/// Monomials in increasing order of their numbers, with coefficients other than 0.
 #[derive(Drop)]
 pub struct Poly {
-    pub terms: BTreeMap<Monomial, u64>,
-}
-
-/// The product of two monomials.
-fn times(alloc: Global, a: &[(u32, u32)], b: &[(u32, u32)]) -> Result<Monomial, AllocError> {
-    let mut all = Vec::new(alloc);
-    all.extend_from_slice(a)?;
-    all.extend_from_slice(b)?;
-    all.sort_unstable();
-    let mut powers: Monomial = Vec::new(alloc);
-    for (variable, exponent) in &all {
-        let before = match powers.last() {
-            Some(last) if last.0 == *variable => last.1,
-            _ => 0,
-        };
-        if before > 0 {
-            let _ = powers.pop();
-        }
-        powers.push((*variable, before.saturating_add(*exponent)))?;
-    }
-    Ok(powers)
+    pub terms: Vec<(u32, u64)>,
 }
 
 impl Poly {
     pub fn zero(alloc: Global) -> Poly {
         Poly {
-            terms: BTreeMap::new(alloc),
+            terms: Vec::new(alloc),
         }
+    }
+
+    /// A monomial times a constant.
+    pub fn term(alloc: Global, monomial: u32, value: u64) -> Result<Poly, AllocError> {
+        let mut poly = Poly::zero(alloc);
+        if value != 0 {
+            poly.terms.push((monomial, value))?;
+        }
+        Ok(poly)
     }
 
     pub fn constant(alloc: Global, value: u64) -> Result<Poly, AllocError> {
-        let mut poly = Poly::zero(alloc);
-        poly.terms.insert(Vec::new(alloc), value)?;
-        Ok(poly)
+        Poly::term(alloc, ONE, value)
     }
 
-    /// A variable times a constant.
-    pub fn variable(alloc: Global, variable: u32, value: u64) -> Result<Poly, AllocError> {
-        let mut poly = Poly::zero(alloc);
-        poly.terms.insert(vec![in alloc; (variable, 1)]?, value)?;
-        Ok(poly)
-    }
-
-    /// What it is, where it is one constant term.
-    pub fn as_constant(&self) -> Option<u64> {
-        let (monomial, value) = self.terms.first_key_value()?;
-        if self.terms.len() == 1 && monomial.is_empty() {
-            Some(*value)
-        } else {
-            None
-        }
-    }
-
-    fn add_term(&mut self, monomial: Monomial, value: u64, p: u64) -> Result<(), AllocError> {
-        match self.terms.get_mut(&monomial) {
-            Some(coefficient) => *coefficient = sum(*coefficient, value, p),
-            None => {
-                self.terms.insert(monomial, value)?;
+    /// Multiplies it by a constant.
+    fn scale(&mut self, factor: u64, p: u64) {
+        if factor == 0 {
+            self.terms.clear();
+        } else if factor != 1 {
+            for term in self.terms.as_mut_slice() {
+                term.1 = product(term.1, factor, p);
             }
         }
-        Ok(())
     }
 
     /// Adds another one times a constant.
-    pub fn add_scaled(&mut self, other: &Poly, factor: u64, p: u64) -> Result<(), AllocError> {
-        for (monomial, value) in &other.terms {
-            self.add_term(monomial.clone()?, product(*value, factor, p), p)?;
-        }
-        Ok(())
-    }
-
-    /// Adds another one times a term.
-    fn add_multiple(
+    pub fn add_scaled(
         &mut self,
         alloc: Global,
         other: &Poly,
-        by: &[(u32, u32)],
         factor: u64,
         p: u64,
     ) -> Result<(), AllocError> {
+        let mut all = std::mem::replace(&mut self.terms, Vec::new(alloc));
         for (monomial, value) in &other.terms {
-            let monomial = times(alloc, monomial.as_slice(), by)?;
-            self.add_term(monomial, product(*value, factor, p), p)?;
+            all.push((*monomial, product(*value, factor, p)))?;
         }
+        self.terms = merged(alloc, all, p)?;
         Ok(())
     }
 
     /// The product of two; none where it is too long.
-    pub fn multiplied(
+    fn multiplied(
         &self,
-        alloc: Global,
+        monomials: &mut Monomials,
         other: &Poly,
         p: u64,
     ) -> Result<Option<Poly>, AllocError> {
-        let mut made = Poly::zero(alloc);
-        for (monomial, value) in &other.terms {
-            made.add_multiple(alloc, self, monomial.as_slice(), *value, p)?;
-            if made.terms.len() > MOST_TERMS {
-                return Ok(None);
+        let pairs = self.terms.len().saturating_mul(other.terms.len());
+        if pairs > MOST_TERMS.saturating_mul(PAIRS) {
+            return Ok(None);
+        }
+        let alloc = monomials.alloc;
+        let mut all = Vec::new(alloc);
+        for (monomial, value) in &self.terms {
+            for (second, factor) in &other.terms {
+                let monomial = monomials.times(*monomial, *second)?;
+                all.push((monomial, product(*value, *factor, p)))?;
             }
         }
-        Ok(Some(made))
+        let terms = merged(alloc, all, p)?;
+        Ok((terms.len() <= MOST_TERMS).then_some(Poly { terms }))
     }
 }
 
-/// The polynomials of some ids.
+/// The polynomials of nodes that were asked for, and of all below them; none of one that is too long.
 #[derive(Drop)]
 pub struct Polys {
     alloc: Global,
-    order: u64,
-    made: BTreeMap<u32, Poly>,
+    pub monomials: Monomials,
+    made: BTreeMap<u32, Option<Poly>>,
 }
 
 impl Polys {
-    /// Those of these ids and of all below them, as far as they are not too long.
-    pub fn of(closure: &Closure, wanted: &[u32]) -> Result<Polys, AllocError> {
-        let mut polys = Polys {
-            alloc: closure.alloc,
-            order: closure.order,
-            made: BTreeMap::new(closure.alloc),
-        };
-        let marks = below(closure, wanted)?;
-        let mut id = 0u32;
-        for mark in &marks {
-            if *mark {
-                if let Some(poly) = polys.make(closure, id)? {
-                    polys.made.insert(id, poly)?;
+    /// No polynomials.
+    pub fn new(alloc: Global) -> Result<Polys, AllocError> {
+        Ok(Polys {
+            alloc,
+            monomials: Monomials::new(alloc)?,
+            made: BTreeMap::new(alloc),
+        })
+    }
+
+    /// Makes the polynomial of an id, and those below it.
+    fn want(&mut self, closure: &Closure, id: u32) -> Result<(), AllocError> {
+        let mut waiting = Vec::new(self.alloc);
+        waiting.push(id)?;
+        for _ in 0..u64::MAX {
+            let Some(next) = waiting.last().copied() else {
+                break;
+            };
+            let count = waiting.len();
+            if !self.made.contains_key(&next) {
+                for child in children(closure.table, next) {
+                    if !self.made.contains_key(child) {
+                        waiting.push(*child)?;
+                    }
                 }
             }
-            id = id.saturating_add(1);
+            if waiting.len() == count {
+                let _ = waiting.pop();
+                self.make(closure, next)?;
+            }
         }
-        Ok(polys)
+        Ok(())
     }
 
-    /// The polynomial of an id.
-    pub fn get(&self, id: u32) -> Option<&Poly> {
-        self.made.get(&id)
+    /// Makes the polynomial of an id whose children have theirs, unless it was.
+    fn make(&mut self, closure: &Closure, id: u32) -> Result<(), AllocError> {
+        if !self.made.contains_key(&id) {
+            let poly = self.poly(closure, id)?;
+            self.made.insert(id, poly)?;
+        }
+        Ok(())
     }
 
-    fn make(&self, closure: &Closure, id: u32) -> Result<Option<Poly>, AllocError> {
+    fn poly(&mut self, closure: &Closure, id: u32) -> Result<Option<Poly>, AllocError> {
         if let Some(value) = closure.value_of(id) {
             return Ok(Some(Poly::constant(self.alloc, value)?));
         }
         if id >= closure.table.len() {
             return Ok(None);
         }
+        let p = closure.order_of(id);
         match closure.table.node(id) {
-            Node::Add(ids) => self.sum(ids.as_slice(), 1, 1),
-            Node::Bitsum(ids) => self.sum(ids.as_slice(), 1, 2),
-            Node::Neg(a) => self.sum(&[*a], negative(1, self.order), 1),
-            Node::Mul(ids) => self.product(ids.as_slice()),
-            _ => Ok(Some(Poly::variable(self.alloc, id, 1)?)),
+            Node::Add(ids) => self.sum(ids.as_slice(), 1, 1, p),
+            Node::Bitsum(ids) => self.sum(ids.as_slice(), 1, 2, p),
+            Node::Neg(a) => self.sum(&[*a], negative(1, p), 1, p),
+            Node::Mul(ids) => {
+                let one = Poly::constant(self.alloc, 1)?;
+                self.times(one, ids.as_slice(), p)
+            }
+            _ => {
+                let variable = self.monomials.variable(id)?;
+                Ok(Some(Poly::term(self.alloc, variable, 1)?))
+            }
         }
     }
 
     /// The sum of ids, of which the first has this weight and each further one so many times the one before.
-    fn sum(&self, ids: &[NodeId], first: u64, ratio: u64) -> Result<Option<Poly>, AllocError> {
-        let mut made = Poly::zero(self.alloc);
+    fn sum(
+        &self,
+        ids: &[NodeId],
+        first: u64,
+        ratio: u64,
+        p: u64,
+    ) -> Result<Option<Poly>, AllocError> {
+        let mut all = Vec::new(self.alloc);
         let mut weight = first;
         for id in ids {
-            let Some(poly) = self.get(*id) else {
+            let Some(Some(poly)) = self.made.get(id) else {
                 return Ok(None);
             };
-            made.add_scaled(poly, weight, self.order)?;
-            if made.terms.len() > MOST_TERMS {
+            for (monomial, value) in &poly.terms {
+                all.push((*monomial, product(*value, weight, p)))?;
+            }
+            if all.len() > MOST_TERMS {
                 return Ok(None);
             }
-            weight = product(weight, ratio, self.order);
+            weight = product(weight, ratio, p);
         }
-        Ok(Some(made))
+        let terms = merged(self.alloc, all, p)?;
+        Ok(Some(Poly { terms }))
     }
 
-    /// The product of ids.
-    pub fn product(&self, ids: &[u32]) -> Result<Option<Poly>, AllocError> {
-        let mut made = Poly::constant(self.alloc, 1)?;
+    /// A polynomial times ids that were made.
+    fn times(&mut self, first: Poly, ids: &[u32], p: u64) -> Result<Option<Poly>, AllocError> {
+        let mut made = first;
         for id in ids {
-            let Some(poly) = self.get(*id) else {
+            let Some(Some(poly)) = self.made.get(id) else {
                 return Ok(None);
             };
-            match made.multiplied(self.alloc, poly, self.order)? {
+            match made.multiplied(&mut self.monomials, poly, p)? {
                 Some(longer) => made = longer,
                 None => return Ok(None),
             }
         }
         Ok(Some(made))
     }
-}
 
-/// Marks of ids and of all below them.
-fn below(closure: &Closure, wanted: &[u32]) -> Result<Vec<bool>, AllocError> {
-    let mut marks = vec![in closure.alloc; false; closure.count()]?;
-    mark_all(&mut marks, wanted);
-    for id in (0..closure.table.len()).rev() {
-        if let Some(true) = marks.get(id as usize) {
-            mark_all(&mut marks, children(closure.table, id));
+    /// A constant times the product of ids of one field.
+    pub fn product(
+        &mut self,
+        closure: &Closure,
+        ids: &[u32],
+        weight: u64,
+        p: u64,
+    ) -> Result<Option<Poly>, AllocError> {
+        let mut made = Poly::constant(self.alloc, weight)?;
+        let mut others = Vec::new(self.alloc);
+        for id in ids {
+            match closure.value_of(*id) {
+                Some(value) => made.scale(value, p),
+                None => {
+                    self.want(closure, *id)?;
+                    others.push(*id)?;
+                }
+            }
         }
+        self.times(made, others.as_slice(), p)
     }
-    Ok(marks)
-}
 
-/// Marks ids.
-pub fn mark_all(marks: &mut [bool], ids: &[u32]) {
-    for id in ids {
-        if let Some(mark) = marks.get_mut(*id as usize) {
-            *mark = true;
-        }
+    /// The power of an id of a field.
+    pub fn power(
+        &mut self,
+        closure: &Closure,
+        id: u32,
+        exponent: u32,
+        p: u64,
+    ) -> Result<Option<Poly>, AllocError> {
+        let ids = vec![in self.alloc; id; exponent as usize]?;
+        self.product(closure, ids.as_slice(), 1, p)
     }
 }

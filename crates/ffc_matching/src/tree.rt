@@ -1,125 +1,32 @@
-//! The tree of a clash: a line for each edge that it rests on, which is the difference of the edge's ends.
-use crate::polynomials::{Poly, Polys, mark_all};
-use crate::writing::{Lines, Multiples};
+//! The tree of a clash: the differences that it rests on, as sums of multiples of lines.
+use crate::grounds::{Grounds, Needed};
+use crate::items::Item;
+use crate::polynomials::{Poly, Polys};
+use crate::powers::{Difference, difference_in, halves, ordered};
+use crate::sums::Sum;
+use crate::writing::Lines;
 use ffc_cdcl::Lit;
 use ffc_cert::CertLine;
-use ffc_congruence::{Clash, Closure, Premise, Reason, merged, negative};
+use ffc_congruence::{Clash, Closure, Reason, negative};
 use ffc_term::NodeId;
 use std::alloc::{AllocError, Global};
 use std::collections::BTreeMap;
-
-/// Ways of so many edges in all are gone, and no more.
-const MOST_STEPS: usize = 4_000_000;
-
-/// An edge that a clash rests on, and what its difference is, where it is no equality that was given.
-#[derive(Drop)]
-struct Needed {
-    edge: usize,
-    premises: Vec<Premise>,
-}
-
-/// The edges that a clash rests on, the last one first.
-#[derive(Drop)]
-struct Grounds<'a> {
-    closure: &'a Closure<'a>,
-    marks: Vec<bool>,
-    steps: usize,
-    needed: Vec<Needed>,
-}
-
-impl Grounds<'_> {
-    /// Marks the edges on the way between two ids.
-    fn mark_way(&mut self, from: u32, to: u32) -> Result<(), AllocError> {
-        let closure = self.closure;
-        for step in closure.classes.way(closure.alloc, from, to)? {
-            self.steps = self.steps.saturating_add(1);
-            if let Some(mark) = self.marks.get_mut(step.edge) {
-                *mark = true;
-            }
-        }
-        Ok(())
-    }
-
-    /// Takes an edge, and marks those that it rests on.
-    fn take(&mut self, edge: usize) -> Result<(), AllocError> {
-        let premises = self.closure.premises(edge)?;
-        for premise in &premises {
-            self.mark_way(premise.from, premise.to)?;
-        }
-        self.needed.push(Needed { edge, premises })?;
-        Ok(())
-    }
-
-    /// Takes all edges that the way between two ids rests on. Says whether the ways are short enough.
-    fn take_all(&mut self, from: u32, to: u32) -> Result<bool, AllocError> {
-        self.mark_way(from, to)?;
-        for edge in (0..self.marks.len()).rev() {
-            if self.steps > MOST_STEPS {
-                return Ok(false);
-            }
-            if let Some(true) = self.marks.get(edge) {
-                self.take(edge)?;
-            }
-        }
-        Ok(true)
-    }
-
-    /// The ids whose polynomials are factors.
-    fn factors(&self) -> Result<Vec<u32>, AllocError> {
-        let mut marks = vec![in self.closure.alloc; false; self.closure.count()]?;
-        for needed in &self.needed {
-            for premise in &needed.premises {
-                mark_all(&mut marks, premise.others.as_slice());
-            }
-        }
-        let mut ids = Vec::new(self.closure.alloc);
-        let mut id = 0u32;
-        for mark in &marks {
-            if *mark {
-                ids.push(id)?;
-            }
-            id = id.saturating_add(1);
-        }
-        Ok(ids)
-    }
-
-    /// The equalities among the edges, in the order of their nodes, and then the one that does not hold.
-    fn equalities(&self, clash: Clash) -> Result<Vec<Lit>, AllocError> {
-        let mut nodes = Vec::new(self.closure.alloc);
-        for needed in &self.needed {
-            if let Some(Reason::Equality(node)) = self.closure.reason(needed.edge) {
-                nodes.push(node)?;
-            }
-        }
-        nodes.sort_unstable();
-        let mut used = Vec::new(self.closure.alloc);
-        for node in &nodes {
-            used.push(Lit {
-                node: *node,
-                positive: true,
-            })?;
-        }
-        if let Clash::Unequal(node, ..) = clash {
-            used.push(Lit {
-                node,
-                positive: false,
-            })?;
-        }
-        Ok(used)
-    }
-}
 
 /// The tree that is written.
 #[derive(Drop)]
 struct Tree<'a> {
     closure: &'a Closure<'a>,
     alloc: Global,
+    /// The order of the field.
+    order: u64,
     polys: Polys,
     lines: Lines,
-    /// Of each edge the line whose multiple its difference is, unless that is 0.
-    numbers: Vec<Option<(u32, u64)>>,
-    /// Differences of other ids that are lines of their own.
-    pairs: BTreeMap<(u32, u32), u32>,
+    /// How often each difference is used.
+    uses: BTreeMap<Difference, u32>,
+    /// The differences of the ends of edges.
+    edges: BTreeMap<usize, Item>,
+    /// Those of other ids, and of powers.
+    differences: BTreeMap<Difference, Item>,
 }
 
 impl Tree<'_> {
@@ -127,140 +34,239 @@ impl Tree<'_> {
         let Tree {
             closure: _,
             alloc: _,
+            order: _,
             polys: _,
             lines,
-            numbers: _,
-            pairs: _,
+            uses: _,
+            edges: _,
+            differences: _,
         } = self;
         lines.closed()
     }
 
-    /// What the difference of two equal ids is: lines with coefficients.
-    fn difference(&self, from: u32, to: u32) -> Result<Vec<(u32, u64)>, AllocError> {
-        let p = self.closure.order;
-        let mut lines = Vec::new(self.alloc);
-        for step in self.closure.classes.way(self.alloc, from, to)? {
-            if let Some(Some((line, coefficient))) = self.numbers.get(step.edge) {
-                let signed = if step.forward {
-                    *coefficient
-                } else {
-                    negative(*coefficient, p)
-                };
-                lines.push((*line, signed))?;
-            }
-        }
-        merged(self.alloc, lines, p)
-    }
-
-    /// How many terms the difference of two ids has at most.
-    fn length(&self, from: u32, to: u32) -> u64 {
+    /// How many terms a difference has at most.
+    fn length(&self, difference: Difference) -> u64 {
+        let (from, to, power) = difference;
         self.closure
             .length(from)
-            .saturating_add(self.closure.length(to))
+            .saturating_pow(power)
+            .saturating_add(self.closure.length(to).saturating_pow(power))
     }
 
-    /// Writes the difference of two equal ids, a sum of lines, as a line of its own, unless it was.
-    fn line_of(&mut self, from: u32, to: u32, lines: &[(u32, u64)]) -> Result<u32, AllocError> {
-        if let Some(line) = self.pairs.get(&(from, to)) {
-            return Ok(*line);
+    /// Keeps a difference as a sum.
+    fn keep(&mut self, difference: Difference, sum: Sum) -> Result<(), AllocError> {
+        let uses = self.uses.get(&difference).copied().unwrap_or(1);
+        let sum = sum.settled(self.alloc, self.order)?;
+        let item = Item::of(sum, self.length(difference), uses);
+        self.differences.insert(difference, item)?;
+        Ok(())
+    }
+
+    /// Sums up the difference of two ids along the edges between them.
+    fn prepare_way(&mut self, from: u32, to: u32) -> Result<(), AllocError> {
+        let mut sum = Sum::zero(self.alloc);
+        for step in self.closure.classes.way(self.alloc, from, to)? {
+            let sign = if step.forward {
+                1
+            } else {
+                negative(1, self.order)
+            };
+            let factor = Poly::constant(self.alloc, sign)?;
+            if let Some(item) = self.edges.get_mut(&step.edge) {
+                item.add_to(
+                    &mut sum,
+                    &factor,
+                    &mut self.lines,
+                    &mut self.polys.monomials,
+                    self.order,
+                )?;
+            }
         }
-        let mut sum = BTreeMap::new(self.alloc);
-        let one = Poly::constant(self.alloc, 1)?;
-        add_lines(self.alloc, &mut sum, lines, &one, self.closure.order)?;
-        let length = self.length(from, to);
-        let line = self.lines.write(&sum, length)?;
-        self.pairs.insert((from, to), line)?;
-        Ok(line)
+        self.keep((from, to, 1), sum)
     }
 
-    /// Adds a difference of two equal ids times a factor to multiples.
+    /// Adds a difference that is at hand times a power of an id to a sum. Says whether it could.
+    fn add_times_power(
+        &mut self,
+        sum: &mut Sum,
+        difference: Difference,
+        id: u32,
+        exponent: u32,
+    ) -> Result<bool, AllocError> {
+        let Some(factor) = self.polys.power(self.closure, id, exponent, self.order)? else {
+            return Ok(false);
+        };
+        if let Some(item) = self.differences.get_mut(&difference) {
+            item.add_to(
+                sum,
+                &factor,
+                &mut self.lines,
+                &mut self.polys.monomials,
+                self.order,
+            )?;
+        }
+        Ok(true)
+    }
+
+    /// Sums up a difference of powers, where those of its halves are at hand. Says whether it could.
+    fn prepare_power(&mut self, from: u32, to: u32, power: u32) -> Result<bool, AllocError> {
+        let (less, more) = halves(power);
+        let mut sum = Sum::zero(self.alloc);
+        if less == more {
+            // Both multiples are of one difference, which is used once.
+            let first = self.polys.power(self.closure, from, less, self.order)?;
+            let second = self.polys.power(self.closure, to, less, self.order)?;
+            let (Some(mut factor), Some(second)) = (first, second) else {
+                return Ok(false);
+            };
+            factor.add_scaled(self.alloc, &second, 1, self.order)?;
+            if let Some(item) = self.differences.get_mut(&(from, to, less)) {
+                item.add_to(
+                    &mut sum,
+                    &factor,
+                    &mut self.lines,
+                    &mut self.polys.monomials,
+                    self.order,
+                )?;
+            }
+        } else if !self.add_times_power(&mut sum, (from, to, more), from, less)?
+            || !self.add_times_power(&mut sum, (from, to, less), to, more)?
+        {
+            return Ok(false);
+        }
+        self.keep((from, to, power), sum)?;
+        Ok(true)
+    }
+
+    /// The exponents of the differences that a difference of powers rests on, from the least on, and its own.
+    fn exponents(&self, power: u32) -> Result<BTreeMap<u32, ()>, AllocError> {
+        let mut found = BTreeMap::new(self.alloc);
+        let mut waiting = Vec::new(self.alloc);
+        waiting.push(power)?;
+        for _ in 0..u64::MAX {
+            let Some(power) = waiting.pop() else {
+                break;
+            };
+            if power > 1 && !found.contains_key(&power) {
+                let (less, more) = halves(power);
+                found.insert(power, ())?;
+                waiting.push(less)?;
+                waiting.push(more)?;
+            }
+        }
+        Ok(found)
+    }
+
+    /// Sums up a difference, unless it was. Says whether it could.
+    fn prepare(&mut self, difference: Difference) -> Result<bool, AllocError> {
+        let (from, to, power) = difference;
+        if !self.differences.contains_key(&(from, to, 1)) {
+            self.prepare_way(from, to)?;
+        }
+        for (exponent, _) in &self.exponents(power)? {
+            let is_there = self.differences.contains_key(&(from, to, *exponent));
+            if !is_there && !self.prepare_power(from, to, *exponent)? {
+                return Ok(false);
+            }
+        }
+        Ok(true)
+    }
+
+    /// Adds a difference times a factor to a sum. Says whether it could.
     fn add(
         &mut self,
-        multiples: &mut Multiples,
-        from: u32,
-        to: u32,
+        sum: &mut Sum,
+        difference: Difference,
         factor: &Poly,
-    ) -> Result<(), AllocError> {
-        let mut lines = self.difference(from, to)?;
-        if lines.len() > 1 {
-            let line = self.line_of(from, to, lines.as_slice())?;
-            lines.clear();
-            lines.push((line, 1))?;
+    ) -> Result<bool, AllocError> {
+        if !self.prepare(difference)? {
+            return Ok(false);
         }
-        add_lines(
-            self.alloc,
-            multiples,
-            lines.as_slice(),
-            factor,
-            self.closure.order,
-        )
+        if let Some(item) = self.differences.get_mut(&difference) {
+            item.add_to(
+                sum,
+                factor,
+                &mut self.lines,
+                &mut self.polys.monomials,
+                self.order,
+            )?;
+        }
+        Ok(true)
     }
 
-    /// The factors of the differences that a difference is a sum of; none where one is too long.
-    fn factors(
-        &self,
-        premises: &[Premise],
-    ) -> Result<Option<BTreeMap<(u32, u32), Poly>>, AllocError> {
-        let mut factors = BTreeMap::new(self.alloc);
-        for premise in premises {
-            let Some(poly) = self.polys.product(premise.others.as_slice())? else {
+    /// The differences that a difference is a sum of multiples of, with their factors; none where one is too long.
+    fn factors(&mut self, needed: &Needed) -> Result<Option<Vec<(Difference, Poly)>>, AllocError> {
+        let p = self.order;
+        let mut places = Vec::new(self.alloc);
+        for (place, premise) in needed.premises.iter().enumerate() {
+            let (difference, is_negative) = difference_in(premise);
+            places.push((difference, place, is_negative))?;
+        }
+        places.sort_unstable();
+        let mut factors: Vec<(Difference, Poly)> = Vec::new(self.alloc);
+        for (difference, place, is_negative) in &places {
+            let Some(premise) = needed.premises.get(*place) else {
+                continue;
+            };
+            let weight = if *is_negative {
+                negative(premise.weight, p)
+            } else {
+                premise.weight
+            };
+            let others = premise.others.as_slice();
+            let Some(poly) = self.polys.product(self.closure, others, weight, p)? else {
                 return Ok(None);
             };
-            let ends = (premise.from, premise.to);
-            if !factors.contains_key(&ends) {
-                factors.insert(ends, Poly::zero(self.alloc))?;
-            }
-            if let Some(factor) = factors.get_mut(&ends) {
-                factor.add_scaled(&poly, premise.weight, self.closure.order)?;
+            match factors.last_mut() {
+                Some(last) if last.0 == *difference => {
+                    last.1.add_scaled(self.alloc, &poly, 1, p)?;
+                }
+                _ => factors.push((*difference, poly))?,
             }
         }
         Ok(Some(factors))
     }
 
-    /// Writes the difference of the ends of an edge. Says whether it could.
-    fn write(&mut self, needed: &Needed) -> Result<bool, AllocError> {
-        let Some(factors) = self.factors(needed.premises.as_slice())? else {
+    /// Sums up the difference of the ends of an edge. Says whether it could.
+    fn prepare_edge(&mut self, needed: &Needed) -> Result<bool, AllocError> {
+        let Some(factors) = self.factors(needed)? else {
             return Ok(false);
         };
-        let mut multiples = BTreeMap::new(self.alloc);
-        for (ends, factor) in &factors {
-            self.add(&mut multiples, ends.0, ends.1, factor)?;
+        let mut sum = Sum::zero(self.alloc);
+        for (difference, factor) in &factors {
+            if !factor.terms.is_empty() && !self.add(&mut sum, *difference, factor)? {
+                return Ok(false);
+            }
         }
-        let number = self.written(needed.edge, &multiples)?;
-        if let Some(place) = self.numbers.get_mut(needed.edge) {
-            *place = number;
-        }
+        let length = match self.closure.classes.ends(needed.edge) {
+            Some((from, to)) => self.length((from, to, 1)),
+            None => 1,
+        };
+        let sum = sum.settled(self.alloc, self.order)?;
+        let item = Item::of(sum, length, needed.uses);
+        self.edges.insert(needed.edge, item)?;
         Ok(true)
     }
 
-    /// The line whose multiple the difference of an edge is, where it is a sum of these multiples: a line that stands already,
-    /// or one that is written. None where it is 0.
-    fn written(
+    /// Sums up the differences of all edges, from the first on: a given equality is its generator. Says whether it could.
+    fn prepare_all(
         &mut self,
-        edge: usize,
-        multiples: &Multiples,
-    ) -> Result<Option<(u32, u64)>, AllocError> {
-        if multiples.is_empty() {
-            return Ok(None);
-        }
-        if let (1, Some((line, factor))) = (multiples.len(), multiples.first_key_value()) {
-            if let Some(coefficient) = factor.as_constant() {
-                return Ok(Some((*line, coefficient)));
-            }
-        }
-        let length = match self.closure.classes.ends(edge) {
-            Some((from, to)) => self.length(from, to),
-            None => 1,
-        };
-        Ok(Some((self.lines.write(multiples, length)?, 1)))
-    }
-
-    /// Writes the differences of all edges but the given equalities. Says whether it could.
-    fn write_all(&mut self, needed: &[Needed]) -> Result<bool, AllocError> {
+        needed: &[Needed],
+        generators: &BTreeMap<NodeId, u32>,
+    ) -> Result<bool, AllocError> {
         for one in needed.iter().rev() {
-            let is_given = matches!(self.closure.reason(one.edge), Some(Reason::Equality(_)));
-            if !is_given && !self.write(one)? {
-                return Ok(false);
+            match self.closure.reason(one.edge) {
+                Some(Reason::Equality(equality)) => {
+                    if let Some(line) = generators.get(&equality) {
+                        let item = Item::of_line(self.alloc, *line);
+                        self.edges.insert(one.edge, item)?;
+                    }
+                }
+                _ => {
+                    if !self.prepare_edge(one)? {
+                        return Ok(false);
+                    }
+                }
             }
         }
         Ok(true)
@@ -279,96 +285,85 @@ impl Tree<'_> {
         Ok(generators)
     }
 
-    /// Gives the edges of equalities the numbers of their generators.
-    fn number_edges(&mut self, needed: &[Needed], generators: &BTreeMap<NodeId, u32>) {
-        for one in needed {
-            if let Some(Reason::Equality(equality)) = self.closure.reason(one.edge) {
-                if let Some(number) = self.numbers.get_mut(one.edge) {
-                    *number = generators.get(&equality).map(|line| (*line, 1));
-                }
-            }
+    /// Writes the last line of a clash, which is a constant other than 0. Says whether it could.
+    fn conclude(&mut self, clash: Clash, used: usize) -> Result<bool, AllocError> {
+        let p = self.order;
+        let (from, to) = clash.ends();
+        let (difference, is_negative) = ordered(from, to, 1);
+        let sign = if is_negative { negative(1, p) } else { 1 };
+        let mut sum = Sum::zero(self.alloc);
+        let mut factor = Poly::constant(self.alloc, 1)?;
+        if let Clash::Unequal(..) = clash {
+            // The generator of the last equality is its difference times its inverse, less 1.
+            let last = u32::try_from(used.saturating_sub(1)).unwrap_or(u32::MAX);
+            let variable = self.closure.table.len().saturating_add(last);
+            let variable = self.polys.monomials.variable(variable)?;
+            factor = Poly::term(self.alloc, variable, 1)?;
+            let unit = Poly::constant(self.alloc, negative(sign, p))?;
+            sum.add_line(last, &unit, 1, p)?;
         }
-    }
-
-    /// Writes the last line of a clash, which is a constant other than 0.
-    fn conclude(&mut self, clash: Clash, used: usize) -> Result<(), AllocError> {
-        let p = self.closure.order;
-        let mut multiples = BTreeMap::new(self.alloc);
-        match clash {
-            Clash::Values(one, other) => {
-                let unit = Poly::constant(self.alloc, 1)?;
-                self.add(&mut multiples, one, other, &unit)?;
-            }
-            Clash::Unequal(_, left, right) => {
-                // The generator of the last equality is its difference times its inverse, less 1.
-                let last = u32::try_from(used.saturating_sub(1)).unwrap_or(u32::MAX);
-                let variable = self.closure.table.len().saturating_add(last);
-                let inverse = Poly::variable(self.alloc, variable, 1)?;
-                self.add(&mut multiples, left, right, &inverse)?;
-                multiples.insert(last, Poly::constant(self.alloc, negative(1, p))?)?;
-            }
+        if !self.add(&mut sum, difference, &factor)? {
+            return Ok(false);
         }
-        self.lines.write(&multiples, 1)?;
-        Ok(())
+        let sum = sum.settled(self.alloc, p)?;
+        let monomials = &self.polys.monomials;
+        let scale = sum.best_scale(monomials, p);
+        self.lines.write(&sum, monomials, scale, 1, p)?;
+        Ok(true)
     }
 }
 
 /// Equalities that do not hold together, as they are on a trail, and the lines of a tree that closes over their generators.
 #[derive(Drop)]
 pub struct Refutation {
+    /// The order of their field.
+    pub order: u64,
     pub equalities: Vec<Lit>,
     pub tree: Vec<CertLine>,
 }
 
+/// What a clash rests on; none where there is too much.
+pub fn grounds_of(closure: &Closure, clash: Clash) -> Result<Option<Grounds>, AllocError> {
+    let (from, to) = clash.ends();
+    let mut grounds = Grounds::new(closure.alloc);
+    let is_short = grounds.take_all(closure, from, to)?;
+    Ok(is_short.then_some(grounds))
+}
+
 /// The refutation by a clash; none where it is too long.
 pub fn refutation_by(closure: &Closure, clash: Clash) -> Result<Option<Refutation>, AllocError> {
-    let alloc = closure.alloc;
-    let (from, to) = clash.ends();
-    let mut grounds = Grounds {
-        closure,
-        marks: vec![in alloc; false; closure.classes.now()]?,
-        steps: 0,
-        needed: Vec::new(alloc),
-    };
-    if !grounds.take_all(from, to)? {
-        return Ok(None);
+    match grounds_of(closure, clash)? {
+        Some(grounds) => refutation_from(closure, clash, grounds),
+        None => Ok(None),
     }
-    let used = grounds.equalities(clash)?;
+}
+
+/// The refutation by what a clash rests on; none where it is too long.
+pub fn refutation_from(
+    closure: &Closure,
+    clash: Clash,
+    grounds: Grounds,
+) -> Result<Option<Refutation>, AllocError> {
+    let alloc = closure.alloc;
+    let used = grounds.equalities(closure, clash)?;
+    let (needed, uses) = grounds.into_parts();
     let mut tree = Tree {
         closure,
         alloc,
-        polys: Polys::of(closure, grounds.factors()?.as_slice())?,
+        order: closure.order_of(clash.ends().0),
+        polys: Polys::new(alloc)?,
         lines: Lines::new(alloc),
-        numbers: vec![in alloc; None; closure.classes.now()]?,
-        pairs: BTreeMap::new(alloc),
+        uses,
+        edges: BTreeMap::new(alloc),
+        differences: BTreeMap::new(alloc),
     };
     let generators = tree.number_all(used.as_slice())?;
-    tree.number_edges(grounds.needed.as_slice(), &generators);
-    if !tree.write_all(grounds.needed.as_slice())? {
+    if !tree.prepare_all(needed.as_slice(), &generators)? || !tree.conclude(clash, used.len())? {
         return Ok(None);
     }
-    tree.conclude(clash, used.len())?;
     Ok(Some(Refutation {
+        order: tree.order,
         equalities: used,
         tree: tree.into_lines()?,
     }))
-}
-
-/// Adds lines with coefficients times a factor to multiples.
-fn add_lines(
-    alloc: Global,
-    multiples: &mut Multiples,
-    lines: &[(u32, u64)],
-    factor: &Poly,
-    p: u64,
-) -> Result<(), AllocError> {
-    for (line, coefficient) in lines {
-        if !multiples.contains_key(line) {
-            multiples.insert(*line, Poly::zero(alloc))?;
-        }
-        if let Some(multiple) = multiples.get_mut(line) {
-            multiple.add_scaled(factor, *coefficient, p)?;
-        }
-    }
-    Ok(())
 }

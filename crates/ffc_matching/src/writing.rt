@@ -1,8 +1,9 @@
 //! Sums of multiples of lines, as lines of a tree.
-use crate::polynomials::Poly;
+use crate::monomials::Monomials;
+use crate::sums::Sum;
 use ffc_cert::{CertLine, Multiple, Sequence, Term};
+use ffc_congruence::product;
 use std::alloc::{AllocError, Global};
-use std::collections::BTreeMap;
 
 /// A line has at most so many terms in its factors, and these with the terms of their lines so many products: the checker
 /// bounds both. A longer sum goes on in a further line.
@@ -13,21 +14,18 @@ const MOST_PRODUCTS: u64 = 2_000_000;
 /// So many terms a line is taken to have of which it is not known.
 const UNKNOWN_LENGTH: u64 = 65_536;
 
-/// Multiples of lines, by number.
-pub type Multiples = BTreeMap<u32, Poly>;
-
 /// The lines of a tree that were written. The first lines of the tree are its generators, which are not.
 #[derive(Drop)]
 pub struct Lines {
     alloc: Global,
-    pub written: Vec<CertLine>,
+    written: Vec<CertLine>,
     /// How many terms each line of the tree has at most.
     lengths: Vec<u64>,
 }
 
-/// A sum that is written, up to the last multiples of it.
+/// The line that is written, up to its last multiples so far.
 #[derive(Drop)]
-struct Sum {
+struct Line {
     multiples: Vec<Multiple>,
     terms: usize,
     products: u64,
@@ -57,50 +55,49 @@ impl Lines {
         }
     }
 
-    /// Writes the sum so far as a line.
-    fn flush(&mut self, sum: &mut Sum, length: u64) -> Result<u32, AllocError> {
-        let multiples = std::mem::replace(&mut sum.multiples, Vec::new(self.alloc));
+    /// Writes the line that was begun.
+    fn flush(&mut self, begun: &mut Line, length: u64) -> Result<u32, AllocError> {
+        let multiples = std::mem::replace(&mut begun.multiples, Vec::new(self.alloc));
         self.written
             .push(CertLine::Combine(Sequence::from_vec(multiples)))?;
-        sum.terms = 0;
-        sum.products = 0;
+        begun.terms = 0;
+        begun.products = 0;
         self.place(length)
     }
 
     /// Adds a line times a term.
-    fn add_term(&mut self, sum: &mut Sum, line: u32, term: Term) -> Result<(), AllocError> {
-        if sum.terms >= MOST_TERMS || sum.products >= MOST_PRODUCTS {
-            let before = self.flush(sum, UNKNOWN_LENGTH)?;
-            sum.push(self.alloc, before, (1, Sequence::new(self.alloc)))?;
-            sum.products = UNKNOWN_LENGTH;
+    fn add_term(&mut self, begun: &mut Line, line: u32, term: Term) -> Result<(), AllocError> {
+        if begun.terms >= MOST_TERMS || begun.products >= MOST_PRODUCTS {
+            let before = self.flush(begun, UNKNOWN_LENGTH)?;
+            begun.push(self.alloc, before, (1, Sequence::new(self.alloc)))?;
+            begun.products = UNKNOWN_LENGTH;
         }
-        sum.products = sum.products.saturating_add(self.length(line));
-        sum.push(self.alloc, line, term)
+        begun.products = begun.products.saturating_add(self.length(line));
+        begun.push(self.alloc, line, term)
     }
 
-    /// Adds a line times a polynomial.
-    fn add_multiple(&mut self, sum: &mut Sum, line: u32, poly: &Poly) -> Result<(), AllocError> {
-        for (monomial, value) in &poly.terms {
-            if *value != 0 {
-                let powers = Sequence::from_vec(monomial.clone()?);
-                self.add_term(sum, line, (*value, powers))?;
-            }
-        }
-        Ok(())
-    }
-
-    /// Writes a sum of multiples, in several lines where it is long, and answers the number of the last one, which has so many
-    /// terms at most.
-    pub fn write(&mut self, multiples: &Multiples, length: u64) -> Result<u32, AllocError> {
-        let mut sum = Sum {
+    /// Writes a sum times a constant, in several lines where it is long, and answers the number of the last one, which has so
+    /// many terms at most.
+    pub fn write(
+        &mut self,
+        sum: &Sum,
+        monomials: &Monomials,
+        scale: u64,
+        length: u64,
+        p: u64,
+    ) -> Result<u32, AllocError> {
+        let mut begun = Line {
             multiples: Vec::new(self.alloc),
             terms: 0,
             products: 0,
         };
-        for (line, poly) in multiples {
-            self.add_multiple(&mut sum, *line, poly)?;
+        for (line, monomial, value) in &sum.terms {
+            let mut powers = Vec::new(self.alloc);
+            powers.extend_from_slice(monomials.powers(*monomial))?;
+            let term = (product(*value, scale, p), Sequence::from_vec(powers));
+            self.add_term(&mut begun, *line, term)?;
         }
-        self.flush(&mut sum, length)
+        self.flush(&mut begun, length)
     }
 
     /// The lines, closed by the last one.
@@ -115,7 +112,7 @@ impl Lines {
     }
 }
 
-impl Sum {
+impl Line {
     /// Appends a line times a term.
     fn push(&mut self, alloc: Global, line: u32, term: Term) -> Result<(), AllocError> {
         self.terms = self.terms.saturating_add(1);

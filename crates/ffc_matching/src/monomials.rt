@@ -1,0 +1,106 @@
+//! Monomials, each once.
+use std::alloc::{AllocError, Global};
+use std::collections::BTreeMap;
+
+/// Variables in increasing order with their exponents.
+type Powers = Vec<(u32, u32)>;
+
+/// The number of the monomial without variables.
+pub const ONE: u32 = 0;
+
+/// The monomials so far, by number.
+#[derive(Drop)]
+pub struct Monomials {
+    pub alloc: Global,
+    list: Vec<Powers>,
+    /// How many bytes each takes in a line.
+    bytes: Vec<u64>,
+    numbers: BTreeMap<Powers, u32>,
+}
+
+/// How many digits a number has.
+pub fn digits(number: u64) -> u64 {
+    let mut bound = 10u64;
+    for count in 1..20u64 {
+        if number < bound {
+            return count;
+        }
+        bound = bound.saturating_mul(10);
+    }
+    20
+}
+
+impl Monomials {
+    /// The one without variables alone.
+    pub fn new(alloc: Global) -> Result<Monomials, AllocError> {
+        let mut monomials = Monomials {
+            alloc,
+            list: Vec::new(alloc),
+            bytes: Vec::new(alloc),
+            numbers: BTreeMap::new(alloc),
+        };
+        monomials.number(Vec::new(alloc))?;
+        Ok(monomials)
+    }
+
+    /// The number of a monomial.
+    fn number(&mut self, powers: Powers) -> Result<u32, AllocError> {
+        if let Some(number) = self.numbers.get(&powers) {
+            return Ok(*number);
+        }
+        let number = u32::try_from(self.list.len()).unwrap_or(u32::MAX);
+        let mut bytes = digits(powers.len() as u64);
+        for (variable, exponent) in &powers {
+            let both = digits(u64::from(*variable)).saturating_add(digits(u64::from(*exponent)));
+            bytes = bytes.saturating_add(both).saturating_add(2);
+        }
+        self.bytes.push(bytes)?;
+        self.numbers.insert(powers.clone()?, number)?;
+        self.list.push(powers)?;
+        Ok(number)
+    }
+
+    /// A variable.
+    pub fn variable(&mut self, variable: u32) -> Result<u32, AllocError> {
+        self.number(vec![in self.alloc; (variable, 1)]?)
+    }
+
+    /// The variables and exponents of a monomial.
+    pub fn powers(&self, monomial: u32) -> &[(u32, u32)] {
+        match self.list.get(monomial as usize) {
+            Some(powers) => powers.as_slice(),
+            None => &[],
+        }
+    }
+
+    /// How many bytes it takes in a line.
+    pub fn bytes(&self, monomial: u32) -> u64 {
+        self.bytes.get(monomial as usize).copied().unwrap_or(1)
+    }
+
+    /// The product of two.
+    pub fn times(&mut self, a: u32, b: u32) -> Result<u32, AllocError> {
+        if a == ONE {
+            return Ok(b);
+        }
+        if b == ONE {
+            return Ok(a);
+        }
+        let mut all = Vec::new(self.alloc);
+        all.extend_from_slice(self.powers(a))?;
+        all.extend_from_slice(self.powers(b))?;
+        all.sort_unstable();
+        let mut powers: Powers = Vec::new(self.alloc);
+        for (variable, exponent) in &all {
+            let before = match powers.last() {
+                Some(last) if last.0 == *variable => last.1,
+                _ => 0,
+            };
+            if before > 0 {
+                let _ = powers.pop();
+            }
+            powers.push((*variable, before.saturating_add(*exponent)))?;
+        }
+        self.number(powers)
+    }
+}
