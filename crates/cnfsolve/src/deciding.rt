@@ -23,7 +23,12 @@ impl Theory for Agreeing {
 
     ghost fits = { λ _ _. Unit {0} };
 
-    fn check(&mut self, _trail: &[Lit], _meter: &mut Meter) -> Result<TheoryAnswer, SearchStop> {
+    fn check(
+        &mut self,
+        _standing: usize,
+        _trail: &[Lit],
+        _meter: &mut Meter,
+    ) -> Result<TheoryAnswer, SearchStop> {
         Ok(TheoryAnswer::Agreed)
     }
 }

@@ -1,4 +1,5 @@
 //! The equalities of one field, group by group: evaluation, then elimination, then lines of a basis, then the search by cases.
+ghost use Rattle.std.specs.Prelude.{IsErrOf};
 ghost use Rattle.ffc_base.specs.Metering.{Metered};
 
 use ffc_base::{Meter, SearchStop, Unit};
@@ -7,7 +8,7 @@ use ffc_bits::bit_of;
 use ffc_cdcl::Lit;
 use ffc_cert::CertLine;
 use ffc_circuit::{
-    Generator, GeneratorStop, Group, Inputs, Ranking, differences, groups_of, values_forward,
+    Generator, GeneratorStop, Inputs, Ranking, copies_at, differences, groups_of, values_forward,
     with_inverse,
 };
 use ffc_field::{Field, FieldId, ForField};
@@ -35,10 +36,9 @@ pub enum Answer {
     /// They do not hold together: a tree whose generators are those of these equalities, and whose variables are ranks, and for
     /// each line of bits in it the ranks that its last numbers are for.
     Closed(Vec<Lit>, Ranking, Vec<CertLine>, Vec<Vec<u32>>),
-    /// Nothing was found with the units of the share.
-    Unfinished,
-    /// The search does not go on with them, whatever the units are: it has no further choice, or a limit is passed.
-    GaveUp,
+    /// These are not decided. With true, the units of the share were spent; else the search does not go on with them, whatever the
+    /// units are: it has no further choice, or a limit is passed.
+    Undecided(Vec<Lit>, bool),
 }
 
 /// What a search over one field ends with.
@@ -220,6 +220,21 @@ fn holding(alloc: Global, equalities: &[Lit]) -> Result<Vec<Lit>, AllocError> {
 fn inverse_of(first: u32, place: usize) -> Option<u32> {
     let place = u32::try_from(place).ok()?;
     first.checked_add(place)
+}
+
+/// The equalities at these places.
+fn equalities_at(
+    alloc: Global,
+    equalities: &[Lit],
+    places: &[usize],
+) -> Result<Vec<Lit>, AllocError> {
+    let mut chosen = Vec::new(alloc);
+    for place in places {
+        if let Some(equality) = equalities.get(*place) {
+            chosen.push(*equality)?;
+        }
+    }
+    Ok(chosen)
 }
 
 impl Problem<'_> {
@@ -423,55 +438,100 @@ impl Problem<'_> {
         self.answer(ranked.as_slice(), ranking, meter)
     }
 
-    /// The answer for one group, within these units.
+    /// The answer for the equalities at these places, which are in order.
+    fn answer_at<F: Field>(
+        self,
+        polys: &[Generator<F>],
+        places: &[usize],
+        meter: &mut Meter,
+    ) -> Result<Answer, SearchStop> {
+        if places.len() == polys.len() {
+            return self.answer_group(polys, meter);
+        }
+        let own = copies_at(self.alloc, polys, places)?;
+        self.answer_group(own.as_slice(), meter)
+    }
+
+    /// The answer for one group, whose equalities are at these places, within these units.
     fn answer_within<F: Field>(
         self,
-        group: &Group<F>,
+        polys: &[Generator<F>],
+        places: &[usize],
         units: u64,
         meter: &mut Meter,
     ) -> Result<Answer, SearchStop> {
-        let mut own = Meter::new(units.min(meter.left()));
+        let equalities = equalities_at(self.alloc, self.equalities, places)?;
         let problem = Problem {
-            equalities: group.equalities.as_slice(),
+            equalities: equalities.as_slice(),
             ..self
         };
-        let answer = problem.answer_group(group.polys.as_slice(), &mut own);
+        let mut own = Meter::new(units.min(meter.left()));
+        let answer = problem.answer_at(polys, places, &mut own);
         charge(meter, &own)?;
-        match answer {
-            Err(SearchStop::Spent) => Ok(Answer::Unfinished),
-            Err(SearchStop::GaveUp) => Ok(Answer::GaveUp),
-            answer => answer,
-        }
+        problem.undecided(answer)
     }
 
-    /// The answer over the field `F`, on its own units: group by group. Each group but the last one takes at most half of the
-    /// units that are left.
-    fn searched<F: Field>(self, meter: &mut Meter) -> Result<Answer, SearchStop> {
+    /// An answer, where a search that stops leaves these equalities undecided.
+    fn undecided(self, answer: Result<Answer, SearchStop>) -> Result<Answer, SearchStop>
+        ensures { ¬ (IsErrOf result SearchStop.Spent) }
+    {
+        let unfinished = match answer {
+            Err(SearchStop::Spent) => true,
+            Err(SearchStop::GaveUp) => false,
+            answer => return answer,
+        };
+        let equalities = Vec::from_slice(self.alloc, self.equalities)?;
+        Ok(Answer::Undecided(equalities, unfinished))
+    }
+
+    /// The answer for a part: of the last one, or of one before. Each group but the very last one takes at most half of the units
+    /// that are left.
+    fn search_part<F: Field>(
+        self,
+        is_last_part: bool,
+        meter: &mut Meter,
+    ) -> Result<Answer, SearchStop> {
+        let mut gathered = Gathered::new(self.alloc);
         let polys = differences::<F>(self.alloc, self.table, self.equalities)?;
-        let groups = groups_of(self.alloc, self.equalities, polys)?;
-        let mut values = Vec::new(self.alloc);
-        let mut undecided = None;
-        for (k, group) in groups.iter().enumerate() {
-            let is_last = k.saturating_add(1) >= groups.len();
+        let groups = groups_of(self.alloc, self.equalities, polys.as_slice())?;
+        for (k, places) in groups.iter().enumerate() {
+            let is_last = is_last_part && k.saturating_add(1) >= groups.len();
             let units = part_of_left(meter, if is_last { 1 } else { 2 });
-            match self.answer_within(group, units, meter)? {
-                Answer::Values(pairs) => values.extend_from_slice(pairs.as_slice())?,
-                Answer::Closed(chosen, ranking, tree, sums) => {
-                    return Ok(Answer::Closed(chosen, ranking, tree, sums));
-                }
-                other => undecided = Some(other),
+            let answer = self.answer_within(polys.as_slice(), places.as_slice(), units, meter)?;
+            if let Some(answer) = gathered.add(answer)? {
+                return Ok(answer);
             }
         }
-        match undecided {
-            Some(answer) => Ok(answer),
-            None => Ok(Answer::Values(values)),
-        }
+        Ok(gathered.answer())
     }
 
-    /// The answer over the field of this name, with a share of the units that are left.
+    /// The answer over the field `F`, on its own units: part by part, since most trails are refuted by their first part, and so
+    /// nothing is made of the others.
+    fn searched<F: Field>(
+        self,
+        parts: &[Vec<Lit>],
+        meter: &mut Meter,
+    ) -> Result<Answer, SearchStop> {
+        let mut gathered = Gathered::new(self.alloc);
+        for (k, part) in parts.iter().enumerate() {
+            let problem = Problem {
+                equalities: part.as_slice(),
+                ..self
+            };
+            let is_last = k.saturating_add(1) >= parts.len();
+            let answer = problem.search_part::<F>(is_last, meter);
+            if let Some(answer) = gathered.add(problem.undecided(answer)?)? {
+                return Ok(answer);
+            }
+        }
+        Ok(gathered.answer())
+    }
+
+    /// The answer for parts that share no variable, over the field of this name, with a share of the units that are left.
     pub fn over_field(
         self,
         field: FieldId,
+        parts: &[Vec<Lit>],
         share: u64,
         meter: &mut Meter,
     ) -> Result<Answer, SearchStop>
@@ -479,22 +539,72 @@ impl Problem<'_> {
     {
         let work = Work {
             problem: self,
+            parts,
             meter: Meter::new(share.min(meter.left())),
         };
         let (answer, taken) = field.run(work);
         charge(meter, &taken)?;
+        self.undecided(answer)
+    }
+}
+
+/// Keeps which equalities are undecided: the first that more units may decide, or else the first. Those of one group are enough to
+/// keep the solver from all trails that have them.
+pub fn leave(undecided: &mut Option<(Vec<Lit>, bool)>, equalities: Vec<Lit>, unfinished: bool) {
+    let replaces = match undecided {
+        None => true,
+        Some((_, before)) => unfinished && !*before,
+    };
+    if replaces {
+        *undecided = Some((equalities, unfinished));
+    }
+}
+
+/// What the groups or parts searched so far have led to.
+#[derive(Drop)]
+struct Gathered {
+    values: Vec<(u32, u64)>,
+    undecided: Option<(Vec<Lit>, bool)>,
+}
+
+impl Gathered {
+    /// Nothing was searched. It takes no memory.
+    fn new(alloc: Global) -> Self {
+        Gathered {
+            values: Vec::new(alloc),
+            undecided: None,
+        }
+    }
+
+    /// Adds an answer, unless it ends the search: then it is given back.
+    fn add(&mut self, answer: Answer) -> Result<Option<Answer>, AllocError> {
         match answer {
-            Err(SearchStop::Spent) => Ok(Answer::Unfinished),
-            Err(SearchStop::GaveUp) => Ok(Answer::GaveUp),
-            answer => answer,
+            Answer::Values(pairs) => self.values.extend_from_slice(pairs.as_slice())?,
+            Answer::Undecided(equalities, unfinished) => {
+                leave(&mut self.undecided, equalities, unfinished);
+            }
+            Answer::Closed(chosen, ranking, tree, sums) => {
+                return Ok(Some(Answer::Closed(chosen, ranking, tree, sums)));
+            }
+        }
+        Ok(None)
+    }
+
+    /// The answer for all of them.
+    fn answer(self) -> Answer {
+        let Gathered { values, undecided } = self;
+        match undecided {
+            Some((equalities, unfinished)) => Answer::Undecided(equalities, unfinished),
+            None => Answer::Values(values),
         }
     }
 }
 
-/// The problem with a meter of its own, which is handed back beside the answer.
+/// The problem with its parts and a meter of its own, which is handed back beside the answer.
 #[derive(Drop)]
 struct Work<'a> {
     problem: Problem<'a>,
+    parts: &'a [Vec<Lit>],
     meter: Meter,
 }
 
@@ -506,8 +616,12 @@ impl ForField for Work<'_> {
     ghost gives = { λ _ _ _. Unit {0} };
 
     fn run<F: Field>(self) -> (Result<Answer, SearchStop>, Meter) {
-        let Work { problem, mut meter } = self;
-        let answer = problem.searched::<F>(&mut meter);
+        let Work {
+            problem,
+            parts,
+            mut meter,
+        } = self;
+        let answer = problem.searched::<F>(parts, &mut meter);
         (answer, meter)
     }
 }

@@ -7,16 +7,16 @@
 //!    the nodes, and a solver of clauses looks for truth values with which all are true. Its theory is that of finite fields
 //!    (Nieuwenhuis, Oliveras and Tinelli 2006: DPLL modulo theories; Ozdemir, Kremer, Tinelli and Barrett 2023).
 //! 2. **A trail** (theory.rt) says which equalities hold and which do not. A walk from the assertions down finds those on which
-//!    their truth rests. Those that it has come upon fix values of nodes (`ffc_fixed`), and where two values clash, the few that
-//!    the clash rests on are judged. As long as one that matters has no value, the theory agrees to the trail; then it judges
-//!    all of them.
-//! 3. **Judging** (judging.rt) goes from field to field. Nodes that are equal by the equalities are matched first
-//!    (`ffc_matching`), which refutes two copies of a circuit, on whole trails only now and then where that is in vain. Else
-//!    (fields.rt) the equalities are polynomials, in groups that share no variable, each with a part of the units. Of a group,
+//!    their truth rests. Those that it has come upon are matched by what follows from them by congruence (`ffc_matching`), which
+//!    refutes two copies of a circuit, and fix values of nodes (`ffc_fixed`): where two of these clash, the few that the clash
+//!    rests on are judged. All go back as far as literals leave the trail. As long as an equality that matters has no value, the
+//!    theory agrees to the trail; then it judges all of them.
+//! 3. **Judging** (judging.rt) goes from field to field. There (fields.rt) the equalities are polynomials, one component of the
+//!    check's nodes after another (components.rt), in groups that share no variable, each with a part of the units. Of a group,
 //!    inputs are guessed and the circuit evaluated; then its linear equalities are solved by elimination (linear.rt), which
 //!    decides a group that has no others; then the equalities that hold are lines of a basis, which is completed further and
-//!    further until it settles the others; then the
-//!    circuit is evaluated by these lines; and then a search by cases looks for values (`ffc_search`).
+//!    further until it settles the others; then the circuit is evaluated by these lines; and then a search by cases looks for
+//!    values (`ffc_search`).
 //! 4. **A model** is what the equalities are true with, whatever the other nodes are: values of all fields end the search.
 //! 5. **A conflict** is a case tree that closes. It is written as a lemma: the clause of the equalities, turned around, that its
 //!    first lines are made of. The solver learns from it and goes on.
@@ -30,6 +30,7 @@
 #![tactic(auto)]
 
 mod clauses;
+mod components;
 mod fields;
 mod judging;
 mod linear;

@@ -3,18 +3,18 @@ ghost use Rattle.std.specs.Prelude.{◌≡◌, ◌++◌, ◌∷◌, [], IfOk, On
 ghost use Rattle.ffc_base.specs.Metering.{Metered};
 ghost use Rattle.ffc_cdcl.specs.Theories.{KeepsLemmas, NamesLemma, IsFalseOn};
 
-use crate::judging::{Judgement, judge, matched, negations};
+use crate::components::Components;
+use crate::judging::{Judge, Judgement, negations};
 use ffc_base::{Meter, SearchStop, Unit};
 use ffc_cdcl::{Lit, Literals, Theory, TheoryAnswer};
 use ffc_cert::Entry;
-use ffc_circuit::{Truths, Walk};
+use ffc_circuit::Walk;
+use ffc_congruence::Clash;
 use ffc_entries::{Lemma, Origin, Residues, model};
 use ffc_fixed::Fixed;
+use ffc_matching::Matcher;
 use ffc_term::Check;
 use std::alloc::{AllocError, Global};
-
-/// Whole trails are matched until so many in a row were in vain, and then after twice as many each time.
-const MISSES: u32 = 8;
 
 /// Judges trails by the equalities on which the truth of the assertions rests. Where those so far fix values that clash, it judges
 /// the few that the clash rests on. Else it agrees as long as one of them has no value, since more of the trail decides them. Once
@@ -23,20 +23,14 @@ const MISSES: u32 = 8;
 #[derive(Drop)]
 pub struct FieldTheory<'a> {
     alloc: Global,
-    check: Check<'a>,
-    /// How many units the equalities of one field on one trail may take.
-    share: u64,
-    /// Whether bits are reasoned about as integers.
-    bits: bool,
+    judge: Judge<'a>,
+    /// It goes along with the trail, and with the equalities that it has come upon go what follows from them by congruence and
+    /// what they fix.
     walk: Walk<'a>,
-    /// What the equalities fix that the walk has come upon, of which so many were looked at.
+    matcher: Matcher<'a>,
     fixed: Fixed<'a>,
-    looked: usize,
-    /// How many whole trails in a row were matched in vain, or not at all.
-    misses: u32,
-    /// How many literals the walk has followed, and how many units had been taken for literals then.
-    followed: usize,
-    taken: u64,
+    /// With how many equalities matching has come to a clash whose refutation is too long.
+    too_long: Option<usize>,
     /// Its lemmas, by number.
     clauses: Vec<Literals>,
     /// Where they are from.
@@ -56,19 +50,19 @@ impl<'a> FieldTheory<'a> {
     ) -> Result<FieldTheory<'a>, AllocError>
         ensures { IfOk result (λ t. t.clauses.items ≡ []) }
     {
-        let mut walk = Walk::new(alloc, check.table)?;
-        walk.begin(check.in_force)?;
         Ok(FieldTheory {
             alloc,
-            check: *check,
-            share,
-            bits,
-            walk,
+            judge: Judge {
+                alloc,
+                check: *check,
+                components: Components::of(alloc, check.table)?,
+                share,
+                bits,
+            },
+            walk: Walk::new(alloc, check.table, check.in_force)?,
+            matcher: Matcher::new(alloc, check.table)?,
             fixed: Fixed::new(alloc, check.table)?,
-            looked: 0,
-            misses: 0,
-            followed: 0,
-            taken: 0,
+            too_long: None,
             clauses: Vec::new(alloc),
             origins: Vec::new(alloc),
             unfinished: false,
@@ -77,7 +71,7 @@ impl<'a> FieldTheory<'a> {
     }
 
     pub fn share(&self) -> u64 {
-        self.share
+        self.judge.share
     }
 
     /// Whether something was set aside that more units may decide.
@@ -93,15 +87,11 @@ impl<'a> FieldTheory<'a> {
     pub fn into_origins(self) -> Vec<Origin> {
         let FieldTheory {
             alloc: _,
-            check: _,
-            share: _,
-            bits: _,
+            judge: _,
             walk: _,
+            matcher: _,
             fixed: _,
-            looked: _,
-            misses: _,
-            followed: _,
-            taken: _,
+            too_long: _,
             clauses: _,
             origins,
             unfinished: _,
@@ -117,86 +107,55 @@ impl<'a> FieldTheory<'a> {
         self.found.take()
     }
 
-    /// Walks on with a trail. Where just as many units were taken for literals since the last walk as the trail is longer, no
-    /// literal has left it; else the walk begins anew.
-    fn follow(&mut self, trail: &[Lit], meter: &Meter) -> Result<(), AllocError>
+    /// Goes on with a trail whose first literals, so many, are those of the trail before.
+    fn follow(&mut self, standing: usize, trail: &[Lit]) -> Result<(), AllocError>
         ensures { self.new.clauses ≡ self.old.clauses }
     {
-        let taken = meter.count(Unit::Assignment);
-        let units = taken.wrapping_sub(self.taken);
-        let before = self.followed;
-        if before <= trail.len() && (trail.len() - before) as u64 == units {
-            self.walk.follow(&trail[before..]);
-        } else {
-            self.walk.begin(self.check.in_force)?;
-            self.walk.follow(trail);
-            self.fixed.clear();
-            self.looked = 0;
+        let kept = self.walk.follow(standing, trail)?;
+        self.matcher.keep(kept);
+        self.fixed.keep(kept);
+        if let Some(count) = self.too_long {
+            if kept < count {
+                self.too_long = None;
+            }
         }
-        self.taken = taken;
-        self.followed = trail.len();
-        self.walk.go_on()
+        Ok(())
     }
 
-    /// A lemma that matching finds of the equalities of a whole trail, where it is due.
-    fn match_trail(&mut self, equalities: &[Lit]) -> Result<Option<Lemma>, AllocError>
+    /// A lemma that matching finds of the equalities that the walk has come upon.
+    fn matched(&mut self) -> Result<Option<Lemma>, AllocError>
         ensures { self.new.clauses ≡ self.old.clauses }
     {
-        if self.misses >= MISSES && !self.misses.is_power_of_two() {
-            self.misses = self.misses.saturating_add(1);
+        if self.too_long.is_some() {
             return Ok(None);
         }
-        let found = matched(self.alloc, &self.check, equalities)?;
-        self.misses = if found.is_some() {
-            0
-        } else {
-            self.misses.saturating_add(1)
+        let Some(clash) = next_match(&mut self.matcher, self.walk.found())? else {
+            return Ok(None);
         };
-        Ok(found)
+        let Some(found) = self.matcher.refutation(clash)? else {
+            self.too_long = Some(self.matcher.len());
+            return Ok(None);
+        };
+        Ok(Some(Lemma {
+            order: found.order,
+            lits: negations(self.alloc, found.equalities.as_slice())?,
+            tree: found.tree,
+        }))
     }
 
-    /// Searches for values with which equalities hold.
-    fn search(&self, equalities: &[Lit], meter: &mut Meter) -> Result<Judgement, SearchStop>
-        ensures metered { Metered SearchStop.Spent result meter.old meter.new }
-    {
-        judge(
-            self.alloc,
-            &self.check,
-            equalities,
-            self.share,
-            self.bits,
-            meter,
-        )
-    }
-
-    /// Judges the equalities of a whole trail. It is one Trial, besides what the searches take.
-    fn judged(&mut self, equalities: &[Lit], meter: &mut Meter) -> Result<Judgement, SearchStop>
-        ensures same { self.new.clauses ≡ self.old.clauses }
+    /// Judges equalities. It is one Trial, besides what the searches take.
+    fn judged(&self, equalities: &[Lit], meter: &mut Meter) -> Result<Judgement, SearchStop>
         ensures metered { Metered SearchStop.Spent result meter.old meter.new }
     {
         meter.take(Unit::Trial)?;
-        match self.match_trail(equalities)? {
-            Some(lemma) => Ok(Judgement::Refuted(lemma)),
-            None => self.search(equalities, meter),
-        }
-    }
-
-    /// Judges equalities whose values clash, in the same way.
-    fn judged_clash(&self, equalities: &[Lit], meter: &mut Meter) -> Result<Judgement, SearchStop>
-        ensures metered { Metered SearchStop.Spent result meter.old meter.new }
-    {
-        meter.take(Unit::Trial)?;
-        match matched(self.alloc, &self.check, equalities)? {
-            Some(lemma) => Ok(Judgement::Refuted(lemma)),
-            None => self.search(equalities, meter),
-        }
+        self.judge.judge(equalities, meter)
     }
 
     /// Equalities among those that the walk has come upon whose values clash.
     fn clash(&mut self) -> Result<Option<Vec<Lit>>, AllocError>
         ensures { self.new.clauses ≡ self.old.clauses }
     {
-        next_clash(&mut self.fixed, self.walk.found(), &mut self.looked)
+        next_clash(&mut self.fixed, self.walk.found())
     }
 
     /// Keeps a lemma.
@@ -211,7 +170,6 @@ impl<'a> FieldTheory<'a> {
     }
 
     /// Makes a clause that is false on a trail a lemma, and answers with it.
-    #[tactic(auto, using(ffc_circuit::proofs::TrailValues::falsified))]
     fn object(
         &mut self,
         trail: &[Lit],
@@ -223,8 +181,7 @@ impl<'a> FieldTheory<'a> {
         ensures refuted { IfOk result (IsFalseOn trail.now) }
         ensures unmetered { ¬ (IsErrOf result SearchStop.Spent) }
     {
-        let truths = Truths::of(self.alloc, self.check.table.len(), trail)?;
-        if !truths.falsify(clause.as_slice()) {
+        if !self.walk.truths().falsify(trail, clause.as_slice()) {
             // Its equalities are on the trail: this would be a fault of the walk.
             return Err(SearchStop::GaveUp);
         }
@@ -237,7 +194,7 @@ impl<'a> FieldTheory<'a> {
     fn keep_model(&mut self, residues: &Residues) -> Result<(), AllocError>
         ensures { self.new.clauses ≡ self.old.clauses }
     {
-        let entry = model(self.alloc, &self.check, self.walk.truths(), residues)?;
+        let entry = model(self.alloc, &self.judge.check, self.walk.truths(), residues)?;
         self.found = Some(entry);
         Ok(())
     }
@@ -279,15 +236,20 @@ impl<'a> FieldTheory<'a> {
     }
 }
 
-/// Adds equalities from a place on, until their values clash; then the place is behind the last one that was added.
-fn next_clash(
-    fixed: &mut Fixed<'_>,
-    equalities: &[Lit],
-    place: &mut usize,
-) -> Result<Option<Vec<Lit>>, AllocError> {
-    for next in *place..equalities.len() {
-        *place = next.saturating_add(1);
-        if let Some(clash) = fixed.add(equalities[next])? {
+/// Adds those of some equalities that were not added before, until they clash.
+fn next_match(matcher: &mut Matcher<'_>, equalities: &[Lit]) -> Result<Option<Clash>, AllocError> {
+    for place in matcher.len()..equalities.len() {
+        if let Some(clash) = matcher.add(equalities[place])? {
+            return Ok(Some(clash));
+        }
+    }
+    Ok(None)
+}
+
+/// Adds those of some equalities that were not added before, until their values clash.
+fn next_clash(fixed: &mut Fixed<'_>, equalities: &[Lit]) -> Result<Option<Vec<Lit>>, AllocError> {
+    for place in fixed.len()..equalities.len() {
+        if let Some(clash) = fixed.add(equalities[place])? {
             return Ok(Some(clash));
         }
     }
@@ -299,13 +261,22 @@ impl Theory for FieldTheory<'_> {
 
     ghost fits = { λ _ _. Unit {0} };
 
-    fn check(&mut self, trail: &[Lit], meter: &mut Meter) -> Result<TheoryAnswer, SearchStop> {
+    fn check(
+        &mut self,
+        standing: usize,
+        trail: &[Lit],
+        meter: &mut Meter,
+    ) -> Result<TheoryAnswer, SearchStop> {
         if self.found.is_some() {
             return Ok(TheoryAnswer::Agreed);
         }
-        self.follow(trail, meter)?;
+        self.follow(standing, trail)?;
+        if let Some(lemma) = self.matched()? {
+            meter.take(Unit::Trial)?;
+            return self.answer(trail, Judgement::Refuted(lemma));
+        }
         if let Some(equalities) = self.clash()? {
-            if let Judgement::Refuted(lemma) = self.judged_clash(equalities.as_slice(), meter)? {
+            if let Judgement::Refuted(lemma) = self.judged(equalities.as_slice(), meter)? {
                 return self.answer(trail, Judgement::Refuted(lemma));
             }
         }

@@ -20,7 +20,12 @@ impl Theory for Agreeing {
 
     ghost fits = { λ _ _. Unit {0} };
 
-    fn check(&mut self, _trail: &[Lit], _meter: &mut Meter) -> Result<TheoryAnswer, SearchStop> {
+    fn check(
+        &mut self,
+        _standing: usize,
+        _trail: &[Lit],
+        _meter: &mut Meter,
+    ) -> Result<TheoryAnswer, SearchStop> {
         Ok(TheoryAnswer::Agreed)
     }
 }
@@ -50,7 +55,12 @@ impl Theory for NotBoth {
 
     ghost fits = { λ _ _. Unit {0} };
 
-    fn check(&mut self, trail: &[Lit], _meter: &mut Meter) -> Result<TheoryAnswer, SearchStop> {
+    fn check(
+        &mut self,
+        _standing: usize,
+        trail: &[Lit],
+        _meter: &mut Meter,
+    ) -> Result<TheoryAnswer, SearchStop> {
         if !has(trail, plus(0)) || !has(trail, plus(1)) {
             return Ok(TheoryAnswer::Agreed);
         }
