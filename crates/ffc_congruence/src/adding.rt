@@ -52,6 +52,8 @@ impl Closure<'_> {
                 self.merge(left, right, Reason::Equality(equality.node))?;
             } else {
                 self.set_unequal(equality.node, left, right)?;
+                self.want_products(left)?;
+                self.want_products(right)?;
             }
         }
         Ok(())

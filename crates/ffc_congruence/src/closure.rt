@@ -2,6 +2,7 @@
 //! Whatever an equality leads to is noted behind what was noted before, so that the last equalities can be taken away.
 use crate::clash::{Clash, Unequal};
 use crate::classes::{Classes, Edge, Time};
+use crate::cofactors::Unlike;
 use crate::index::{Index, Solved};
 use crate::nodes::children;
 use crate::queue::Queue;
@@ -19,6 +20,10 @@ pub enum Reason {
     Sums(Solved, Option<Solved>),
     /// They are products of equal factors.
     Products,
+    /// The first end is a factor of a product that has a value, the second one of another, and the others say the same.
+    Quotients(Solved, Solved),
+    /// The first end is a factor of a product and the second one of another, or 0, and the other factor is not 0.
+    Cofactors(Solved, Option<Solved>, Unlike),
 }
 
 /// The value of a class, and since when it has it.
@@ -35,6 +40,8 @@ pub struct Mark {
     values: usize,
     sums: usize,
     products: usize,
+    quotients: usize,
+    cofactors: usize,
     active: usize,
     unequal: usize,
     work: usize,
@@ -56,14 +63,16 @@ pub struct Closure<'a> {
     numbers: BTreeMap<(u64, u64), u32>,
     /// The orders and values of the ids past the table.
     values: Vec<(u64, u64)>,
-    /// What sums of classes are, and products.
+    /// What sums of classes are, products, and factors of products.
     pub sums: Index,
     pub products: Index,
+    pub quotients: Index,
+    pub cofactors: Index,
     pub queue: Queue,
     /// The nodes below the equalities, which alone are looked at.
     active: Vec<NodeId>,
     is_active: Vec<bool>,
-    unequal: Unequal,
+    pub unequal: Unequal,
     /// How much may still be looked at.
     pub work: usize,
     /// Of each equality.
@@ -87,6 +96,8 @@ impl<'a> Closure<'a> {
             values: Vec::new(alloc),
             sums: Index::new(alloc),
             products: Index::new(alloc),
+            quotients: Index::new(alloc),
+            cofactors: Index::new(alloc),
             queue: Queue::new(alloc, count)?,
             active: Vec::new(alloc),
             is_active: vec![in alloc; false; count]?,
@@ -222,6 +233,22 @@ impl<'a> Closure<'a> {
         Ok(())
     }
 
+    /// Lets the nodes wait of which a node is a factor, or a term of a factor.
+    pub fn want_products(&mut self, id: u32) -> Result<(), AllocError> {
+        if self.value_at(id, self.classes.now()).is_some() {
+            return Ok(());
+        }
+        self.want_around(id)?;
+        let mut users = Vec::new(self.alloc);
+        users.extend_from_slice(self.users.of_node(id))?;
+        for user in &users {
+            if self.is_active(*user) {
+                self.want_around(*user)?;
+            }
+        }
+        Ok(())
+    }
+
     /// Lets the nodes wait that see the class of an edge change which has come to a value: those around its ids so far.
     fn want_kept(&mut self, edge: Edge) -> Result<(), AllocError> {
         let mut id = self.classes.next(edge.gone);
@@ -305,6 +332,8 @@ impl<'a> Closure<'a> {
             values: self.values.len(),
             sums: self.sums.len(),
             products: self.products.len(),
+            quotients: self.quotients.len(),
+            cofactors: self.cofactors.len(),
             active: self.active.len(),
             unequal: self.unequal.len(),
             work: self.work,
@@ -345,6 +374,8 @@ impl<'a> Closure<'a> {
         self.drop_values(mark.values);
         self.sums.truncate(mark.sums);
         self.products.truncate(mark.products);
+        self.quotients.truncate(mark.quotients);
+        self.cofactors.truncate(mark.cofactors);
         self.unequal.truncate(mark.unequal);
         for _ in mark.active..self.active.len() {
             if let Some(id) = self.active.pop() {

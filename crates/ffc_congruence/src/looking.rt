@@ -310,7 +310,11 @@ impl Closure<'_> {
     fn look_at(&mut self, id: NodeId) -> Result<(), AllocError> {
         match self.relation_at(id, self.classes.now())? {
             Some(relation) => self.solve(id, &relation),
-            None => self.match_product(id),
+            None => {
+                self.match_product(id)?;
+                self.match_quotients(id)?;
+                self.match_cofactors(id)
+            }
         }
     }
 

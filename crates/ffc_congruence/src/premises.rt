@@ -23,10 +23,12 @@ pub struct Premise {
     pub power: u32,
     pub weight: u64,
     pub others: Vec<u32>,
+    /// The equality that does not hold by whose inverse it is multiplied too.
+    pub inverse: Option<NodeId>,
 }
 
 /// The ids of factors in the order of their classes.
-fn ordered(alloc: std::alloc::Global, factors: Factors) -> Result<Vec<u32>, AllocError> {
+pub fn ordered(alloc: std::alloc::Global, factors: Factors) -> Result<Vec<u32>, AllocError> {
     let Factors {
         zero: _,
         scale: _,
@@ -46,7 +48,7 @@ impl Closure<'_> {
     }
 
     /// Factors with values in place of those that have some at a time, up to the first that is 0.
-    fn with_values(&self, ids: &[u32], time: Time) -> Result<Vec<u32>, AllocError> {
+    pub fn with_values(&self, ids: &[u32], time: Time) -> Result<Vec<u32>, AllocError> {
         let mut replaced = Vec::new(self.alloc);
         let has_zero = ids.iter().any(|id| self.value_at(*id, time) == Some(0));
         let mut is_over = false;
@@ -85,7 +87,7 @@ impl Closure<'_> {
     }
 
     /// Appends what a product of some ids is, less the product of others in their places, times a weight and further factors.
-    fn append_replaced(
+    pub fn append_replaced(
         &self,
         from: &[u32],
         to: &[u32],
@@ -113,6 +115,7 @@ impl Closure<'_> {
                     power: u32::try_from(count).unwrap_or(1),
                     weight,
                     others,
+                    inverse: None,
                 })?;
             }
             place = end;
@@ -234,7 +237,7 @@ impl Closure<'_> {
     }
 
     /// Appends the differences of terms to what each is compared with, where the terms of each class cancel.
-    fn append_by_classes(
+    pub fn append_by_classes(
         &self,
         terms: &[(u32, u64)],
         time: Time,
@@ -259,6 +262,7 @@ impl Closure<'_> {
                     power: 1,
                     weight: negative(coefficient, p),
                     others: Vec::new(self.alloc),
+                    inverse: None,
                 })?;
             }
         }
@@ -285,6 +289,12 @@ impl Closure<'_> {
                 self.append_by_classes(terms.as_slice(), edge, p, &mut premises)?;
             }
             Some(Reason::Products) => self.append_products(first, second, edge, &mut premises)?,
+            Some(Reason::Quotients(one, other)) => {
+                self.append_quotients(one, other, edge, &mut premises)?;
+            }
+            Some(Reason::Cofactors(one, other, unlike)) => {
+                self.append_cofactors(one, other, unlike, edge, &mut premises)?;
+            }
             _ => {}
         }
         Ok(premises)

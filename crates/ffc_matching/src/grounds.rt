@@ -2,6 +2,7 @@
 use crate::powers::{Difference, difference_in, halves, ordered};
 use ffc_cdcl::Lit;
 use ffc_congruence::{Clash, Closure, Premise, Reason};
+use ffc_term::NodeId;
 use std::alloc::{AllocError, Global};
 use std::collections::BTreeMap;
 
@@ -25,6 +26,23 @@ pub struct Grounds {
     steps: usize,
     needed: Vec<Needed>,
     uses: BTreeMap<Difference, u32>,
+}
+
+/// Appends literals of nodes in increasing order, each once.
+fn append_literals(
+    used: &mut Vec<Lit>,
+    mut nodes: Vec<NodeId>,
+    positive: bool,
+) -> Result<(), AllocError> {
+    nodes.sort_unstable();
+    nodes.dedup();
+    for node in &nodes {
+        used.push(Lit {
+            node: *node,
+            positive,
+        })?;
+    }
+    Ok(())
 }
 
 impl Grounds {
@@ -164,28 +182,23 @@ impl Grounds {
         (needed, uses)
     }
 
-    /// The equalities among the edges, in the order of their nodes, and then the one that does not hold.
+    /// The equalities among the edges, in the order of their nodes, and then those that do not hold.
     pub fn equalities(&self, closure: &Closure, clash: Clash) -> Result<Vec<Lit>, AllocError> {
-        let mut nodes = Vec::new(self.alloc);
+        let mut equal = Vec::new(self.alloc);
+        let mut unequal = Vec::new(self.alloc);
         for needed in &self.needed {
-            if let Some(Reason::Equality(node)) = closure.reason(needed.edge) {
-                nodes.push(node)?;
+            match closure.reason(needed.edge) {
+                Some(Reason::Equality(node)) => equal.push(node)?,
+                Some(Reason::Cofactors(_, _, unlike)) => unequal.push(unlike.equality)?,
+                _ => {}
             }
         }
-        nodes.sort_unstable();
-        let mut used = Vec::new(self.alloc);
-        for node in &nodes {
-            used.push(Lit {
-                node: *node,
-                positive: true,
-            })?;
-        }
         if let Clash::Unequal(node, ..) = clash {
-            used.push(Lit {
-                node,
-                positive: false,
-            })?;
+            unequal.push(node)?;
         }
+        let mut used = Vec::new(self.alloc);
+        append_literals(&mut used, equal, true)?;
+        append_literals(&mut used, unequal, false)?;
         Ok(used)
     }
 }

@@ -224,6 +224,17 @@ impl Polys {
         self.times(made, others.as_slice(), p)
     }
 
+    /// A polynomial times a variable.
+    pub fn times_variable(&mut self, poly: &Poly, variable: u32) -> Result<Poly, AllocError> {
+        let variable = self.monomials.variable(variable)?;
+        let mut terms = Vec::new(self.alloc);
+        for (monomial, value) in &poly.terms {
+            terms.push((self.monomials.times(*monomial, variable)?, *value))?;
+        }
+        terms.sort_unstable();
+        Ok(Poly { terms })
+    }
+
     /// The power of an id of a field.
     pub fn power(
         &mut self,

@@ -23,6 +23,8 @@ struct Tree<'a> {
     lines: Lines,
     /// How often each difference is used.
     uses: BTreeMap<Difference, u32>,
+    /// The lines of the equalities, which come first.
+    generators: BTreeMap<NodeId, u32>,
     /// The differences of the ends of edges.
     edges: BTreeMap<usize, Item>,
     /// Those of other ids, and of powers.
@@ -38,6 +40,7 @@ impl Tree<'_> {
             polys: _,
             lines,
             uses: _,
+            generators: _,
             edges: _,
             differences: _,
         } = self;
@@ -194,6 +197,43 @@ impl Tree<'_> {
         Ok(true)
     }
 
+    /// The line of an equality.
+    fn generator_of(&self, equality: NodeId) -> u32 {
+        self.generators.get(&equality).copied().unwrap_or(0)
+    }
+
+    /// The variable that is the inverse of the difference of the sides of an equality that does not hold.
+    fn inverse_of(&self, equality: NodeId) -> u32 {
+        self.closure
+            .table
+            .len()
+            .saturating_add(self.generator_of(equality))
+    }
+
+    /// Takes the generator of an equality that does not hold times the difference of the ends of an edge from a sum. Says whether it
+    /// could.
+    fn take_generator(
+        &mut self,
+        sum: &mut Sum,
+        edge: usize,
+        equality: NodeId,
+    ) -> Result<bool, AllocError> {
+        let p = self.order;
+        let Some((from, to)) = self.closure.classes.ends(edge) else {
+            return Ok(false);
+        };
+        let minus = negative(1, p);
+        let (Some(mut factor), Some(other)) = (
+            self.polys.product(self.closure, &[from], minus, p)?,
+            self.polys.product(self.closure, &[to], 1, p)?,
+        ) else {
+            return Ok(false);
+        };
+        factor.add_scaled(self.alloc, &other, 1, p)?;
+        sum.add_line(self.generator_of(equality), &factor, 1, p)?;
+        Ok(true)
+    }
+
     /// The differences that a difference is a sum of multiples of, with their factors; none where one is too long.
     fn factors(&mut self, needed: &Needed) -> Result<Option<Vec<(Difference, Poly)>>, AllocError> {
         let p = self.order;
@@ -214,9 +254,13 @@ impl Tree<'_> {
                 premise.weight
             };
             let others = premise.others.as_slice();
-            let Some(poly) = self.polys.product(self.closure, others, weight, p)? else {
+            let Some(mut poly) = self.polys.product(self.closure, others, weight, p)? else {
                 return Ok(None);
             };
+            if let Some(equality) = premise.inverse {
+                let variable = self.inverse_of(equality);
+                poly = self.polys.times_variable(&poly, variable)?;
+            }
             match factors.last_mut() {
                 Some(last) if last.0 == *difference => {
                     last.1.add_scaled(self.alloc, &poly, 1, p)?;
@@ -238,6 +282,11 @@ impl Tree<'_> {
                 return Ok(false);
             }
         }
+        if let Some(Reason::Cofactors(_, _, unlike)) = self.closure.reason(needed.edge) {
+            if !self.take_generator(&mut sum, needed.edge, unlike.equality)? {
+                return Ok(false);
+            }
+        }
         let length = match self.closure.classes.ends(needed.edge) {
             Some((from, to)) => self.length((from, to, 1)),
             None => 1,
@@ -249,18 +298,12 @@ impl Tree<'_> {
     }
 
     /// Sums up the differences of all edges, from the first on: a given equality is its generator. Says whether it could.
-    fn prepare_all(
-        &mut self,
-        needed: &[Needed],
-        generators: &BTreeMap<NodeId, u32>,
-    ) -> Result<bool, AllocError> {
+    fn prepare_all(&mut self, needed: &[Needed]) -> Result<bool, AllocError> {
         for one in needed.iter().rev() {
             match self.closure.reason(one.edge) {
                 Some(Reason::Equality(equality)) => {
-                    if let Some(line) = generators.get(&equality) {
-                        let item = Item::of_line(self.alloc, *line);
-                        self.edges.insert(one.edge, item)?;
-                    }
+                    let item = Item::of_line(self.alloc, self.generator_of(equality));
+                    self.edges.insert(one.edge, item)?;
                 }
                 _ => {
                     if !self.prepare_edge(one)? {
@@ -273,34 +316,29 @@ impl Tree<'_> {
     }
 
     /// Numbers the generators of equalities, which come first.
-    fn number_all(&mut self, used: &[Lit]) -> Result<BTreeMap<NodeId, u32>, AllocError> {
-        let mut generators = BTreeMap::new(self.alloc);
+    fn number_all(&mut self, used: &[Lit]) -> Result<(), AllocError> {
         for equality in used {
             let length = self.closure.length(equality.node).saturating_add(1);
             let number = self.lines.place(length)?;
-            if equality.positive {
-                generators.insert(equality.node, number)?;
-            }
+            self.generators.insert(equality.node, number)?;
         }
-        Ok(generators)
+        Ok(())
     }
 
     /// Writes the last line of a clash, which is a constant other than 0. Says whether it could.
-    fn conclude(&mut self, clash: Clash, used: usize) -> Result<bool, AllocError> {
+    fn conclude(&mut self, clash: Clash) -> Result<bool, AllocError> {
         let p = self.order;
         let (from, to) = clash.ends();
         let (difference, is_negative) = ordered(from, to, 1);
         let sign = if is_negative { negative(1, p) } else { 1 };
         let mut sum = Sum::zero(self.alloc);
         let mut factor = Poly::constant(self.alloc, 1)?;
-        if let Clash::Unequal(..) = clash {
-            // The generator of the last equality is its difference times its inverse, less 1.
-            let last = u32::try_from(used.saturating_sub(1)).unwrap_or(u32::MAX);
-            let variable = self.closure.table.len().saturating_add(last);
-            let variable = self.polys.monomials.variable(variable)?;
-            factor = Poly::term(self.alloc, variable, 1)?;
+        if let Clash::Unequal(equality, ..) = clash {
+            // The generator of the equality is its difference times its inverse, less 1.
+            let variable = self.inverse_of(equality);
+            factor = self.polys.times_variable(&factor, variable)?;
             let unit = Poly::constant(self.alloc, negative(sign, p))?;
-            sum.add_line(last, &unit, 1, p)?;
+            sum.add_line(self.generator_of(equality), &unit, 1, p)?;
         }
         if !self.add(&mut sum, difference, &factor)? {
             return Ok(false);
@@ -354,11 +392,12 @@ pub fn refutation_from(
         polys: Polys::new(alloc)?,
         lines: Lines::new(alloc),
         uses,
+        generators: BTreeMap::new(alloc),
         edges: BTreeMap::new(alloc),
         differences: BTreeMap::new(alloc),
     };
-    let generators = tree.number_all(used.as_slice())?;
-    if !tree.prepare_all(needed.as_slice(), &generators)? || !tree.conclude(clash, used.len())? {
+    tree.number_all(used.as_slice())?;
+    if !tree.prepare_all(needed.as_slice())? || !tree.conclude(clash)? {
         return Ok(None);
     }
     Ok(Some(Refutation {
