@@ -155,3 +155,16 @@ pub const ADDER: &[Part] = &[
         "(assert (not (= (ff.add s{n} t{n}) (ff.add u{n} (ff.mul (as ff{2^n} F) c{n})))))\n",
     ),
 ];
+
+/// The script of a family.
+pub fn parts_of(name: &str) -> Option<&'static [Part]> {
+    match name {
+        "range" => Some(RANGE),
+        "range-open" => Some(OPEN),
+        "unique" => Some(UNIQUE),
+        "select" => Some(SELECT),
+        "xor" => Some(XOR),
+        "adder" => Some(ADDER),
+        _ => None,
+    }
+}

@@ -75,3 +75,13 @@ fn print_pigeon<R: Print>(rt: &R, i: u32, size: u32) -> io::Result<()> {
     }
     println!(rt; "))")
 }
+
+/// The script of a family.
+pub fn parts_of(name: &str) -> Option<&'static [Part]> {
+    match name {
+        "product" => Some(PRODUCT),
+        "sum" => Some(SUM),
+        "ite" => Some(COUNTER),
+        _ => None,
+    }
+}

@@ -89,3 +89,12 @@ pub const OPEN: &[Part] = &[
     SUM_OF_D,
     A_BELOW_B,
 ];
+
+/// The script of a family.
+pub fn parts_of(name: &str) -> Option<&'static [Part]> {
+    match name {
+        "compare" => Some(EACH_WAY),
+        "compare-open" => Some(OPEN),
+        _ => None,
+    }
+}

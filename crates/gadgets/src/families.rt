@@ -11,170 +11,70 @@ enum Body {
     Pigeons,
 }
 
-/// A name, what a script of the family says with its verdict, and the script.
-type Family = (&'static str, &'static str, Body);
-
-const FAMILIES: [Family; 28] = [
-    (
-        "zero",
-        "zero             tests for zero in a chain: the last answer is a bit               unsat",
-        Body::Parts(tests_for_zero::BIT),
-    ),
-    (
-        "zero-open",
-        "zero-open        the same, where the last answer is not bound                      sat",
-        Body::Parts(tests_for_zero::OPEN),
-    ),
-    (
-        "zero-twice",
-        "zero-twice       two copies of the chain with one input: their answers are equal   unsat",
-        Body::Parts(tests_for_zero::TWICE),
-    ),
-    (
-        "range",
-        "range            bits whose sum is past their greatest                             unsat",
-        Body::Parts(bits::RANGE),
-    ),
-    (
-        "range-open",
-        "range-open       bits whose sum is in their range                                  sat",
-        Body::Parts(bits::OPEN),
-    ),
-    (
-        "unique",
-        "unique           two lists of bits with one sum have the same first bit            unsat",
-        Body::Parts(bits::UNIQUE),
-    ),
-    (
-        "select",
-        "select           selections in a chain give one of their inputs                    unsat",
-        Body::Parts(bits::SELECT),
-    ),
-    (
-        "xor",
-        "xor              exclusive ors of bits in a chain give a bit                       unsat",
-        Body::Parts(bits::XOR),
-    ),
-    (
-        "adder",
-        "adder            an adder of bits agrees with the sum of their numbers             unsat",
-        Body::Parts(bits::ADDER),
-    ),
-    (
-        "compare",
-        "compare          two numbers of bits, each below the other                         unsat",
-        Body::Parts(comparing::EACH_WAY),
-    ),
-    (
-        "compare-open",
-        "compare-open     the first number is below the second                              sat",
-        Body::Parts(comparing::OPEN),
-    ),
-    (
-        "limbs",
-        "limbs            the last carry of two limbs is that of their words                unsat",
-        Body::Parts(words::LIMBS),
-    ),
-    (
-        "limbs-open",
-        "limbs-open       the carry of the low limbs may not be the last one                sat",
-        Body::Parts(words::LIMBS_OPEN),
-    ),
-    (
-        "adder-twice",
-        "adder-twice      two adders by gates have the same last carry                      unsat",
-        Body::Parts(gates::TWICE),
-    ),
-    (
-        "adder-twice-open",
-        "adder-twice-open the last carry may not be the last bit of the sum                 sat",
-        Body::Parts(gates::OPEN),
-    ),
-    (
-        "bytes",
-        "bytes            a word of bits and its four bytes have the same last bit          unsat",
-        Body::Parts(words::BYTES),
-    ),
-    (
-        "bytes-open",
-        "bytes-open       the first bit of a word may not be the last of its bytes          sat",
-        Body::Parts(words::BYTES_OPEN),
-    ),
-    (
-        "inverse",
-        "inverse          inverses are unique                                               unsat",
-        Body::Parts(tests_for_zero::INVERSE),
-    ),
-    (
-        "square",
-        "square           square roots are unique up to their sign                          unsat",
-        Body::Parts(tests_for_zero::SQUARE),
-    ),
-    (
-        "rounds",
-        "rounds           two copies of a permutation of width 3, exponent 7, agree         unsat",
-        Body::Parts(rounds::PERMUTATION),
-    ),
-    (
-        "rounds-open",
-        "rounds-open      the same, where one input may differ                              sat",
-        Body::Parts(rounds::OPEN),
-    ),
-    (
-        "mimc",
-        "mimc             two copies of rounds of width 1, exponent 7, agree                unsat",
-        Body::Parts(rounds::MIMC),
-    ),
-    (
-        "linear",
-        "linear           linear equations that contradict their sum                        unsat",
-        Body::Equations { contradicted: true },
-    ),
-    (
-        "linear-open",
-        "linear-open      the same without the sum                                          sat",
-        Body::Equations {
-            contradicted: false,
-        },
-    ),
-    (
-        "product",
-        "product          choices of two values each, whose product is 0                    unsat",
-        Body::Parts(choices::PRODUCT),
-    ),
-    (
-        "sum",
-        "sum              choices of two values each, whose sum is too great                unsat",
-        Body::Parts(choices::SUM),
-    ),
-    (
-        "pigeons",
-        "pigeons          one more number than there are values, all different              unsat",
-        Body::Pigeons,
-    ),
-    (
-        "ite",
-        "ite              a counter by ite stays in its range                               unsat",
-        Body::Parts(choices::COUNTER),
-    ),
+/// A family's name, and what a script of it says with its verdict.
+const LINES: [&str; 28] = [
+    "zero             tests for zero in a chain: the last answer is a bit               unsat",
+    "zero-open        the same, where the last answer is not bound                      sat",
+    "zero-twice       two copies of the chain with one input: their answers are equal   unsat",
+    "range            bits whose sum is past their greatest                             unsat",
+    "range-open       bits whose sum is in their range                                  sat",
+    "unique           two lists of bits with one sum have the same first bit            unsat",
+    "select           selections in a chain give one of their inputs                    unsat",
+    "xor              exclusive ors of bits in a chain give a bit                       unsat",
+    "adder            an adder of bits agrees with the sum of their numbers             unsat",
+    "compare          two numbers of bits, each below the other                         unsat",
+    "compare-open     the first number is below the second                              sat",
+    "limbs            the last carry of two limbs is that of their words                unsat",
+    "limbs-open       the carry of the low limbs may not be the last one                sat",
+    "adder-twice      two adders by gates have the same last carry                      unsat",
+    "adder-twice-open the last carry may not be the last bit of the sum                 sat",
+    "bytes            a word of bits and its four bytes have the same last bit          unsat",
+    "bytes-open       the first bit of a word may not be the last of its bytes          sat",
+    "inverse          inverses are unique                                               unsat",
+    "square           square roots are unique up to their sign                          unsat",
+    "rounds           two copies of a permutation of width 3, exponent 7, agree         unsat",
+    "rounds-open      the same, where one input may differ                              sat",
+    "mimc             two copies of rounds of width 1, exponent 7, agree                unsat",
+    "linear           linear equations that contradict their sum                        unsat",
+    "linear-open      the same without the sum                                          sat",
+    "product          choices of two values each, whose product is 0                    unsat",
+    "sum              choices of two values each, whose sum is too great                unsat",
+    "pigeons          one more number than there are values, all different              unsat",
+    "ite              a counter by ite stays in its range                               unsat",
 ];
 
 /// Lists the families.
 pub fn list<R: Print>(rt: &R) -> io::Result<()> {
-    for (_, line, _) in FAMILIES {
+    for line in LINES {
         println!(rt; "{line}")?;
     }
     Ok(())
 }
 
+/// The parts of a family's script, if it is one of parts.
+fn parts_of(name: &str) -> Option<&'static [Part]> {
+    tests_for_zero::parts_of(name)
+        .or(bits::parts_of(name))
+        .or(comparing::parts_of(name))
+        .or(words::parts_of(name))
+        .or(gates::parts_of(name))
+        .or(rounds::parts_of(name))
+        .or(choices::parts_of(name))
+}
+
 /// The script of a family, or an empty one.
 fn body_of(name: &str) -> Body {
-    for (known, _, body) in FAMILIES {
-        if known == name {
-            return body;
-        }
+    match name {
+        "linear" => Body::Equations { contradicted: true },
+        "linear-open" => Body::Equations {
+            contradicted: false,
+        },
+        "pigeons" => Body::Pigeons,
+        _ => match parts_of(name) {
+            Some(parts) => Body::Parts(parts),
+            None => Body::Parts(&[]),
+        },
     }
-    Body::Parts(&[])
 }
 
 fn print_body<R: Print>(rt: &R, body: Body, size: u32) -> io::Result<()> {

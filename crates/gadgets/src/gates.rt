@@ -50,3 +50,12 @@ pub const OPEN: &[Part] = &[
     BY_MAJORITY,
     Part::Last("(assert (not (= c{i+1} e{i})))\n"),
 ];
+
+/// The script of a family.
+pub fn parts_of(name: &str) -> Option<&'static [Part]> {
+    match name {
+        "adder-twice" => Some(TWICE),
+        "adder-twice-open" => Some(OPEN),
+        _ => None,
+    }
+}

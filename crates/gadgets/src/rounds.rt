@@ -86,3 +86,13 @@ pub const MIMC: &[Part] = &[
     ),
     Part::Once("(assert (not (= x{n} y{n})))\n"),
 ];
+
+/// The script of a family.
+pub fn parts_of(name: &str) -> Option<&'static [Part]> {
+    match name {
+        "rounds" => Some(PERMUTATION),
+        "rounds-open" => Some(OPEN),
+        "mimc" => Some(MIMC),
+        _ => None,
+    }
+}

@@ -43,11 +43,7 @@ const NAMES: [&str; 24] = [
 
 /// The power of 2, modulo 2^64.
 fn power_of_two(i: u32) -> u64 {
-    let mut power: u64 = 1;
-    for _ in 0..i.min(64) {
-        power = power.wrapping_mul(2);
-    }
-    power
+    if i < 64 { 1 << i } else { 0 }
 }
 
 /// The number that stands for a name.

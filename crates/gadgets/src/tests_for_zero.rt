@@ -91,3 +91,15 @@ pub const SQUARE: &[Part] = &[
     Part::Each(" (and (not (= x{i} y{i})) (not (= x{i} (ff.neg y{i}))))"),
     Part::Once("))\n"),
 ];
+
+/// The script of a family.
+pub fn parts_of(name: &str) -> Option<&'static [Part]> {
+    match name {
+        "zero" => Some(BIT),
+        "zero-open" => Some(OPEN),
+        "zero-twice" => Some(TWICE),
+        "inverse" => Some(INVERSE),
+        "square" => Some(SQUARE),
+        _ => None,
+    }
+}

@@ -182,3 +182,14 @@ pub const BYTES_OPEN: &[Part] = &[
     WORD_OF_BYTES,
     Part::Last("(assert (not (= a0 b{3n+i})))\n"),
 ];
+
+/// The script of a family.
+pub fn parts_of(name: &str) -> Option<&'static [Part]> {
+    match name {
+        "limbs" => Some(LIMBS),
+        "limbs-open" => Some(LIMBS_OPEN),
+        "bytes" => Some(BYTES),
+        "bytes-open" => Some(BYTES_OPEN),
+        _ => None,
+    }
+}
