@@ -1,5 +1,5 @@
-//! Factors of products beside a factor that is not 0, since an equality does not hold: where the products are equal, and the factors
-//! that are not 0, these are equal; where the product is 0, such a factor is.
+//! Factors of products beside a factor that is not 0, since an equality does not hold. Where two products are equal and so are
+//! those factors, the others are equal; where a product is 0, its other factor is.
 use crate::arithmetic::{inverse, negative, product};
 use crate::clash::Clash;
 use crate::classes::Time;
@@ -14,7 +14,8 @@ use std::alloc::AllocError;
 /// So many nodes of a class are asked whether they are not 0.
 const MOST_MEMBERS: usize = 16;
 
-/// Why the nodes of a class are not 0: one of them is a multiple of the difference of the sides of an equality that does not hold.
+/// Why the nodes of a class are not 0: one of them is a multiple of the difference of the sides of an equality that does not
+/// hold.
 #[derive(Clone, Copy)]
 pub struct Unlike {
     pub equality: NodeId,
@@ -183,8 +184,8 @@ impl Closure<'_> {
         Ok(Some((factors.scale, classes)))
     }
 
-    /// Sees whether a factor of a product of two is one of another product, where the other factor is not 0. Says whether its class
-    /// has changed.
+    /// Sees whether a factor of a product of two is one of another product, where the other factor is not 0. Says whether its
+    /// class has changed.
     fn match_cofactor(&mut self, node: NodeId, pivot: u32, unit: u32) -> Result<bool, AllocError> {
         let time = self.classes.now();
         let Some(form) = self.cofactor_at(node, pivot, time)? else {
@@ -317,10 +318,10 @@ impl Closure<'_> {
         Ok((scale, open.first().copied()))
     }
 
-    /// Appends what a factor a of a product m is, less a factor b of another product n, or 0, where the other factor u of both is k
-    /// times the difference of the sides of an equality that does not hold, and w the inverse of that: w/k times m - n and what the
-    /// factors differ by, less (a - b)*w/k times what u differs from the multiple by. What is left of a - b is its product with the
-    /// equality's generator.
+    /// Appends what a factor a of a product m is, less a factor b of another product n, or 0. The other factor u of both is k times
+    /// the difference of the sides of an equality that does not hold, and w is the inverse of that: a - b is w/k times m - n and
+    /// what the factors differ by, less (a - b)*w/k times what u differs from the multiple by, less (a - b) times the equality's
+    /// generator, which the caller takes.
     pub fn append_cofactors(
         &self,
         one: Solved,

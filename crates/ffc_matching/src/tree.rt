@@ -210,8 +210,8 @@ impl Tree<'_> {
             .saturating_add(self.generator_of(equality))
     }
 
-    /// Takes the generator of an equality that does not hold times the difference of the ends of an edge from a sum. Says whether it
-    /// could.
+    /// Takes the generator of an equality that does not hold times the difference of the ends of an edge from a sum. Says
+    /// whether it could.
     fn take_generator(
         &mut self,
         sum: &mut Sum,
