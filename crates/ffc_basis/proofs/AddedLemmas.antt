@@ -11,8 +11,8 @@ use Rattle.ffc_ring.proofs.PolynomialLemmas.{weighted, one_at, written-is_weight
 use Rattle.ffc_mono.specs.MonomialOrder.{IsMonomialOrder}
 use Rattle.ffc_mono.specs.Leading.{IsLeading}
 use Rattle.ffc_mono.proofs.LeadingLemmas.{one_leading}
-use Rattle.ffc_basis.specs.declared.line.Line.{Line}
-use Rattle.ffc_basis.specs.Lines.{Parts, polys_of, combination, AreBefore, IsLine, AreLinesFrom, AreLines, AreLists, AreTermLists, IsAddedTo}
+use Rattle.ffc_line.specs.declared.line.Line.{Line}
+use Rattle.ffc_line.specs.Lines.{Parts, polys_of, combination, AreBefore, IsLine, AreLinesFrom, AreLines, AreLists, AreTermLists, IsAddedTo}
 use Rattle.ffc_basis.specs.Reduction.{IsIrreducible, IsReduced, IsAtMostLead, ArePartsAtMost}
 use Rattle.ffc_basis.specs.Remainders.{IsRemainder}
 use Rattle.ffc_basis.specs.Completion.{IsSPolynomial, ReducesToZero, IsPairClosed, IsPairOver}

@@ -18,8 +18,8 @@ use Rattle.ffc_ring.proofs.PolynomialLemmas.{coefficient-difference, monomial_of
 use Rattle.ffc_mono.specs.Graded.{IsGradedIn}
 use Rattle.ffc_mono.specs.MonomialOrder.{IsMonomialOrder}
 use Rattle.ffc_mono.proofs.LeadingLemmas.{greater_trans, not_itself}
-use Rattle.ffc_basis.specs.declared.line.Line.{Line}
-use Rattle.ffc_basis.specs.Lines.{polys_of}
+use Rattle.ffc_line.specs.declared.line.Line.{Line}
+use Rattle.ffc_line.specs.Lines.{polys_of}
 use Rattle.ffc_basis.specs.Reduction.{IsIrreducible, AreIrreducible, IsCancelled}
 use Rattle.ffc_basis.specs.Remainders.{AreAbove, AreCancelled, IsCounted}
 use Rattle.ffc_basis.specs.Completion.{IsSPolynomial}

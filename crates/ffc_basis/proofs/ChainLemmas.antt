@@ -21,7 +21,7 @@ use Rattle.ffc_basis.specs.declared.chain.Top.{Top}
 use Rattle.ffc_basis.specs.declared.leads.Whole.{Whole}
 use Rattle.ffc_basis.specs.Chains.{IsUnder, IsTop, IsWholeOfPair, IsNoHigher}
 use Rattle.ffc_basis.specs.Completion.{IsSPolynomial, ReducesToZero, IsPairClosed}
-use Rattle.ffc_basis.specs.Lines.{Parts, AreLists, combination, AreBefore, AreTermLists, HasMonomial}
+use Rattle.ffc_line.specs.Lines.{Parts, AreLists, combination, AreBefore, AreTermLists, HasMonomial}
 use Rattle.ffc_basis.specs.PairTable.{AreBothClosed}
 use Rattle.ffc_basis.specs.Reduction.{ArePartsAtMost}
 use Rattle.ffc_basis.proofs.OrderedTerms.{AreTerms-scaled}

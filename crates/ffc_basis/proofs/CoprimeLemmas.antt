@@ -20,7 +20,7 @@ use Rattle.ffc_poly.specs.Ordered.{IsOrdered}
 use Rattle.ffc_basis.proofs.OrderedTerms.{AreTerms-ordered, coefficient-none, IsLeading-first, AreTerms-scaled}
 use Rattle.ffc_basis.proofs.PairLemmas.{dropped_mod, some_of_scaled, at_most_same, nothing_leads_none}
 use Rattle.ffc_basis.specs.Completion.{ReducesToZero, IsPairClosed}
-use Rattle.ffc_basis.specs.Lines.{Parts, combination}
+use Rattle.ffc_line.specs.Lines.{Parts, combination}
 use Rattle.ffc_basis.specs.Reduction.{IsAtMostLead}
 
 -- ---- numbers modulo p

@@ -11,11 +11,11 @@ use Rattle.ffc_mono.specs.Leading.{IsLeading}
 use Rattle.ffc_mono.proofs.LeadingLemmas.{one_leading}
 use Rattle.ffc_poly.specs.Ordered.{IsOrdered}
 use Rattle.ffc_basis.specs.declared.index.Index.{Index}
-use Rattle.ffc_basis.specs.declared.line.Line.{Line}
+use Rattle.ffc_line.specs.declared.line.Line.{Line}
 use Rattle.ffc_basis.specs.declared.pair.PairRecord.{PairRecord}
 use Rattle.ffc_basis.specs.Dividing.{LeadsDivisor, LeadsNoDivisor}
 use Rattle.ffc_basis.specs.Indexing.{is_one, begins_with, has_variable, is_led, led_by, first_of, listed, IsIndexOf}
-use Rattle.ffc_basis.specs.Lines.{polys_of}
+use Rattle.ffc_line.specs.Lines.{polys_of}
 use Rattle.ffc_basis.specs.PairTable.{AreBothClosed, AreNeedless, HasRecord}
 use Rattle.ffc_basis.specs.Reduction.{IsIrreducible}
 use Rattle.ffc_basis.proofs.IndexLemmas.{led_by-has, led_by-below, led_by-led}

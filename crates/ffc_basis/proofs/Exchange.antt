@@ -17,7 +17,7 @@ use Rattle.ffc_ring.proofs.PolynomialLemmas.{weighted, one_at, sum_alike, times_
 use Rattle.ffc_mono.specs.MonomialOrder.{IsMonomialOrder}
 use Rattle.ffc_mono.specs.Leading.{IsLeading}
 use Rattle.ffc_mono.proofs.LeadingLemmas.{one_leading, leading_of_multiple, cancelled_step}
-use Rattle.ffc_basis.specs.Lines.{AreLists}
+use Rattle.ffc_line.specs.Lines.{AreLists}
 use Rattle.ffc_basis.specs.Representations.{IsPairRepresented}
 use Rattle.ffc_basis.proofs.Greatest.{IsUpTo, compared, below_trans}
 use Rattle.ffc_basis.proofs.Each.{each_both}

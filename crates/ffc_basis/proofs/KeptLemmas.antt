@@ -7,8 +7,8 @@ use Rattle.std.specs.declared.cmp.Ordering.{Ordering}
 use Rattle.ffc_ring.specs.Monomial.{Monomial}
 use Rattle.ffc_ring.specs.Polynomial.{Terms, SamePolynomial, term_product}
 use Rattle.ffc_dense.specs.Tables.{Multiple, AreMultiplesOf, IsLineOf}
-use Rattle.ffc_basis.specs.declared.line.Line.{Line}
-use Rattle.ffc_basis.specs.Lines.{polys_of}
+use Rattle.ffc_line.specs.declared.line.Line.{Line}
+use Rattle.ffc_line.specs.Lines.{polys_of}
 use Rattle.ffc_basis.specs.Completed.{IsFront}
 use Rattle.ffc_basis.proofs.AddedLemmas.{polys-append_all}
 use Rattle.ffc_basis.proofs.Lists.{length-polys, poly_at}

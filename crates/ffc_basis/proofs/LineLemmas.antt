@@ -1,8 +1,8 @@
 -- Lines that are added and dropped keep what each line is.
 use Rattle.std.proofs.Common.{◌≡◌, ℕ, zero, suc, ◌+◌, ◌<◌, List, [], ◌∷◌, ◌++◌, length, get_or, take, refl, sym, ap, ap₂, ◌∙◌, subst, arith, append_assoc, add-one}
 use Rattle.ffc_ring.specs.Polynomial.{Terms, coefficient, product}
-use Rattle.ffc_basis.specs.declared.line.Line.{Line}
-use Rattle.ffc_basis.specs.Lines.{Parts, polys_of, combination, AreBefore, AreLinesFrom, AreLines, AreGenerators, IsAddedTo}
+use Rattle.ffc_line.specs.declared.line.Line.{Line}
+use Rattle.ffc_line.specs.Lines.{Parts, polys_of, combination, AreBefore, AreLinesFrom, AreLines, AreGenerators, IsAddedTo}
 
 -- a combination of the first lines is about these alone
 combination-alike : (gs hs : List Terms) (n : ℕ) (ts : Parts) → AreBefore n ts → ((j : ℕ) → j < n → get_or gs j [] ≡ get_or hs j []) → combination gs ts ≡ combination hs ts

@@ -2,9 +2,9 @@
 use Rattle.std.proofs.Common.{◌≡◌, ◌≢◌, ◌⊎◌, ℕ, zero, suc, ◌<◌, List, [], ◌∷◌, ◌++◌, length, get_or, take, refl, ap, inl, inr, arith, Option, Some, None, IfSome, Result, Ok, Err, OnOk, OnErr, IfOk, IsErrOf}
 use Rattle.ffc_poly.specs.declared.stop.PolyStop.{PolyStop}
 use Rattle.ffc_poly.specs.declared.stop.PolyStop.TheVariants.{DegreeOver, TermsOver, Memory}
-use Rattle.ffc_basis.specs.declared.line.Line.{Line}
+use Rattle.ffc_line.specs.declared.line.Line.{Line}
 use Rattle.ffc_ring.specs.Polynomial.{Terms, AreTerms}
-use Rattle.ffc_basis.specs.Lines.{polys_of, AreLists}
+use Rattle.ffc_line.specs.Lines.{polys_of, AreLists}
 
 -- within the list the default does not matter
 pub any_default : {A : Type 0} (xs : List A) (i : ℕ) (d e : A) → i < length xs → get_or xs i d ≡ get_or xs i e

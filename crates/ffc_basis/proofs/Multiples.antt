@@ -12,7 +12,7 @@ use Rattle.ffc_ring.proofs.PolynomialLemmas.{weighted, one_at, written-is_weight
 use Rattle.ffc_mono.specs.MonomialOrder.{IsMonomialOrder}
 use Rattle.ffc_mono.specs.Leading.{IsLeading}
 use Rattle.ffc_mono.proofs.LeadingLemmas.{leading_at_most}
-use Rattle.ffc_basis.specs.Lines.{Parts, combination, AreBefore, AreTermLists, AreLists, HasMonomial}
+use Rattle.ffc_line.specs.Lines.{Parts, combination, AreBefore, AreTermLists, AreLists, HasMonomial}
 use Rattle.ffc_basis.proofs.OrderedTerms.{coefficient-none}
 use Rattle.ffc_basis.proofs.PartLemmas.{some_of_sum}
 use Rattle.ffc_basis.proofs.Greatest.{IsUpTo, below_trans}

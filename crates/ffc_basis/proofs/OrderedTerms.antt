@@ -10,7 +10,7 @@ use Rattle.ffc_mono.specs.MonomialOrder.{IsMonomialOrder}
 use Rattle.ffc_mono.specs.Leading.{IsLeading}
 use Rattle.ffc_mono.proofs.LeadingLemmas.{not_itself}
 use Rattle.ffc_poly.specs.Ordered.{IsAbove, IsOrdered}
-use Rattle.ffc_basis.specs.Lines.{Parts, AreTermLists, ArePolynomials}
+use Rattle.ffc_line.specs.Lines.{Parts, AreTermLists, ArePolynomials}
 
 pub AreTerms-ordered : (p : ℕ) (cmp : Monomial → Monomial → Ordering) (limit : ℕ) (ts : Terms) → IsOrdered p cmp limit ts → AreTerms ts
 AreTerms-ordered p cmp limit [] h = tt

@@ -17,7 +17,7 @@ use Rattle.ffc_mono.proofs.LeadingLemmas.{one_leading}
 use Rattle.ffc_poly.specs.Ordered.{IsOrdered}
 use Rattle.ffc_basis.proofs.OrderedTerms.{AreTerms-ordered, AreTerms-scaled}
 use Rattle.ffc_basis.specs.Completion.{IsSPolynomial, ReducesToZero, IsPairClosed}
-use Rattle.ffc_basis.specs.Lines.{Parts, combination, AreBefore, AreTermLists, HasMonomial}
+use Rattle.ffc_line.specs.Lines.{Parts, combination, AreBefore, AreTermLists, HasMonomial}
 use Rattle.ffc_basis.specs.Reduction.{IsAtMostLead}
 
 -- ---- numbers modulo p

@@ -15,7 +15,7 @@ use Rattle.ffc_basis.specs.declared.pair.PairState.{PairState}
 use Rattle.ffc_basis.specs.declared.pair.PairState.TheVariants.{Pending, Closed, Represented, Over}
 use Rattle.ffc_basis.specs.Completion.{IsPairClosed, IsPairOver, AreOver, IsListed}
 use Rattle.ffc_basis.specs.Completed.{IsCompletion}
-use Rattle.ffc_basis.specs.Lines.{AreLists}
+use Rattle.ffc_line.specs.Lines.{AreLists}
 use Rattle.ffc_basis.specs.PairTable.{AreBothClosed, AreNeedless, IsState, IsRecord, AreRecords, HasRecord, ArePairs, AreSettled, AreKnown, AreDone, IsRepresentedState, HasRepresented, settled_one, known_by, forgotten, with_over, over_of, answer_of}
 use Rattle.ffc_basis.proofs.LineLemmas.{taken_more}
 use Rattle.ffc_basis.proofs.Lists.{any_default, lists_take}

@@ -7,7 +7,7 @@ use Rattle.ffc_ring.specs.Monomial.{Monomial}
 use Rattle.ffc_ring.specs.Polynomial.{Terms, written, coefficient, SamePolynomial, product, term_product}
 use Rattle.ffc_ring.proofs.PolynomialLemmas.{cases_monomial, written-append, coefficient-append, sum_alike, same_sums, same_products, product-append}
 use Rattle.ffc_basis.proofs.OrderedTerms.{coefficient-none, coefficient-other}
-use Rattle.ffc_basis.specs.Lines.{Parts, combination, AreBefore, IsLineOfNone, HasMonomial}
+use Rattle.ffc_line.specs.Lines.{Parts, combination, AreBefore, IsLineOfNone, HasMonomial}
 use Rattle.ffc_basis.specs.Records.{AreOfDifferentLines}
 use Rattle.ffc_basis.specs.Reduction.{IsRecorded, IsAddedAt}
 

@@ -2,7 +2,7 @@
 use Rattle.std.proofs.Common.{◌≡◌, ℕ, ◌<◌, [], ◌∷◌, ◌++◌, length, get_or, Option, Some, None, IfSome, MatchOption, refl, ap, arith, length-append}
 use Rattle.ffc_ring.specs.Monomial.{Monomial}
 use Rattle.ffc_ring.specs.Polynomial.{Terms, PassesTerms}
-use Rattle.ffc_basis.specs.Lines.{Parts, HasPart}
+use Rattle.ffc_line.specs.Lines.{Parts, HasPart}
 use Rattle.ffc_basis.proofs.TermCounts.{few_terms_pass_no_limit}
 
 -- the part at a place, with one term more, passes the limit

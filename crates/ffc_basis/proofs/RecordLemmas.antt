@@ -5,7 +5,7 @@ use Rattle.ffc_ring.specs.Monomial.{Monomial, IsMonomial}
 use Rattle.ffc_ring.specs.Polynomial.{Terms, AreTerms, written, coefficient, SamePolynomial, scaled}
 use Rattle.ffc_ring.proofs.PolynomialLemmas.{written-scaled, same_sums}
 use Rattle.ffc_poly.specs.Ordered.{residues}
-use Rattle.ffc_basis.specs.Lines.{Parts, combination, AreTermLists, IsPolynomial, IsLineOfNone, ArePolynomials, HasMonomial, HasPart}
+use Rattle.ffc_line.specs.Lines.{Parts, combination, AreTermLists, IsPolynomial, IsLineOfNone, ArePolynomials, HasMonomial, HasPart}
 use Rattle.ffc_basis.specs.Records.{AreShort, AreOfDifferentLines}
 use Rattle.ffc_basis.specs.Reduction.{IsReduction, IsStopped, PassesLimit}
 use Rattle.ffc_basis.specs.Remainders.{IsRecordedReduction}

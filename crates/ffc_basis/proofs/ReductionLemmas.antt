@@ -18,7 +18,7 @@ use Rattle.ffc_mono.specs.Graded.{IsGradedIn}
 use Rattle.ffc_mono.proofs.LeadingLemmas.{greater_trans, not_itself, leading_at_most, leading_of_multiple}
 use Rattle.ffc_poly.specs.Ordered.{IsAbove, IsOrdered}
 use Rattle.ffc_basis.proofs.OrderedTerms.{AreTerms-ordered, IsOrdered-at, coefficient-none, coefficient-other, coefficient-above, coefficient-first, first_nonzero, IsLeading-first}
-use Rattle.ffc_basis.specs.Lines.{Parts, combination, IsPolynomial}
+use Rattle.ffc_line.specs.Lines.{Parts, combination, IsPolynomial}
 use Rattle.ffc_basis.specs.Records.{AreOfDifferentLines}
 use Rattle.ffc_basis.specs.Remainders.{IsRemainder, IsRecordedReduction}
 use Rattle.ffc_basis.specs.Units.{AreInVariables, IsUpTo}

@@ -16,7 +16,7 @@ use Rattle.ffc_mono.proofs.LeadingLemmas.{one_leading}
 use Rattle.ffc_basis.specs.Chains.{IsLeadLcm}
 use Rattle.ffc_basis.specs.Completion.{IsSPolynomial, IsPairClosed}
 use Rattle.ffc_basis.specs.Dividing.{LeadsDivisor}
-use Rattle.ffc_basis.specs.Lines.{Parts, AreLists, combination, AreTermLists}
+use Rattle.ffc_line.specs.Lines.{Parts, AreLists, combination, AreTermLists}
 use Rattle.ffc_basis.specs.PairTable.{AreBothClosed}
 use Rattle.ffc_basis.specs.Representations.{ArePartsBelow, IsSumBelow, IsPairRepresented, AreBothRepresented}
 use Rattle.ffc_basis.proofs.ChainLemmas.{raised, combination-raised, AreBefore-raised, AreTermLists-raised, HasMonomial-raised, AreTerms-difference, AreBefore-append, AreTermLists-append, HasMonomial-append, made_of, chain_sum, inverse_of}

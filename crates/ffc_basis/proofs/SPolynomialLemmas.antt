@@ -11,7 +11,7 @@ use Rattle.ffc_poly.specs.declared.stop.PolyStop.{PolyStop}
 use Rattle.ffc_poly.specs.declared.stop.PolyStop.TheVariants.{DegreeOver, TermsOver, Memory}
 use Rattle.ffc_basis.proofs.LineLemmas.{taken_more}
 use Rattle.ffc_basis.proofs.OrderedTerms.{coefficient-none, coefficient-other, PassesTerms-same}
-use Rattle.ffc_basis.specs.Lines.{Parts, combination, AreBefore}
+use Rattle.ffc_line.specs.Lines.{Parts, combination, AreBefore}
 use Rattle.ffc_basis.specs.Reduction.{IsRecorded}
 use Rattle.ffc_basis.specs.Completion.{IsSPolynomial, PassesSPolynomial}
 use Rattle.ffc_basis.specs.Outcomes.{PassesDifference, AreScaled, AreSubtracted}

@@ -15,7 +15,7 @@ use Rattle.ffc_mono.specs.MonomialOrder.{IsMonomialOrder}
 use Rattle.ffc_mono.specs.Leading.{IsLeading}
 use Rattle.ffc_mono.proofs.LeadingLemmas.{greater_trans, not_itself, one_leading}
 use Rattle.ffc_poly.specs.Ordered.{IsAbove, IsOrdered, residues}
-use Rattle.ffc_basis.specs.Lines.{Parts, combination, IsPolynomial}
+use Rattle.ffc_line.specs.Lines.{Parts, combination, IsPolynomial}
 use Rattle.ffc_basis.specs.Records.{AreOfDifferentLines}
 use Rattle.ffc_basis.specs.Reduction.{IsIrreducible, IsReduced, IsStep, AreIrreducible, IsRecorded}
 use Rattle.ffc_basis.specs.Remainders.{IsRemainder, IsRecordedReduction, IsCounted, IsUnderway, Continues, StaysBounded, IsSplit, IsStepOfLead}

@@ -19,7 +19,7 @@ use Rattle.ffc_ring.proofs.PolynomialLemmas.{weighted, one_at, sum_alike, times_
 use Rattle.ffc_mono.specs.MonomialOrder.{IsMonomialOrder}
 use Rattle.ffc_mono.specs.Leading.{IsLeading}
 use Rattle.ffc_mono.proofs.LeadingLemmas.{not_itself, leading_at_most, one_leading, greater_trans}
-use Rattle.ffc_basis.specs.Lines.{Parts, combination, AreBefore, AreTermLists, AreLists}
+use Rattle.ffc_line.specs.Lines.{Parts, combination, AreBefore, AreTermLists, AreLists}
 use Rattle.ffc_basis.specs.Completion.{IsSPolynomial, IsClosed, IsPairClosed, ReducesToZero}
 use Rattle.ffc_basis.specs.Dividing.{LeadsDivisor}
 use Rattle.ffc_basis.specs.Representations.{AreAllRepresented}

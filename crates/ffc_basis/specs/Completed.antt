@@ -5,12 +5,12 @@ use Rattle.ffc_base.specs.Metering.{Spending, total}
 use Rattle.ffc_ring.specs.Monomial.{Monomial}
 use Rattle.ffc_ring.specs.Polynomial.{Terms}
 use Rattle.ffc_mono.specs.Leading.{IsLeading}
-use Rattle.ffc_basis.specs.declared.line.Line.{Line}
+use Rattle.ffc_line.specs.declared.line.Line.{Line}
 use Rattle.ffc_basis.specs.declared.completion.Completion.{Completion as Answer}
 use Rattle.ffc_basis.specs.declared.completion.Completion.TheVariants.{Constant, Closed, SetAside}
 use Rattle.ffc_basis.specs.declared.completion.Progress.{Progress}
 use Rattle.ffc_basis.specs.declared.completion.Progress.TheVariants.{Done, Left}
-use Rattle.ffc_basis.specs.Lines.{polys_of}
+use Rattle.ffc_line.specs.Lines.{polys_of}
 use Rattle.ffc_basis.specs.Reduction.{IsIrreducible}
 use Rattle.ffc_basis.specs.Completion.{IsClosed, IsSetAside, IsConstantLine}
 

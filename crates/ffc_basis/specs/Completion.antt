@@ -7,7 +7,7 @@ use Rattle.ffc_ring.specs.Monomial.{Monomial, mono_lcm, mono_quotient}
 use Rattle.ffc_ring.specs.Polynomial.{Terms, SamePolynomial, term_product, difference, PassesDegree, PassesTerms}
 use Rattle.ffc_mono.specs.Leading.{IsLeading}
 use Rattle.ffc_poly.specs.Ordered.{IsConstant}
-use Rattle.ffc_basis.specs.Lines.{Parts, combination, AreBefore, AreTermLists}
+use Rattle.ffc_line.specs.Lines.{Parts, combination, AreBefore, AreTermLists}
 use Rattle.ffc_basis.specs.Reduction.{ArePartsAtMost, IsReduction, IsStopped}
 
 -- Both polynomials are multiplied by terms so that their leading monomials become their least common multiple with the

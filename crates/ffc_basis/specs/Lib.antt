@@ -3,7 +3,6 @@ pub mod Completed
 pub mod Completion
 pub mod Dividing
 pub mod Indexing
-pub mod Lines
 pub mod Outcomes
 pub mod PairTable
 pub mod Records

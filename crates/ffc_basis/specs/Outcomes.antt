@@ -5,11 +5,11 @@ use Rattle.ffc_field.specs.Modular.{mul_mod, neg_mod}
 use Rattle.ffc_ring.specs.Monomial.{Monomial}
 use Rattle.ffc_ring.specs.Polynomial.{Terms, SamePolynomial, term_product, scaled, difference, PassesDegree, PassesTerms}
 use Rattle.ffc_mono.specs.Leading.{IsLeading}
-use Rattle.ffc_basis.specs.declared.line.Line.{Line}
+use Rattle.ffc_line.specs.declared.line.Line.{Line}
 use Rattle.ffc_basis.specs.declared.spoly.Outcome.{Outcome}
 use Rattle.ffc_basis.specs.declared.spoly.Outcome.TheVariants.{Closed, Over, Added}
 use Rattle.ffc_basis.specs.declared.spoly.SPolynomial.{SPolynomial}
-use Rattle.ffc_basis.specs.Lines.{Parts, combination, AreBefore, IsLine}
+use Rattle.ffc_line.specs.Lines.{Parts, combination, AreBefore, IsLine}
 use Rattle.ffc_basis.specs.Completion.{IsSPolynomial, IsPairOver}
 use Rattle.ffc_basis.specs.Completed.{IsAddedLine}
 use Rattle.ffc_basis.specs.PairTable.{AreBothClosed}

@@ -10,7 +10,7 @@ use Rattle.ffc_basis.specs.declared.pair.PairRecord.{PairRecord}
 use Rattle.ffc_basis.specs.declared.pair.PairState.{PairState}
 use Rattle.ffc_basis.specs.declared.pair.PairState.TheVariants.{Pending, Closed, Represented, Over}
 use Rattle.ffc_basis.specs.Completion.{IsPairClosed, IsPairOver}
-use Rattle.ffc_basis.specs.Lines.{AreLists}
+use Rattle.ffc_line.specs.Lines.{AreLists}
 use Rattle.ffc_basis.specs.Representations.{AreBothRepresented}
 
 -- both S-polynomials of two lines reduce to zero

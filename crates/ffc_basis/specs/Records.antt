@@ -1,7 +1,7 @@
 -- The record of a reduction by lines: what each line was multiplied by, as terms in the order of the steps.
 use Rattle.std.specs.Prelude.{◌≤◌, [], ◌∷◌, length}
 use Rattle.ffc_ring.specs.Polynomial.{AreTerms}
-use Rattle.ffc_basis.specs.Lines.{Parts, IsLineOfNone}
+use Rattle.ffc_line.specs.Lines.{Parts, IsLineOfNone}
 
 -- each part is a list of at most as many terms as a polynomial may have
 abbrev pub AreShort : Parts → Type 0

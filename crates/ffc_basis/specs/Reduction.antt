@@ -9,7 +9,7 @@ use Rattle.ffc_ring.specs.Polynomial.{Terms, coefficient, SamePolynomial, term_p
 use Rattle.ffc_mono.specs.Leading.{IsLeading}
 use Rattle.ffc_mono.specs.Graded.{IsGradedIn}
 use Rattle.ffc_basis.specs.Units.{AreInVariables, IsUpTo}
-use Rattle.ffc_basis.specs.Lines.{Parts, combination, AreBefore, IsPolynomial, ArePolynomials, HasMonomial, HasPart}
+use Rattle.ffc_line.specs.Lines.{Parts, combination, AreBefore, IsPolynomial, ArePolynomials, HasMonomial, HasPart}
 
 -- no leading monomial of the first k lines divides the monomial
 abbrev pub IsIrreducibleBefore : ℕ → (Monomial → Monomial → Ordering) → List Terms → Monomial → ℕ → Type 0

@@ -10,7 +10,7 @@ use Rattle.ffc_mono.specs.Leading.{IsLeading}
 use Rattle.ffc_mono.specs.Graded.{IsGradedIn}
 use Rattle.ffc_poly.specs.Ordered.{residues}
 use Rattle.ffc_basis.specs.declared.remainder.Remainder.{Remainder}
-use Rattle.ffc_basis.specs.Lines.{Parts, combination, AreBefore, IsPolynomial}
+use Rattle.ffc_line.specs.Lines.{Parts, combination, AreBefore, IsPolynomial}
 use Rattle.ffc_basis.specs.Records.{AreOfDifferentLines}
 use Rattle.ffc_basis.specs.Reduction.{IsIrreducible, IsAtMostLead, ArePartsAtMost, IsStep}
 use Rattle.ffc_basis.specs.Units.{TakesReductions, AreInVariables, IsUpTo, IsReductionBound}

@@ -7,7 +7,7 @@ use Rattle.ffc_ring.specs.Monomial.{Monomial, mono_mul, mono_lcm}
 use Rattle.ffc_ring.specs.Polynomial.{Terms, SamePolynomial}
 use Rattle.ffc_mono.specs.Leading.{IsLeading}
 use Rattle.ffc_basis.specs.Completion.{IsSPolynomial}
-use Rattle.ffc_basis.specs.Lines.{Parts, combination, AreBefore, AreTermLists, HasMonomial}
+use Rattle.ffc_line.specs.Lines.{Parts, combination, AreBefore, AreTermLists, HasMonomial}
 
 -- each monomial of a part times its line's leading monomial is below this monomial
 abbrev pub ArePartsBelow : ℕ → (Monomial → Monomial → Ordering) → List Terms → Monomial → Parts → Type 0

@@ -6,18 +6,18 @@ ghost use Rattle.ffc_basis.specs.Completion.{ReducesToZero};
 ghost use Rattle.ffc_basis.specs.Completed.{IsFront, IsCompletion, IsProgress, HasTaken};
 ghost use Rattle.ffc_basis.specs.Units.{TakesReductions, IsReductionBound, IsCompletionBound};
 ghost use Rattle.ffc_basis.specs.Indexing.{IsIndexOf};
-ghost use Rattle.ffc_basis.specs.Lines.{polys_of, combination, AreBefore, AreLines, ArePolynomials, AreGenerators};
-ghost use Rattle.ffc_basis.specs.Lines.{AreLists, IsAddedTo};
+ghost use Rattle.ffc_line.specs.Lines.{polys_of, combination, AreBefore, AreLines, ArePolynomials, AreGenerators};
+ghost use Rattle.ffc_line.specs.Lines.{AreLists, IsAddedTo};
 ghost use Rattle.ffc_basis.specs.Reduction.{ArePartsAtMost, IsReduced, IsStopped};
 
 use crate::completion::{Completion, Progress};
 use crate::index::{Index, push_line};
-use crate::line::Line;
 use crate::pairing::{Pairing, advance};
 use crate::reduction::{Reduced, reduce_by};
 use ffc_base::{Meter, Stop};
 use ffc_dense::Table;
 use ffc_field::Field;
+use ffc_line::Line;
 use ffc_mono::MonoOrder;
 use ffc_poly::Poly;
 use std::alloc::{AllocError, Global};
@@ -47,9 +47,9 @@ impl<F: Field, O: MonoOrder> Model for Basis<F, O> {
     ghost use Rattle.std.specs.Prelude.{List};
     ghost use Rattle.ffc_dense.specs.Tables.{AreMultiplesOf};
     ghost use Rattle.ffc_basis.specs.Indexing.{IsIndexOf};
-    ghost use Rattle.ffc_basis.specs.Lines.{AreLines, polys_of};
+    ghost use Rattle.ffc_line.specs.Lines.{AreLines, polys_of};
     ghost use Rattle.ffc_basis.specs.PairTable.{ArePairs, AreFew, seconds};
-    ghost use Rattle.ffc_basis.specs.declared.line.Line.{Line};
+    ghost use Rattle.ffc_line.specs.declared.line.Line.{Line};
 
     ghost Value = { List (Line F O) };
 

@@ -11,18 +11,18 @@ ghost use Rattle.std.specs.Prelude.{◌<◌, [], length, get_or, IsTrue, IfOk, I
 ghost use Rattle.std.specs.Bool.{OnFalse};
 ghost use Rattle.ffc_basis.specs.Chains.{IsRaised, AreApart, IsUnder, IsLeadLcm, IsTop};
 ghost use Rattle.ffc_basis.specs.Indexing.{IsIndexOf};
-ghost use Rattle.ffc_basis.specs.Lines.{polys_of, AreLists};
+ghost use Rattle.ffc_line.specs.Lines.{polys_of, AreLists};
 ghost use Rattle.ffc_basis.specs.PairTable.{AreRecords, AreBothClosed};
 
 use crate::dividing::divisors;
 use crate::index::Index;
 use crate::leads::follows_by_leads;
-use crate::line::Line;
 use crate::pair::PairRecord;
 use crate::pairing::is_needed;
 use crate::reduction::past_limit;
 use crate::spoly::lcm_of;
 use ffc_field::Field;
+use ffc_line::Line;
 use ffc_mono::{Mono, MonoOrder, MonoStop};
 use ffc_poly::Poly;
 use std::alloc::{AllocError, Global};

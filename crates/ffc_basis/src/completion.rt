@@ -1,6 +1,6 @@
 //! How far a basis was completed.
-use crate::line::LineId;
 use crate::pair::Pairs;
+use ffc_line::LineId;
 
 /// What a completed basis is.
 #[derive(Debug, Drop)]

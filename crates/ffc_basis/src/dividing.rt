@@ -2,12 +2,12 @@
 ghost use Rattle.std.specs.Prelude.{◌≡◌, ◌<◌, ◌⊎◌, length, All, Some, None, IfOk, IfSome, IfNone, OnOk};
 ghost use Rattle.ffc_basis.specs.Dividing.{LeadsDivisor, LeadsNoDivisor};
 ghost use Rattle.ffc_basis.specs.Indexing.{IsIndexOf};
-ghost use Rattle.ffc_basis.specs.Lines.{polys_of};
+ghost use Rattle.ffc_line.specs.Lines.{polys_of};
 ghost use Rattle.ffc_basis.specs.Reduction.{IsIrreducible};
 
 use crate::index::Index;
-use crate::line::Line;
 use ffc_field::Field;
+use ffc_line::Line;
 use ffc_mono::{MonoOrder, MonoRef};
 use std::alloc::{AllocError, Global};
 

@@ -7,10 +7,10 @@ ghost use Rattle.ffc_ring.specs.Monomial.{Monomial, IsMonomial, Divides};
 ghost use Rattle.ffc_ring.specs.Polynomial.{Terms};
 ghost use Rattle.ffc_basis.specs.Indexing.{IsIndexOf, listed, has_variable, is_one, without_last};
 ghost use Rattle.ffc_basis.specs.Indexing.{first_or, other_than};
-ghost use Rattle.ffc_basis.specs.Lines.{polys_of};
+ghost use Rattle.ffc_line.specs.Lines.{polys_of};
 
-use crate::line::Line;
 use ffc_field::Field;
+use ffc_line::Line;
 use ffc_mono::{MonoOrder, MonoRef};
 use ffc_poly::Poly;
 use std::alloc::{AllocError, Global};

@@ -8,7 +8,6 @@ mod dividing;
 mod index;
 mod leads;
 mod left;
-mod line;
 mod pair;
 mod pairing;
 mod queue;
@@ -20,6 +19,5 @@ mod spoly;
 
 pub use basis::Basis;
 pub use completion::{Completion, Progress};
-pub use line::{Line, LineId};
 pub use pair::Pairs;
 pub use reduction::Reduced;

@@ -4,7 +4,7 @@ ghost use Rattle.std.specs.Bool.{OnFalse};
 ghost use Rattle.ffc_basis.specs.PairTable.{settled_one, with_over, IsRepresentedState};
 ghost use Rattle.ffc_basis.specs.declared.pair.PairState.TheVariants as states;
 
-use crate::line::LineId;
+use ffc_line::LineId;
 use std::alloc::{AllocError, Global};
 use std::marker::Model;
 

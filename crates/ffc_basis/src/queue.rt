@@ -16,10 +16,10 @@ ghost use Rattle.std.specs.Prelude.{◌≡◌, ◌<◌, ◌⊎◌, IfOk, IfSome}
 ghost use Rattle.ffc_basis.specs.PairTable.{IsPendingAt};
 
 use crate::index::Index;
-use crate::line::Line;
 use crate::pair::PairRecord;
 use crate::represented::is_recorded;
 use ffc_field::Field;
+use ffc_line::Line;
 use ffc_mono::{Mono, MonoOrder, MonoRef, MonoStop};
 use std::alloc::{AllocError, Global};
 use std::collections::BinaryHeap;

@@ -5,14 +5,14 @@ ghost use Rattle.std.specs.Prelude.{◌≡◌, ◌<◌, ◌≤◌, [], ◌∷◌
 ghost use Rattle.std.specs.Prelude.{OnOk, OnErr, IsErrOf, IsTrue, MatchOption};
 ghost use Rattle.ffc_ring.specs.Polynomial.{Terms, AreTerms, SamePolynomial, PassesTerms, scaled};
 ghost use Rattle.ffc_poly.specs.Ordered.{residues};
-ghost use Rattle.ffc_basis.specs.Lines.{HasPart, IsLineOfNone, ArePolynomials};
+ghost use Rattle.ffc_line.specs.Lines.{HasPart, IsLineOfNone, ArePolynomials};
 ghost use Rattle.ffc_basis.specs.Outcomes.{AreScaled};
 ghost use Rattle.ffc_basis.specs.Reduction.{IsAddedAt, IsRecorded};
 ghost use Rattle.ffc_basis.specs.Records.{AreShort, AreOfDifferentLines};
 
-use crate::line::LineId;
 use crate::reduction::only_memory;
 use ffc_field::Field;
+use ffc_line::LineId;
 use ffc_mono::{Mono, MonoOrder};
 use ffc_poly::{Poly, PolyStop, TERM_LIMIT};
 use std::alloc::{AllocError, Global};

@@ -8,7 +8,7 @@ ghost use Rattle.ffc_ring.specs.Polynomial.{Terms, SamePolynomial, term_product,
 ghost use Rattle.ffc_mono.specs.Leading.{IsLeading};
 ghost use Rattle.ffc_dense.specs.Tables.{AreMultiplesOf, IsLineOf};
 ghost use Rattle.ffc_basis.specs.Indexing.{IsIndexOf};
-ghost use Rattle.ffc_basis.specs.Lines.{polys_of, IsLineOfNone};
+ghost use Rattle.ffc_line.specs.Lines.{polys_of, IsLineOfNone};
 ghost use Rattle.ffc_basis.specs.Records.{AreOfDifferentLines};
 ghost use Rattle.ffc_basis.specs.Reduction.{IsIrreducible, IsReduced, AreIrreducible, IsRecorded};
 ghost use Rattle.ffc_basis.specs.Remainders.{Continues, StaysBounded, IsSplit, IsStepOfLead, front_of, whole_of};
@@ -16,12 +16,12 @@ ghost use Rattle.ffc_basis.specs.Units.{TakesReductions};
 
 use crate::index::Index;
 use crate::left::{self, Left};
-use crate::line::Line;
 use crate::record::Record;
 use crate::reduction::{Step, only_memory, step_at};
 use ffc_base::{Meter, Stop, Unit};
 use ffc_dense::Table;
 use ffc_field::Field;
+use ffc_line::Line;
 use ffc_mono::{Mono, MonoOrder};
 use ffc_poly::{Poly, TERM_LIMIT};
 use std::alloc::{AllocError, Global};

@@ -6,19 +6,19 @@ ghost use Rattle.std.specs.Prelude.{◌<◌, [], All, length, get_or, IsTrue, If
 ghost use Rattle.ffc_basis.specs.Chains.{IsLeadLcm};
 ghost use Rattle.ffc_basis.specs.Dividing.{LeadsDivisor};
 ghost use Rattle.ffc_basis.specs.Indexing.{IsIndexOf};
-ghost use Rattle.ffc_basis.specs.Lines.{polys_of, AreLists};
+ghost use Rattle.ffc_line.specs.Lines.{polys_of, AreLists};
 ghost use Rattle.ffc_basis.specs.PairTable.{AreRecords, HasRepresented};
 ghost use Rattle.ffc_basis.specs.Representations.{AreBothRepresented};
 
 use crate::chain::place_of_pair;
 use crate::index::Index;
-use crate::line::Line;
 use crate::pair::PairRecord;
 use crate::pairing::is_needed;
 use crate::queue::turned;
 use crate::reduction::past_limit;
 use crate::spoly::lcm_of;
 use ffc_field::Field;
+use ffc_line::Line;
 use ffc_mono::{Mono, MonoOrder, MonoRef};
 use std::alloc::{AllocError, Global};
 

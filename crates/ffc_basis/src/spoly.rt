@@ -5,7 +5,7 @@ ghost use Rattle.ffc_ring.specs.Monomial.{degree, mono_lcm};
 ghost use Rattle.ffc_ring.specs.Polynomial.{SamePolynomial, scaled, term_product, difference};
 ghost use Rattle.ffc_dense.specs.Tables.{AreMultiplesOf};
 ghost use Rattle.ffc_basis.specs.Indexing.{IsIndexOf};
-ghost use Rattle.ffc_basis.specs.Lines.{polys_of};
+ghost use Rattle.ffc_line.specs.Lines.{polys_of};
 ghost use Rattle.ffc_basis.specs.Reduction.{IsRecorded, IsReduced, IsStopped};
 ghost use Rattle.ffc_basis.specs.Remainders.{IsRecordedReduction};
 ghost use Rattle.ffc_basis.specs.Completion.{PassesSPolynomial};
@@ -14,12 +14,12 @@ ghost use Rattle.ffc_basis.specs.Outcomes.{IsOutcome, IsSum, PassesDifference, A
 ghost use Rattle.ffc_basis.specs.Units.{TakesReductions, IsPairBound};
 
 use crate::index::Index;
-use crate::line::{Line, LineId};
 use crate::record::Record;
 use crate::reduction::{Recorded, Step, multiple_of, past_limit, reduce_recorded};
 use ffc_base::{Meter, Stop};
 use ffc_dense::Table;
 use ffc_field::Field;
+use ffc_line::{Line, LineId};
 use ffc_mono::{Mono, MonoOrder, MonoRef, MonoStop};
 use ffc_poly::{Poly, PolyStop};
 use std::alloc::{AllocError, Global};

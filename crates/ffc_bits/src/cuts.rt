@@ -1,7 +1,7 @@
 //! Cuts of gates: a few bits by which the output of a gate is said, through the gates between (Cong and Ding 1994).
 use crate::gates::{MOST_INPUTS, is_one, value_at, variables_of};
-use ffc_basis::Line;
 use ffc_field::Field;
+use ffc_line::Line;
 use ffc_mono::MonoOrder;
 use std::alloc::{AllocError, Global};
 use std::collections::BTreeMap;

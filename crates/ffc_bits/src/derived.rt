@@ -1,6 +1,6 @@
 //! Lines that no completion of the stack gives, with what they follow from.
-use ffc_basis::LineId;
 use ffc_field::Field;
+use ffc_line::LineId;
 use ffc_mono::MonoOrder;
 use ffc_poly::Poly;
 use std::alloc::{AllocError, Global};

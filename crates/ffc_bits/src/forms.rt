@@ -2,8 +2,8 @@
 use crate::derived::Source;
 use crate::integers::of_residue;
 use crate::known::{Known, Rule, Rules};
-use ffc_basis::Line;
 use ffc_field::Field;
+use ffc_line::Line;
 use ffc_mono::MonoOrder;
 use ffc_poly::Poly;
 use std::alloc::{AllocError, Global};

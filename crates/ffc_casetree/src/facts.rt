@@ -1,7 +1,7 @@
 //! What a tree is made of: polynomials that are 0 in the cases on which they rest.
-use ffc_basis::LineId;
 use ffc_bits::StepId;
 use ffc_cert::{CertLine, Multiple, Sequence, Term};
+use ffc_line::LineId;
 use std::alloc::{AllocError, Global};
 
 /// The number of a fact, in the order in which facts are recorded. A fact follows from earlier ones.

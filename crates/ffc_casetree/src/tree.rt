@@ -1,9 +1,9 @@
 //! The facts and the closed branches of a tree, as a search finds them.
 use crate::facts::{BitSum, Fact, FactId, NO_FACT, PowerChain, Shown};
 use crate::nodes::{Node, NodeId};
-use ffc_basis::LineId;
 use ffc_bits::{Source, StepId};
 use ffc_cert::{CertLine, Multiple, Sequence};
+use ffc_line::LineId;
 use std::alloc::{AllocError, Global};
 use std::collections::BTreeSet;
 

@@ -19,8 +19,8 @@ use Rattle.ffc_mono.specs.MonomialOrder.{IsMonomialOrder}
 use Rattle.ffc_mono.specs.Graded.{IsGraded}
 use Rattle.ffc_mono.specs.Leading.{IsLeading}
 use Rattle.ffc_poly.specs.Ordered.{IsOrdered, IsConstant}
-use Rattle.ffc_basis.specs.declared.line.Line.{Line}
-use Rattle.ffc_basis.specs.Lines.{Parts, polys_of, combination, AreBefore, AreLists, AreTermLists, AreLinesFrom, AreLines, AreGenerators}
+use Rattle.ffc_line.specs.declared.line.Line.{Line}
+use Rattle.ffc_line.specs.Lines.{Parts, polys_of, combination, AreBefore, AreLists, AreTermLists, AreLinesFrom, AreLines, AreGenerators}
 use Rattle.ffc_basis.specs.Reduction.{IsReduced, ArePartsAtMost}
 use Rattle.ffc_basis.specs.Completion.{IsClosed, IsSetAside, IsConstantLine}
 use Rattle.ffc_basis.specs.Completed.{AreAdded, IsFront}

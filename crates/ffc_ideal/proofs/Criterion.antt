@@ -10,7 +10,7 @@ use Rattle.ffc_ring.proofs.PolynomialLemmas.{written-at, monomial_of_coefficient
 use Rattle.ffc_mono.specs.MonomialOrder.{IsMonomialOrder}
 use Rattle.ffc_mono.specs.Leading.{IsLeading}
 use Rattle.ffc_mono.proofs.LeadingLemmas.{leading_at_most}
-use Rattle.ffc_basis.specs.Lines.{Parts, combination, AreBefore, AreTermLists, AreLists}
+use Rattle.ffc_line.specs.Lines.{Parts, combination, AreBefore, AreTermLists, AreLists}
 use Rattle.ffc_basis.specs.Completion.{IsClosed, IsConstantLine}
 use Rattle.ffc_basis.proofs.OrderedTerms.{coefficient-none, coefficient-other}
 use Rattle.ffc_basis.proofs.RepresentedLemmas.{closed_is_represented}

@@ -6,9 +6,9 @@ use Rattle.ffc_field.specs.Binomial.{choose}
 use Rattle.ffc_ring.specs.Monomial.{Monomial}
 use Rattle.ffc_ring.specs.Polynomial.{Terms, SamePolynomial, difference}
 use Rattle.ffc_poly.specs.Ordered.{IsConstant}
-use Rattle.ffc_basis.specs.declared.line.Line.{Line}
+use Rattle.ffc_line.specs.declared.line.Line.{Line}
 use Rattle.ffc_basis.specs.declared.reduction.Reduced.{Reduced}
-use Rattle.ffc_basis.specs.Lines.{Parts, polys_of, combination, AreBefore, AreGenerators}
+use Rattle.ffc_line.specs.Lines.{Parts, polys_of, combination, AreBefore, AreGenerators}
 use Rattle.ffc_basis.specs.Reduction.{ArePartsAtMost, IsReduced, IsStopped}
 use Rattle.ffc_basis.specs.Completion.{IsClosed, IsSetAside, IsConstantLine}
 use Rattle.ffc_basis.specs.Completed.{AreAdded}

@@ -7,7 +7,7 @@ use Rattle.ffc_ring.specs.Monomial.{Monomial, Divides}
 use Rattle.ffc_ring.specs.Polynomial.{Terms, AreTerms, coefficient, SamePolynomial, product}
 use Rattle.ffc_mono.specs.MonomialOrder.{IsMonomialOrder}
 use Rattle.ffc_mono.specs.Leading.{IsLeading}
-use Rattle.ffc_basis.specs.Lines.{AreLists}
+use Rattle.ffc_line.specs.Lines.{AreLists}
 use Rattle.ffc_basis.specs.Completion.{IsClosed, IsConstantLine}
 
 -- each is a list of terms

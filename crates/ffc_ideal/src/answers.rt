@@ -1,6 +1,7 @@
 //! What is answered of ideals.
-use ffc_basis::{Line, Pairs, Reduced};
+use ffc_basis::{Pairs, Reduced};
 use ffc_field::Field;
+use ffc_line::Line;
 use ffc_mono::GradedReverseLex;
 use std::alloc::AllocError;
 

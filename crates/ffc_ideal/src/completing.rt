@@ -1,7 +1,7 @@
 //! Completed bases of generators.
 ghost use Rattle.std.specs.Prelude.{IfOk, IfErr, IfSome, IfNone, OnOk};
 ghost use Rattle.ffc_mono.specs.Orders.{graded_reverse_lex_cmp};
-ghost use Rattle.ffc_basis.specs.Lines.{polys_of, AreLists};
+ghost use Rattle.ffc_line.specs.Lines.{polys_of, AreLists};
 ghost use Rattle.ffc_basis.specs.Completion.{IsConstantLine};
 ghost use Rattle.ffc_basis.specs.Completed.{IsCompletion};
 ghost use Rattle.ffc_basis.specs.Units.{TakesReductions, IsCompletionBound};
@@ -9,8 +9,9 @@ ghost use Rattle.ffc_ideal.specs.Answers.{AreBasisLines, HasNoConstant, IsIdealS
 
 use crate::answers::IdealStop;
 use ffc_base::{Meter, Stop};
-use ffc_basis::{Basis, Completion, Line, LineId};
+use ffc_basis::{Basis, Completion};
 use ffc_field::Field;
+use ffc_line::{Line, LineId};
 use ffc_mono::GradedReverseLex;
 use ffc_poly::Poly;
 use std::alloc::Global;

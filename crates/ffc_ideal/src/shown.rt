@@ -3,12 +3,12 @@ ghost use Rattle.std.specs.Prelude.{◌≡◌, ◌≢◌, [], List, length, IfOk
 ghost use Rattle.ffc_mono.specs.Orders.{graded_reverse_lex_cmp};
 ghost use Rattle.ffc_ring.specs.Polynomial.{Terms, SamePolynomial, product};
 ghost use Rattle.ffc_poly.specs.Ordered.{IsConstant};
-ghost use Rattle.ffc_basis.specs.Lines.{polys_of, combination, AreBefore};
+ghost use Rattle.ffc_line.specs.Lines.{polys_of, combination, AreBefore};
 ghost use Rattle.ffc_basis.specs.Completion.{IsConstantLine};
 ghost use Rattle.ffc_ideal.specs.Answers.{AreBasisLines, ShowSums, ShowOne, ShowMember};
 
-use ffc_basis::{Line, LineId};
 use ffc_field::Field;
+use ffc_line::{Line, LineId};
 use ffc_mono::GradedReverseLex;
 use ffc_poly::{Poly, PolyStop};
 use std::alloc::{AllocError, Global};

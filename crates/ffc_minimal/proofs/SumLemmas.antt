@@ -2,8 +2,8 @@
 use Rattle.std.proofs.Common.{◌≡◌, ℕ, zero, suc, ◌+◌, ◌<◌, ◌≤◌, List, [], ◌∷◌, ◌++◌, length, get_or, take, refl, sym, ap, ◌∙◌, subst, arith, append-nil}
 use Rattle.ffc_ring.specs.Polynomial.{Terms, coefficient, SamePolynomial, product}
 use Rattle.ffc_ring.proofs.PolynomialLemmas.{same_sums}
-use Rattle.ffc_basis.specs.declared.line.Line.{Line}
-use Rattle.ffc_basis.specs.Lines.{Parts, polys_of, combination, AreBefore}
+use Rattle.ffc_line.specs.declared.line.Line.{Line}
+use Rattle.ffc_line.specs.Lines.{Parts, polys_of, combination, AreBefore}
 use Rattle.ffc_basis.proofs.LineLemmas.{taken_more}
 use Rattle.ffc_basis.proofs.Lists.{poly_at}
 use Rattle.ffc_basis.proofs.PartLemmas.{combination-append}

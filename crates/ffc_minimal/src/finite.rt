@@ -1,7 +1,7 @@
 //! Variables in which the common zeros of lines are finitely many, by the lines' leading monomials (Cox, Little and O'Shea,
 //! chapter 5, section 3, theorem 6).
-use ffc_basis::Line;
 use ffc_field::Field;
+use ffc_line::Line;
 use ffc_mono::{MonoOrder, MonoRef};
 use ffc_poly::Poly;
 use std::alloc::{AllocError, Global};

@@ -2,7 +2,7 @@
 ghost use Rattle.std.specs.Prelude.{◌≡◌, [], ◌∷◌, length, IfOk, IfSome};
 ghost use Rattle.ffc_base.specs.Metering.{Metered};
 ghost use Rattle.ffc_ring.specs.Polynomial.{SamePolynomial};
-ghost use Rattle.ffc_basis.specs.Lines.{polys_of, combination, AreBefore};
+ghost use Rattle.ffc_line.specs.Lines.{polys_of, combination, AreBefore};
 ghost use Rattle.ffc_uni.specs.Univariate.{terms_in};
 
 use crate::dependency::dependency;

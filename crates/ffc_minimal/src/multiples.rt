@@ -3,8 +3,9 @@ ghost use Rattle.std.specs.Prelude.{◌≡◌};
 ghost use Rattle.ffc_base.specs.Metering.{Metered};
 
 use ffc_base::{Meter, Stop};
-use ffc_basis::{LineId, Reduced};
+use ffc_basis::Reduced;
 use ffc_field::Field;
+use ffc_line::LineId;
 use ffc_mono::{Mono, MonoOrder, MonoStop};
 use ffc_poly::{Poly, PolyStop};
 use ffc_stack::BasisStack;

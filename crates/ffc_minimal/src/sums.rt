@@ -3,10 +3,10 @@
 ghost use Rattle.std.specs.Prelude.{◌≡◌, ◌<◌, [], ◌++◌, length, get_or, IfOk, IfSome, IsTrue};
 ghost use Rattle.ffc_ring.specs.Polynomial.{SamePolynomial, product};
 ghost use Rattle.ffc_uni.specs.Univariate.{terms_in};
-ghost use Rattle.ffc_basis.specs.Lines.{polys_of, combination, AreBefore};
+ghost use Rattle.ffc_line.specs.Lines.{polys_of, combination, AreBefore};
 
-use ffc_basis::{Line, LineId};
 use ffc_field::Field;
+use ffc_line::{Line, LineId};
 use ffc_mono::MonoOrder;
 use ffc_poly::{Poly, PolyStop};
 use ffc_roots::from_univariate;

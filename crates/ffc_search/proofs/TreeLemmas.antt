@@ -4,8 +4,8 @@ use Rattle.std.proofs.lemmas.List.{append-nil}
 use Rattle.ffc_ring.specs.Polynomial.{Terms}
 use Rattle.ffc_uni.proofs.Rows.{taken_at}
 use Rattle.ffc_trees.specs.Same.{IsSameLine, AreSameLines}
-use Rattle.ffc_basis.specs.declared.line.Line.{Line}
-use Rattle.ffc_basis.specs.Lines.{Parts}
+use Rattle.ffc_line.specs.declared.line.Line.{Line}
+use Rattle.ffc_line.specs.Lines.{Parts}
 use Rattle.ffc_stack.specs.Stacks.{own, generators}
 use Rattle.ffc_cert.specs.declared.entries.CertLine.{CertLine}
 use Rattle.ffc_search.specs.declared.answers.Found.{Found}

@@ -8,8 +8,8 @@ use Rattle.std.specs.List.{list_all}
 use Rattle.std.proofs.lemmas.List.Elements.{All-nil, All-cons}
 use Rattle.ffc_ring.specs.Monomial.{Monomial, mono_value}
 use Rattle.ffc_ring.specs.Polynomial.{Terms, value_sum, poly_value}
-use Rattle.ffc_basis.specs.declared.line.Line.{Line}
-use Rattle.ffc_basis.specs.Lines.{Parts}
+use Rattle.ffc_line.specs.declared.line.Line.{Line}
+use Rattle.ffc_line.specs.Lines.{Parts}
 use Rattle.ffc_stack.specs.Stacks.{own, generators}
 use Rattle.ffc_poly.specs.Ordered.{point_of}
 use Rattle.ffc_search.specs.Finding.{is_generator, is_zero_line}

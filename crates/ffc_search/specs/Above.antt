@@ -1,7 +1,7 @@
 -- Levels above a stack, which a search pushes and pops.
 use Rattle.std.specs.Prelude.{◌≡◌, ℕ, ◌≤◌, List, [], ◌∷◌, ◌++◌, length}
 use Rattle.std.specs.List.{AllByRecursion}
-use Rattle.ffc_basis.specs.declared.line.Line.{Line}
+use Rattle.ffc_line.specs.declared.line.Line.{Line}
 use Rattle.ffc_stack.specs.Stacks.{Stack}
 
 -- Without a level there are no further lines; the first level begins after the n lines that were there before, and no later

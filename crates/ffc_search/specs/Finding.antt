@@ -2,8 +2,8 @@
 use Rattle.std.specs.Prelude.{◌≡◌, ℕ, ◌||◌, ◌==◌, not, Bool, true, false, List, [], ◌∷◌, length, All, if◌then◌else◌}
 use Rattle.ffc_cert.specs.declared.entries.CertLine.{CertLine}
 use Rattle.ffc_ring.specs.Polynomial.{Terms, poly_value}
-use Rattle.ffc_basis.specs.declared.line.Line.{Line}
-use Rattle.ffc_basis.specs.Lines.{Parts}
+use Rattle.ffc_line.specs.declared.line.Line.{Line}
+use Rattle.ffc_line.specs.Lines.{Parts}
 use Rattle.ffc_search.specs.declared.answers.Found.{Found}
 use Rattle.ffc_search.specs.declared.answers.Found.TheVariants.{Values, Closed}
 

@@ -6,12 +6,12 @@ ghost use Rattle.ffc_trees.specs.Trees.{tree_read};
 ghost use Rattle.ffc_cktree.specs.Lines.{AreLines};
 ghost use Rattle.ffc_stack.specs.Stacks.{generators};
 
-use ffc_basis::Line;
 use ffc_casetree::{are_lines, first_line};
 use ffc_cert::CertLine;
 use ffc_ckpoly::CkPoly;
 use ffc_cktree::{TreeStop, read_tree};
 use ffc_field::Field;
+use ffc_line::Line;
 use ffc_mono::MonoOrder;
 use ffc_trees::trees_read_alike;
 use std::alloc::{AllocError, Global};

@@ -1,8 +1,8 @@
 //! Sums of few bits that are never 0: each is multiplied by the polynomial that has the inverse of its value at each choice of the
 //! bits, so that one line closes a branch in place of a case for each choice.
-use ffc_basis::{Line, LineId};
 use ffc_bits::{Derived, Reason, Source, StepId, bit_of};
 use ffc_field::Field;
+use ffc_line::{Line, LineId};
 use ffc_mono::{Mono, MonoOrder, MonoStop};
 use ffc_poly::{Poly, PolyStop};
 use std::alloc::{AllocError, Global};

@@ -5,8 +5,8 @@ ghost use Rattle.ffc_base.specs.Metering.{Metered};
 
 use crate::choosing::Candidate;
 use ffc_base::{Meter, SearchStop, Stop, Unit};
-use ffc_basis::Line;
 use ffc_field::Field;
+use ffc_line::Line;
 use ffc_minimal::{finite_variables, minimal_polynomial};
 use ffc_mono::MonoOrder;
 use ffc_stack::BasisStack;

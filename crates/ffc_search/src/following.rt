@@ -1,8 +1,8 @@
 //! Values that follow from those of some variables, by generators that have one variable without a value.
 use crate::differences::Differences;
 use crate::points::{set_coordinate, zero_at};
-use ffc_basis::Line;
 use ffc_field::Field;
+use ffc_line::Line;
 use ffc_mono::{MonoOrder, MonoRef};
 use ffc_poly::Poly;
 use std::alloc::{AllocError, Global};

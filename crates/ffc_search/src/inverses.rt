@@ -1,6 +1,6 @@
 //! Generators that say that a polynomial has an inverse, and the others.
-use ffc_basis::{Line, LineId};
 use ffc_field::Field;
+use ffc_line::{Line, LineId};
 use ffc_mono::{Mono, MonoOrder, MonoRef, MonoStop};
 use ffc_poly::{Poly, PolyStop};
 use std::alloc::{AllocError, Global};

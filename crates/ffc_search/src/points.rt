@@ -8,8 +8,8 @@ ghost use Rattle.ffc_search.specs.Finding.{point_at, is_zero_line, IsCommonZero}
 
 use crate::differences::Differences;
 use crate::survey::{Linear, factors_of};
-use ffc_basis::Line;
 use ffc_field::Field;
+use ffc_line::Line;
 use ffc_mono::MonoOrder;
 use ffc_poly::{Poly, PolyStop};
 use ffc_roots::from_univariate;

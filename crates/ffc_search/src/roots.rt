@@ -3,13 +3,13 @@ ghost use Rattle.ffc_base.specs.Metering.{Metered};
 
 use crate::choosing::Candidate;
 use ffc_base::{Meter, SearchStop};
-use ffc_basis::{Line, LineId};
 use ffc_bits::{Derived, Source};
 use ffc_casetree::{
     FactId, NO_FACT, Tree, multiples_of, record, record_sum, residues, scaled_line, terms_in,
 };
 use ffc_cert::CertLine;
 use ffc_field::Field;
+use ffc_line::{Line, LineId};
 use ffc_mono::MonoOrder;
 use ffc_poly::{Poly, PolyStop};
 use ffc_roots::{Roots, roots};

@@ -1,6 +1,6 @@
 //! What lines say of their variables.
-use ffc_basis::Line;
 use ffc_field::Field;
+use ffc_line::Line;
 use ffc_mono::{MonoOrder, MonoRef};
 use ffc_poly::Poly;
 use std::alloc::{AllocError, Global};

@@ -3,8 +3,8 @@ use Rattle.std.proofs.Common.{◌≡◌, ◌⊎◌, ℕ, zero, suc, ◌+◌, ◌
 use Rattle.std.proofs.lemmas.Bool.{cases_eq, false≢true}
 use Rattle.std.proofs.lemmas.List.{take_more}
 use Rattle.ffc_ring.specs.Polynomial.{Terms}
-use Rattle.ffc_basis.specs.declared.line.Line.{Line}
-use Rattle.ffc_basis.specs.Lines.{Parts, polys_of, AreBefore, AreLinesFrom, AreLines}
+use Rattle.ffc_line.specs.declared.line.Line.{Line}
+use Rattle.ffc_line.specs.Lines.{Parts, polys_of, AreBefore, AreLinesFrom, AreLines}
 use Rattle.ffc_stack.specs.Generators.{parts_at, Names, IsPath, LeadsTo}
 use Rattle.ffc_stack.specs.Marks.{IsMarked, IsMarkedBy, IsMarkedFrom, IsReachedTo}
 

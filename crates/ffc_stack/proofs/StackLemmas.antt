@@ -6,9 +6,9 @@ use Rattle.std.specs.List.{Contains}
 use Rattle.std.specs.declared.cmp.Ordering.{Ordering}
 use Rattle.ffc_ring.specs.Monomial.{Monomial}
 use Rattle.ffc_ring.specs.Polynomial.{Terms}
-use Rattle.ffc_basis.specs.declared.line.Line.{Line}
+use Rattle.ffc_line.specs.declared.line.Line.{Line}
 use Rattle.ffc_basis.specs.Completed.{AreAdded, IsFront}
-use Rattle.ffc_basis.specs.Lines.{Parts, polys_of, AreLines, AreGenerators, IsAddedTo}
+use Rattle.ffc_line.specs.Lines.{Parts, polys_of, AreLines, AreGenerators, IsAddedTo}
 use Rattle.ffc_stack.specs.Stacks.{Stack, stack_of, own, generators, HaveParts, AreMarks, HaveNoneBelow, levels_from, joined, LeadToLive, IsBegun, IsPushed, IsCompletedWith, GoesOn, IsPopped}
 use Rattle.ffc_stack.specs.Generators.{IsPath, IsGenerator}
 use Rattle.ffc_stack.proofs.MarkLemmas.{names_below}

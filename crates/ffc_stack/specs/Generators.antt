@@ -2,8 +2,8 @@
 use Rattle.std.specs.Prelude.{◌≡◌, ℕ, zero, suc, ◌<◌, ◌⊎◌, List, [], ◌∷◌, length}
 use Rattle.std.specs.List.{Contains}
 use Rattle.std.specs.List.Sorted.{IsStrictlyIncreasing}
-use Rattle.ffc_basis.specs.declared.line.Line.{Line}
-use Rattle.ffc_basis.specs.Lines.{Parts}
+use Rattle.ffc_line.specs.declared.line.Line.{Line}
+use Rattle.ffc_line.specs.Lines.{Parts}
 
 -- the parts of the line with this number; past the end there are none
 abbrev pub parts_at : {F O : Type 0} → List (Line F O) → ℕ → Parts

@@ -1,7 +1,7 @@
 -- Marks of lines, by their numbers.
 use Rattle.std.specs.Prelude.{◌≡◌, ◌≢◌, ℕ, ◌<◌, ◌≤◌, ◌⊎◌, ◌&&◌, Bool, true, false, List, [], ◌∷◌, length, get_or}
-use Rattle.ffc_basis.specs.declared.line.Line.{Line}
-use Rattle.ffc_basis.specs.Lines.{Parts}
+use Rattle.ffc_line.specs.declared.line.Line.{Line}
+use Rattle.ffc_line.specs.Lines.{Parts}
 use Rattle.ffc_stack.specs.Generators.{parts_at, Names, LeadsTo}
 
 -- one line more is marked, where there is one with this number

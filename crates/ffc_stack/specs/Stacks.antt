@@ -4,10 +4,10 @@ use Rattle.std.specs.List.{Contains}
 use Rattle.std.specs.declared.cmp.Ordering.{Ordering}
 use Rattle.ffc_ring.specs.Monomial.{Monomial}
 use Rattle.ffc_ring.specs.Polynomial.{Terms}
-use Rattle.ffc_basis.specs.declared.line.Line.{Line}
+use Rattle.ffc_line.specs.declared.line.Line.{Line}
 use Rattle.ffc_base.specs.Metering.{Spending}
 use Rattle.ffc_basis.specs.Completed.{AreAdded, IsFront}
-use Rattle.ffc_basis.specs.Lines.{Parts, polys_of, AreGenerators}
+use Rattle.ffc_line.specs.Lines.{Parts, polys_of, AreGenerators}
 use Rattle.ffc_basis.specs.Units.{IsCompletionBound}
 use Rattle.ffc_stack.specs.Generators.{IsGenerator, LeadsTo}
 

@@ -1,11 +1,11 @@
 //! The generators that a line's parts lead to.
 ghost use Rattle.std.specs.Prelude.{◌≡◌, ℕ, ◌<◌, false, length, get_or, IfOk};
 ghost use Rattle.std.specs.List.{filter, range_with_len};
-ghost use Rattle.ffc_basis.specs.Lines.{AreLines};
+ghost use Rattle.ffc_line.specs.Lines.{AreLines};
 ghost use Rattle.ffc_stack.specs.Marks.{IsMarked, IsMarkedBy, IsMarkedFrom, IsReachedTo, is_marked_generator};
 
-use ffc_basis::{Line, LineId};
 use ffc_field::Field;
+use ffc_line::{Line, LineId};
 use ffc_mono::MonoOrder;
 use ffc_poly::Poly;
 use std::alloc::{AllocError, Global};

@@ -5,7 +5,7 @@ ghost use Rattle.ffc_base.specs.Metering.{Metered};
 ghost use Rattle.ffc_ring.specs.Polynomial.{Terms, SamePolynomial, difference};
 ghost use Rattle.ffc_basis.specs.Completed.{IsCompletion, IsFront, IsProgress, HasTaken};
 ghost use Rattle.ffc_basis.specs.Completion.{ReducesToZero};
-ghost use Rattle.ffc_basis.specs.Lines.{polys_of, combination, AreBefore, AreLines, ArePolynomials};
+ghost use Rattle.ffc_line.specs.Lines.{polys_of, combination, AreBefore, AreLines, ArePolynomials};
 ghost use Rattle.ffc_basis.specs.Reduction.{ArePartsAtMost, IsReduced, IsStopped};
 ghost use Rattle.ffc_basis.specs.Units.{TakesReductions, IsReductionBound, IsCompletionBound};
 ghost use Rattle.ffc_stack.specs.Generators.{AreGeneratorsOf};
@@ -14,8 +14,9 @@ ghost use Rattle.ffc_stack.specs.Stacks.{IsCompletedWith, IsStoppedWith, IsStopp
 
 use crate::generators::{generators_among, reached_from};
 use ffc_base::{Meter, Stop};
-use ffc_basis::{Basis, Completion, Line, LineId, Progress, Reduced};
+use ffc_basis::{Basis, Completion, Progress, Reduced};
 use ffc_field::Field;
+use ffc_line::{Line, LineId};
 use ffc_mono::MonoOrder;
 use ffc_poly::Poly;
 use std::alloc::{AllocError, Global};

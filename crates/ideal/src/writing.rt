@@ -1,6 +1,7 @@
 //! Polynomials and answers as they are printed.
-use ffc_basis::{Line, LineId, Reduced};
+use ffc_basis::Reduced;
 use ffc_field::Field;
+use ffc_line::{Line, LineId};
 use ffc_mono::{GradedReverseLex, MonoRef};
 use ffc_poly::Poly;
 use std::fmt;

@@ -1,7 +1,7 @@
 use Rattle.std.proofs.Common.{◌+◌, take, sym, subst}
 use Rattle.ffc_ring.specs.Polynomial.{AreTerms}
 use Rattle.ffc_mono.specs.declared.mono.TheConstants.{DEGREE_LIMIT}
-use Rattle.ffc_basis.specs.Lines.{IsAddedTo}
+use Rattle.ffc_line.specs.Lines.{IsAddedTo}
 use Rattle.ffc_basis.proofs.AddedLemmas.{lists_more}
 use Rattle.ffc_basis.proofs.LineLemmas.{added_more}
 use Rattle.ffc_basis.proofs.OrderedTerms.{AreTerms-ordered}

@@ -1,6 +1,6 @@
 use Rattle.std.proofs.Common.{take}
 use Rattle.ffc_basis.specs.Indexing.{IsIndexOf}
-use Rattle.ffc_basis.specs.Lines.{polys_of, AreLists, IsAddedTo}
+use Rattle.ffc_line.specs.Lines.{polys_of, AreLists, IsAddedTo}
 use Rattle.ffc_basis.proofs.basis.append_generators.Given as goal
 
 abbrev pub invariant-loop-poly : goal.invariant-loop-poly

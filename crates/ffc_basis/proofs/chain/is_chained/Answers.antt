@@ -1,6 +1,6 @@
 use Rattle.std.proofs.Common.{[], get_or, sym, subst, IfSome}
 use Rattle.ffc_basis.specs.Chains.{IsTop}
-use Rattle.ffc_basis.specs.Lines.{polys_of}
+use Rattle.ffc_line.specs.Lines.{polys_of}
 use Rattle.ffc_basis.proofs.Lists.{poly_at}
 use Rattle.ffc_basis.proofs.chain.is_chained.Goals as goal
 

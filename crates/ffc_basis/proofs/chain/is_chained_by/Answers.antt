@@ -1,7 +1,7 @@
 use Rattle.std.proofs.Common.{IsTrue, get_or, sym, subst}
 use Rattle.ffc_ring.specs.Polynomial.{Terms}
 use Rattle.ffc_basis.specs.Chains.{IsUnder}
-use Rattle.ffc_basis.specs.Lines.{polys_of}
+use Rattle.ffc_line.specs.Lines.{polys_of}
 use Rattle.ffc_basis.specs.PairTable.{AreBothClosed}
 use Rattle.ffc_basis.proofs.ChainLemmas.{chain_closes}
 use Rattle.ffc_basis.proofs.Lists.{if_ok, poly_at}

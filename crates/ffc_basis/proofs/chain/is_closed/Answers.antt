@@ -1,7 +1,7 @@
 use Rattle.std.proofs.Common.{Bool, true, false, not, IsTrue, get_or, subst, arith}
 use Rattle.std.specs.Bool.{OnFalse}
 use Rattle.ffc_ring.specs.Polynomial.{Terms}
-use Rattle.ffc_basis.specs.Lines.{polys_of}
+use Rattle.ffc_line.specs.Lines.{polys_of}
 use Rattle.ffc_basis.specs.PairTable.{AreBothClosed, AreNeedless}
 use Rattle.ffc_basis.specs.declared.pair.PairRecord.{PairRecord}
 use Rattle.ffc_basis.specs.declared.pair.PairState.TheVariants.{Pending}

@@ -6,7 +6,7 @@ use Rattle.ffc_ring.specs.Polynomial.{Terms, coefficient}
 use Rattle.ffc_mono.specs.Leading.{IsLeading}
 use Rattle.ffc_mono.proofs.LeadingLemmas.{one_leading}
 use Rattle.ffc_basis.specs.Dividing.{LeadsNoDivisor}
-use Rattle.ffc_basis.specs.Lines.{polys_of}
+use Rattle.ffc_line.specs.Lines.{polys_of}
 use Rattle.ffc_basis.proofs.Lists.{length-polys, poly_at}
 use Rattle.ffc_basis.proofs.OrderedTerms.{coefficient-none}
 use Rattle.ffc_basis.proofs.PartnerLemmas.{taken_all}

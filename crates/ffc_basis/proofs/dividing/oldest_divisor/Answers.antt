@@ -3,7 +3,7 @@ use Rattle.std.proofs.lemmas.Bool.{cases_eq}
 use Rattle.ffc_ring.specs.Monomial.{Monomial}
 use Rattle.ffc_basis.specs.Dividing.{LeadsDivisor, LeadsNoDivisor}
 use Rattle.ffc_basis.specs.Indexing.{has_variable, listed}
-use Rattle.ffc_basis.specs.Lines.{polys_of}
+use Rattle.ffc_line.specs.Lines.{polys_of}
 use Rattle.ffc_basis.proofs.DivisorLemmas.{constant_begins, irreducible_by_index, lines_within, map_none, none_of, one_of, variable_at}
 use Rattle.ffc_basis.proofs.Lists.{any_default}
 use Rattle.ffc_basis.proofs.dividing.oldest_divisor.Goals as goal

@@ -1,7 +1,7 @@
 use Rattle.std.proofs.Common.{◌≡◌, ℕ, ◌<◌, All, None, get_or, IfSome, IfNone}
 use Rattle.ffc_basis.specs.Dividing.{LeadsDivisor, LeadsNoDivisor}
 use Rattle.ffc_basis.specs.Indexing.{listed}
-use Rattle.ffc_basis.specs.Lines.{polys_of}
+use Rattle.ffc_line.specs.Lines.{polys_of}
 use Rattle.ffc_basis.proofs.dividing.oldest_divisor.Given as goal
 
 abbrev pub invariant-loop-power : goal.invariant-loop-power

@@ -1,6 +1,6 @@
 use Rattle.std.proofs.Common.{IfSome, subst}
 use Rattle.ffc_basis.specs.Chains.{IsWholeOfPair, IsNoHigher}
-use Rattle.ffc_basis.specs.Lines.{polys_of}
+use Rattle.ffc_line.specs.Lines.{polys_of}
 use Rattle.ffc_basis.proofs.ChainLemmas.{whole_chain_closes}
 use Rattle.ffc_basis.proofs.leads.follows.Goals as goal
 

@@ -2,7 +2,7 @@ use Rattle.std.proofs.Common.{sym, subst, IfSome}
 use Rattle.ffc_ring.specs.Polynomial.{Terms}
 use Rattle.ffc_mono.specs.Leading.{IsLeading}
 use Rattle.ffc_mono.specs.declared.mono.TheConstants.{DEGREE_LIMIT}
-use Rattle.ffc_basis.specs.Lines.{polys_of}
+use Rattle.ffc_line.specs.Lines.{polys_of}
 use Rattle.ffc_basis.specs.Outcomes.{IsSum}
 use Rattle.ffc_basis.proofs.Lists.{poly_at}
 use Rattle.ffc_basis.proofs.OrderedTerms.{AreTerms-ordered}

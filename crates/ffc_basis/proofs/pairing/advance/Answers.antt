@@ -1,5 +1,5 @@
 use Rattle.std.proofs.Common.{◌≡◌, length, sym, ap, ◌∙◌, subst, arith, IfNone, IfSome}
-use Rattle.ffc_basis.specs.Lines.{polys_of}
+use Rattle.ffc_line.specs.Lines.{polys_of}
 use Rattle.ffc_basis.specs.Completed.{IsCompletion}
 use Rattle.ffc_basis.specs.PairTable.{ArePairs, AreDone, IsPendingAt, settled_count, over_of, answer_of}
 use Rattle.ffc_basis.specs.Units.{IsPairsBound}

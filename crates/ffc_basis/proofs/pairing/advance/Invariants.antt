@@ -1,7 +1,7 @@
 use Rattle.std.proofs.Common.{◌≡◌, ◌+◌, ◌-◌, length}
 use Rattle.ffc_dense.specs.Tables.{AreMultiplesOf}
 use Rattle.ffc_basis.specs.Indexing.{IsIndexOf}
-use Rattle.ffc_basis.specs.Lines.{polys_of, AreLines}
+use Rattle.ffc_line.specs.Lines.{polys_of, AreLines}
 use Rattle.ffc_basis.specs.Completed.{IsFront}
 use Rattle.ffc_basis.specs.PairTable.{ArePairs, AreFew, seconds, settled_count}
 use Rattle.ffc_basis.specs.Units.{TakesReductions, IsPairsBound}

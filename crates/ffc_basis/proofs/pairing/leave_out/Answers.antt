@@ -1,5 +1,5 @@
 use Rattle.std.proofs.Common.{◌∙◌}
-use Rattle.ffc_basis.specs.Lines.{polys_of}
+use Rattle.ffc_line.specs.Lines.{polys_of}
 use Rattle.ffc_basis.proofs.AddedLemmas.{left_out_both}
 use Rattle.ffc_basis.proofs.pairing.leave_out.Goals as goal
 

@@ -1,6 +1,6 @@
 use Rattle.std.proofs.Common.{ℕ, ◌+◌, ◌<◌, ◌≤◌, All, length}
 use Rattle.std.specs.BTreeSet.{btree_set_len}
-use Rattle.ffc_basis.specs.Lines.{polys_of}
+use Rattle.ffc_line.specs.Lines.{polys_of}
 use Rattle.ffc_basis.specs.PairTable.{ArePairs, IsPaired}
 use Rattle.ffc_basis.proofs.PairTableLemmas.{IsOpenColumn}
 use Rattle.ffc_basis.proofs.pairing.pair_line.Given as goal

@@ -1,5 +1,5 @@
 use Rattle.std.proofs.Common.{◌≡◌, ◌-◌, length}
-use Rattle.ffc_basis.specs.Lines.{polys_of}
+use Rattle.ffc_line.specs.Lines.{polys_of}
 use Rattle.ffc_basis.specs.PairTable.{ArePairs, AreFew, seconds, settled_count}
 use Rattle.ffc_basis.proofs.pairing.pair_lines.Given as goal
 

@@ -1,6 +1,6 @@
 use Rattle.std.proofs.Common.{◌+◌, refl, sym, ap, ◌∙◌, subst, arith}
 use Rattle.ffc_mono.specs.declared.mono.TheConstants.{DEGREE_LIMIT}
-use Rattle.ffc_basis.specs.Lines.{polys_of, AreLines}
+use Rattle.ffc_line.specs.Lines.{polys_of, AreLines}
 use Rattle.ffc_basis.specs.declared.spoly.Outcome.TheVariants.{Added}
 use Rattle.ffc_basis.specs.Outcomes.{IsOutcome}
 use Rattle.ffc_basis.specs.PairTable.{ArePairs, seconds, settled_count, with_state}

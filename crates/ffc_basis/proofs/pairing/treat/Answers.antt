@@ -1,10 +1,10 @@
 use Rattle.std.proofs.Common.{List, length, sym, ap, subst, arith}
-use Rattle.ffc_basis.specs.declared.line.Line.{Line}
+use Rattle.ffc_line.specs.declared.line.Line.{Line}
 use Rattle.ffc_dense.specs.Tables.{AreMultiplesOf}
 use Rattle.ffc_basis.specs.PairTable.{AreRecords}
 use Rattle.ffc_basis.specs.Units.{IsPairBound}
 use Rattle.ffc_basis.proofs.BoundLemmas.{one_pair, no_pairs}
-use Rattle.ffc_basis.specs.Lines.{polys_of, AreLists}
+use Rattle.ffc_line.specs.Lines.{polys_of, AreLists}
 use Rattle.ffc_basis.proofs.FewLemmas.{pending_within}
 use Rattle.ffc_basis.proofs.KeptLemmas.{multiples_in_front}
 use Rattle.ffc_basis.proofs.Lists.{length-polys}

@@ -1,6 +1,6 @@
 use Rattle.std.proofs.Common.{◌≡◌, ℕ, ◌<◌, ◌≤◌, [], ◌∷◌, ◌++◌, length, get_or, set, sym, ap, ◌∙◌, subst, arith}
 use Rattle.ffc_ring.specs.Polynomial.{Terms, SamePolynomial, AreTerms}
-use Rattle.ffc_basis.specs.Lines.{Parts}
+use Rattle.ffc_line.specs.Lines.{Parts}
 use Rattle.ffc_basis.proofs.Lists.{any_default, on_ok}
 use Rattle.ffc_basis.proofs.RecordLemmas.{short_at, short_set}
 use Rattle.ffc_basis.proofs.record.add_at.Goals as goal

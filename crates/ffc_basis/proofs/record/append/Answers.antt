@@ -1,6 +1,6 @@
 use Rattle.std.proofs.Common.{ℕ, [], ◌∷◌, ◌++◌, sym, ap, ◌∙◌, subst}
 use Rattle.ffc_ring.specs.Polynomial.{Terms}
-use Rattle.ffc_basis.specs.Lines.{Parts}
+use Rattle.ffc_line.specs.Lines.{Parts}
 use Rattle.ffc_basis.specs.Records.{AreShort}
 use Rattle.ffc_basis.proofs.RecordLemmas.{short_push}
 use Rattle.ffc_basis.proofs.record.append.Goals as goal

@@ -1,6 +1,6 @@
 use Rattle.std.proofs.Common.{ℕ, take, sym, ap, ◌∙◌, subst, add-one, arith}
 use Rattle.ffc_ring.specs.Polynomial.{Terms}
-use Rattle.ffc_basis.specs.Lines.{Parts, IsLineOfNone}
+use Rattle.ffc_line.specs.Lines.{Parts, IsLineOfNone}
 use Rattle.ffc_basis.proofs.PartLemmas.{no_line_next, no_line_all}
 use Rattle.ffc_basis.proofs.record.place_of.Goals as goal
 

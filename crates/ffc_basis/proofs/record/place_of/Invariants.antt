@@ -1,5 +1,5 @@
 use Rattle.std.proofs.Common.{take}
-use Rattle.ffc_basis.specs.Lines.{IsLineOfNone}
+use Rattle.ffc_line.specs.Lines.{IsLineOfNone}
 use Rattle.ffc_basis.proofs.record.place_of.Given as goal
 
 abbrev pub invariant-loop-place : goal.invariant-loop-place

@@ -1,6 +1,6 @@
 use Rattle.std.proofs.Common.{◌≡◌, ℕ, ◌≤◌, [], ◌∷◌, ◌++◌, length, get_or, sym, ap, ◌∙◌, subst, arith}
 use Rattle.ffc_ring.specs.Polynomial.{Terms}
-use Rattle.ffc_basis.specs.Lines.{Parts}
+use Rattle.ffc_line.specs.Lines.{Parts}
 use Rattle.ffc_basis.proofs.Lists.{any_default}
 use Rattle.ffc_basis.proofs.RecordLemmas.{short_at, each_push, polynomials_of_scaled, scaled_all}
 use Rattle.ffc_basis.proofs.SPolynomialLemmas.{scaled_next}

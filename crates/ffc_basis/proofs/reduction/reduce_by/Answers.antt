@@ -1,7 +1,7 @@
 use Rattle.std.proofs.Common.{ℕ, sym, subst, Option, IfSome, IfNone}
 use Rattle.ffc_ring.specs.Monomial.{Monomial}
 use Rattle.ffc_ring.specs.Polynomial.{Terms}
-use Rattle.ffc_basis.specs.Lines.{Parts, polys_of}
+use Rattle.ffc_line.specs.Lines.{Parts, polys_of}
 use Rattle.ffc_basis.specs.Reduction.{IsReduction, IsReduced, IsStopped}
 use Rattle.ffc_basis.proofs.Lists.{if_some}
 use Rattle.ffc_basis.proofs.RecordLemmas.{finished_reduction, finished_stops}

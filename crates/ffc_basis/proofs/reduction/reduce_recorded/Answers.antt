@@ -3,7 +3,7 @@ use Rattle.std.proofs.lemmas.Bool.{cases_eq}
 use Rattle.ffc_ring.specs.Monomial.{Monomial}
 use Rattle.ffc_ring.specs.Polynomial.{Terms}
 use Rattle.ffc_mono.specs.declared.mono.TheConstants.{DEGREE_LIMIT}
-use Rattle.ffc_basis.specs.Lines.{Parts, polys_of}
+use Rattle.ffc_line.specs.Lines.{Parts, polys_of}
 use Rattle.ffc_basis.specs.Reduction.{IsIrreducible, AreIrreducible, IsStep, IsStopped}
 use Rattle.ffc_basis.specs.Remainders.{IsRecordedReduction, IsUnderway}
 use Rattle.ffc_basis.proofs.Lists.{length-polys}

@@ -1,7 +1,7 @@
 use Rattle.std.proofs.Common.{◌+◌, ◌-◌, ◌*◌}
 use Rattle.ffc_base.specs.Metering.{total}
 use Rattle.ffc_dense.specs.Tables.{AreMultiplesOf}
-use Rattle.ffc_basis.specs.Lines.{polys_of}
+use Rattle.ffc_line.specs.Lines.{polys_of}
 use Rattle.ffc_basis.specs.Reduction.{AreIrreducible}
 use Rattle.ffc_basis.specs.Units.{TakesReductions}
 use Rattle.ffc_basis.specs.Remainders.{IsRecordedReduction, IsCounted}

@@ -1,7 +1,7 @@
 use Rattle.std.proofs.Common.{◌≡◌, [], get_or, ap, arith, Err}
 use Rattle.ffc_ring.specs.Polynomial.{Terms}
 use Rattle.ffc_mono.specs.declared.mono.TheConstants.{DEGREE_LIMIT}
-use Rattle.ffc_basis.specs.Lines.{polys_of}
+use Rattle.ffc_line.specs.Lines.{polys_of}
 use Rattle.ffc_basis.proofs.Lists.{length-polys, poly_at, limits}
 use Rattle.ffc_basis.proofs.ReductionLemmas.{line_step, line_first, line_cancels, line_passes}
 use Rattle.ffc_basis.proofs.reduction.subtract.Goals as goal

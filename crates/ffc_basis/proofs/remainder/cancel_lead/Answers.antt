@@ -1,7 +1,7 @@
 use Rattle.std.proofs.Common.{◌≡◌, List, [], ◌++◌, ◌+◌, length, get_or, refl, sym, ap, ap₂, ◌∙◌, subst, arith}
 use Rattle.ffc_ring.specs.Polynomial.{Terms, AreTerms, coefficient, SamePolynomial, term_product, difference}
 use Rattle.ffc_dense.specs.Tables.{AreMultiplesOf, Multiple}
-use Rattle.ffc_basis.specs.Lines.{Parts, polys_of}
+use Rattle.ffc_line.specs.Lines.{Parts, polys_of}
 use Rattle.ffc_basis.specs.Reduction.{IsReduced}
 use Rattle.ffc_basis.specs.Remainders.{Continues, IsSplit, IsStepOfLead, front_of, whole_of}
 use Rattle.ffc_basis.proofs.Lists.{length-polys, poly_at}

@@ -1,7 +1,7 @@
 use Rattle.std.proofs.Common.{List, refl, subst, IfSome}
 use Rattle.ffc_ring.specs.Polynomial.{Terms}
 use Rattle.ffc_dense.specs.Tables.{AreMultiplesOf}
-use Rattle.ffc_basis.specs.Lines.{Parts, polys_of}
+use Rattle.ffc_line.specs.Lines.{Parts, polys_of}
 use Rattle.ffc_basis.proofs.Lists.{always_on_err}
 use Rattle.ffc_basis.proofs.SplitLemmas.{stays_bounded}
 use Rattle.ffc_basis.proofs.UnitLemmas.{takes_nothing}

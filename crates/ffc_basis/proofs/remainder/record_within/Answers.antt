@@ -1,5 +1,5 @@
 use Rattle.std.proofs.Common.{ap, Err}
-use Rattle.ffc_basis.specs.Lines.{Parts}
+use Rattle.ffc_line.specs.Lines.{Parts}
 use Rattle.ffc_basis.proofs.Lists.{only_memory}
 use Rattle.ffc_basis.proofs.PlaceLemmas.{room_for_one}
 use Rattle.ffc_basis.proofs.remainder.record_within.Goals as goal

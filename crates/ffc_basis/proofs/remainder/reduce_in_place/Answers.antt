@@ -1,7 +1,7 @@
 use Rattle.std.proofs.Common.{List, refl, sym, subst}
 use Rattle.ffc_ring.specs.Polynomial.{Terms}
 use Rattle.ffc_dense.specs.Tables.{AreMultiplesOf, Multiple}
-use Rattle.ffc_basis.specs.Lines.{Parts, polys_of}
+use Rattle.ffc_line.specs.Lines.{Parts, polys_of}
 use Rattle.ffc_basis.specs.Remainders.{front_of, whole_of}
 use Rattle.ffc_basis.proofs.Lists.{always_on_err}
 use Rattle.ffc_basis.proofs.SplitLemmas.{continues_same, stays_bounded, nothing_is_reduced}

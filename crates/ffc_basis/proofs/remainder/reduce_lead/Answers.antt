@@ -3,7 +3,7 @@ use Rattle.ffc_ring.specs.Monomial.{Monomial}
 use Rattle.ffc_ring.specs.Polynomial.{Terms}
 use Rattle.ffc_mono.specs.Leading.{IsLeading}
 use Rattle.ffc_dense.specs.Tables.{AreMultiplesOf}
-use Rattle.ffc_basis.specs.Lines.{Parts, polys_of}
+use Rattle.ffc_line.specs.Lines.{Parts, polys_of}
 use Rattle.ffc_basis.specs.Reduction.{IsIrreducible, IsReduced, IsStep}
 use Rattle.ffc_basis.specs.Remainders.{front_of, whole_of}
 use Rattle.ffc_basis.proofs.Lists.{on_ok}

@@ -1,4 +1,4 @@
-use Rattle.ffc_basis.specs.Lines.{polys_of}
+use Rattle.ffc_line.specs.Lines.{polys_of}
 use Rattle.ffc_basis.specs.Remainders.{whole_of}
 use Rattle.ffc_basis.proofs.Lists.{always_on_err}
 use Rattle.ffc_basis.proofs.SplitLemmas.{stays_bounded}

@@ -1,5 +1,5 @@
 use Rattle.ffc_dense.specs.Tables.{AreMultiplesOf}
-use Rattle.ffc_basis.specs.Lines.{polys_of}
+use Rattle.ffc_line.specs.Lines.{polys_of}
 use Rattle.ffc_basis.specs.Reduction.{IsReduced}
 use Rattle.ffc_basis.specs.Remainders.{Continues, IsSplit, front_of, whole_of}
 use Rattle.ffc_basis.specs.Units.{TakesReductions}

@@ -1,6 +1,6 @@
 use Rattle.std.proofs.Common.{subst}
 use Rattle.ffc_basis.specs.Dividing.{LeadsDivisor}
-use Rattle.ffc_basis.specs.Lines.{polys_of}
+use Rattle.ffc_line.specs.Lines.{polys_of}
 use Rattle.ffc_basis.proofs.RepresentedLemmas.{follows_from_both}
 use Rattle.ffc_basis.proofs.represented.is_represented_by.Goals as goal
 

@@ -1,6 +1,6 @@
 use Rattle.std.proofs.Common.{◌∙◌, subst}
 use Rattle.ffc_field.proofs.ModularLaws.{mul_mod-comm}
-use Rattle.ffc_basis.specs.Lines.{Parts}
+use Rattle.ffc_line.specs.Lines.{Parts}
 use Rattle.ffc_basis.specs.Outcomes.{AreScaled}
 use Rattle.ffc_basis.proofs.spoly.monic.Goals as goal
 

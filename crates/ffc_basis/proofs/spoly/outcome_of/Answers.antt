@@ -1,7 +1,7 @@
 use Rattle.std.proofs.Common.{◌≡◌, true, false, [], get_or, sym, ◌∙◌, subst, refl, arith, Option, Some, None, IfNone, IfSome, is_some, inr}
 use Rattle.ffc_ring.specs.Polynomial.{Terms, AreTerms}
 use Rattle.ffc_mono.specs.declared.mono.TheConstants.{DEGREE_LIMIT}
-use Rattle.ffc_basis.specs.Lines.{Parts, polys_of}
+use Rattle.ffc_line.specs.Lines.{Parts, polys_of}
 use Rattle.ffc_basis.specs.Reduction.{IsReduced, IsStopped}
 use Rattle.ffc_basis.specs.Outcomes.{AreSubtracted}
 use Rattle.ffc_basis.proofs.AddedLemmas.{closed_by_reduction, line_of_rest}

@@ -1,5 +1,5 @@
 use Rattle.std.proofs.Common.{OnOk, subst}
-use Rattle.ffc_basis.specs.Lines.{Parts}
+use Rattle.ffc_line.specs.Lines.{Parts}
 use Rattle.ffc_basis.specs.Reduction.{IsRecorded}
 use Rattle.ffc_basis.proofs.spoly.record_anyway.Goals as goal
 

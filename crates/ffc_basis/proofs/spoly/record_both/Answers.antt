@@ -1,5 +1,5 @@
 use Rattle.std.proofs.Common.{ℕ, subst}
-use Rattle.ffc_basis.specs.Lines.{Parts}
+use Rattle.ffc_line.specs.Lines.{Parts}
 use Rattle.ffc_basis.specs.Reduction.{IsRecorded}
 use Rattle.ffc_basis.proofs.Lists.{on_ok}
 use Rattle.ffc_basis.proofs.SPolynomialLemmas.{both_recorded}

@@ -1,7 +1,7 @@
 use Rattle.std.proofs.Common.{[], get_or, sym, subst, arith, IfSome}
 use Rattle.ffc_ring.specs.Polynomial.{AreTerms}
 use Rattle.ffc_mono.specs.declared.mono.TheConstants.{DEGREE_LIMIT}
-use Rattle.ffc_basis.specs.Lines.{polys_of}
+use Rattle.ffc_line.specs.Lines.{polys_of}
 use Rattle.ffc_basis.specs.Outcomes.{IsSum}
 use Rattle.ffc_basis.proofs.BoundLemmas.{pair_is_bounded}
 use Rattle.ffc_basis.proofs.Lists.{poly_at}

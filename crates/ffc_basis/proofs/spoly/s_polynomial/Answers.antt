@@ -3,7 +3,7 @@ use Rattle.ffc_field.specs.Modular.{mul_mod, neg_mod}
 use Rattle.ffc_ring.specs.Monomial.{Monomial, Divides, mono_mul, mono_lcm}
 use Rattle.ffc_ring.specs.Polynomial.{Terms, AreTerms, SamePolynomial, term_product, difference}
 use Rattle.ffc_mono.specs.declared.mono.TheConstants.{DEGREE_LIMIT}
-use Rattle.ffc_basis.specs.Lines.{polys_of}
+use Rattle.ffc_line.specs.Lines.{polys_of}
 use Rattle.ffc_basis.specs.Completion.{IsSPolynomial, PassesSPolynomial}
 use Rattle.ffc_basis.proofs.Lists.{poly_at}
 use Rattle.ffc_basis.proofs.OrderedTerms.{AreTerms-ordered}

@@ -1,7 +1,7 @@
 use Rattle.std.proofs.Common.{subst}
 use Rattle.ffc_mono.specs.Orders.{graded_reverse_lex_cmp}
 use Rattle.ffc_mono.specs.OrderLaws.{graded_reverse_lex_laws}
-use Rattle.ffc_basis.specs.Lines.{polys_of}
+use Rattle.ffc_line.specs.Lines.{polys_of}
 use Rattle.ffc_basis.specs.Completed.{IsCompletion}
 use Rattle.ffc_ideal.specs.Answers.{HasNoConstant}
 use Rattle.ffc_ideal.proofs.Answering.{free}

@@ -2,7 +2,7 @@ use Rattle.std.proofs.Common.{◌≡◌, sym, ap, ◌∙◌, subst, Err, IfNone,
 use Rattle.ffc_base.specs.Metering.{total}
 use Rattle.ffc_mono.specs.Orders.{graded_reverse_lex_cmp}
 use Rattle.ffc_mono.proofs.LeadingLemmas.{graded_reverse_lex_is_graded}
-use Rattle.ffc_basis.specs.Lines.{polys_of}
+use Rattle.ffc_line.specs.Lines.{polys_of}
 use Rattle.ffc_basis.specs.Reduction.{ArePartsAtMost, IsReduced, IsStopped}
 use Rattle.ffc_basis.specs.Completed.{IsCompletion}
 use Rattle.ffc_basis.specs.Units.{IsReductionBound}

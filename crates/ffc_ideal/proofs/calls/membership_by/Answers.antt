@@ -3,7 +3,7 @@ use Rattle.std.proofs.lemmas.Bool.{false≢true}
 use Rattle.ffc_mono.specs.Orders.{graded_reverse_lex_cmp}
 use Rattle.ffc_mono.specs.OrderLaws.{graded_reverse_lex_laws}
 use Rattle.ffc_ring.specs.Polynomial.{SamePolynomial}
-use Rattle.ffc_basis.specs.Lines.{polys_of, combination}
+use Rattle.ffc_line.specs.Lines.{polys_of, combination}
 use Rattle.ffc_basis.specs.Reduction.{IsReduced, IsStopped}
 use Rattle.ffc_basis.proofs.OrderedTerms.{lists_of_polynomials}
 use Rattle.ffc_ideal.specs.Answers.{ArePairsOf}

@@ -2,7 +2,7 @@ use Rattle.std.proofs.Common.{◌≡◌, sym, ap, subst, Err}
 use Rattle.ffc_base.specs.Metering.{total}
 use Rattle.ffc_mono.specs.Orders.{graded_reverse_lex_cmp}
 use Rattle.ffc_mono.proofs.LeadingLemmas.{graded_reverse_lex_is_graded}
-use Rattle.ffc_basis.specs.Lines.{polys_of}
+use Rattle.ffc_line.specs.Lines.{polys_of}
 use Rattle.ffc_ideal.specs.Answers.{AreBasisLines, IsWithinCompletion}
 use Rattle.ffc_ideal.proofs.Answering.{basis_lines, within_completion, spent_is_not_memory}
 use Rattle.ffc_ideal.proofs.completing.complete_generators.Goals as goal

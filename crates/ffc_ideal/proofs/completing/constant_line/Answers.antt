@@ -1,6 +1,6 @@
 use Rattle.std.proofs.Common.{◌≡◌, [], get_or, sym, ap, ◌∙◌, inl, inr, arith}
 use Rattle.std.proofs.lemmas.Bool.{cases_lt, false≢true}
-use Rattle.ffc_basis.specs.Lines.{polys_of}
+use Rattle.ffc_line.specs.Lines.{polys_of}
 use Rattle.ffc_basis.proofs.Lists.{poly_at}
 use Rattle.ffc_ideal.proofs.Answering.{constant_there}
 use Rattle.ffc_ideal.proofs.completing.constant_line.Goals as goal

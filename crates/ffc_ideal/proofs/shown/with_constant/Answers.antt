@@ -2,7 +2,7 @@ use Rattle.std.proofs.Common.{◌≡◌, ◌≢◌, [], List, get_or, suc, lengt
 use Rattle.ffc_mono.specs.Orders.{graded_reverse_lex_cmp}
 use Rattle.ffc_ring.specs.Polynomial.{Terms}
 use Rattle.ffc_poly.specs.Ordered.{IsConstant}
-use Rattle.ffc_basis.specs.Lines.{polys_of}
+use Rattle.ffc_line.specs.Lines.{polys_of}
 use Rattle.ffc_basis.proofs.Lists.{if_ok, poly_at, length-polys}
 use Rattle.ffc_ideal.specs.Answers.{AreBasisLines, ShowMember, ShowSums, ShowOne}
 use Rattle.ffc_ideal.proofs.Answering.{last_is_constant, constant_is_shown}

@@ -1,6 +1,6 @@
 use Rattle.std.proofs.Common.{◌≡◌, ℕ, ◌<◌, ◌++◌, length, subst, arith, IfSome}
 use Rattle.ffc_ring.specs.Polynomial.{Terms, SamePolynomial, product}
-use Rattle.ffc_basis.specs.Lines.{Parts}
+use Rattle.ffc_line.specs.Lines.{Parts}
 use Rattle.ffc_minimal.proofs.SumLemmas.{sum_next, before_next}
 use Rattle.ffc_minimal.proofs.sums.sum_of.Goals as goal
 

@@ -1,6 +1,6 @@
 use Rattle.std.proofs.Common.{take, length}
 use Rattle.ffc_ring.specs.Polynomial.{SamePolynomial}
-use Rattle.ffc_basis.specs.Lines.{polys_of, combination, AreBefore}
+use Rattle.ffc_line.specs.Lines.{polys_of, combination, AreBefore}
 use Rattle.ffc_minimal.proofs.sums.sum_of.Given as goal
 
 abbrev pub invariant-loop-part : goal.invariant-loop-part

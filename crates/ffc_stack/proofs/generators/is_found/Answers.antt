@@ -1,5 +1,5 @@
 use Rattle.std.proofs.Common.{◌≡◌, ◌&&◌, sym, ap, ◌∙◌}
-use Rattle.ffc_basis.specs.Lines.{Parts}
+use Rattle.ffc_line.specs.Lines.{Parts}
 use Rattle.ffc_stack.specs.Generators.{parts_at}
 use Rattle.ffc_stack.specs.Marks.{are_none}
 use Rattle.ffc_stack.proofs.FoundLemmas.{none_by_length}

@@ -1,6 +1,6 @@
 use Rattle.std.proofs.Common.{◌≡◌, sym, ◌∙◌, subst}
 use Rattle.std.proofs.lemmas.Bool.{false≢true}
-use Rattle.ffc_basis.specs.Lines.{Parts}
+use Rattle.ffc_line.specs.Lines.{Parts}
 use Rattle.ffc_stack.specs.Generators.{parts_at}
 use Rattle.ffc_stack.specs.Marks.{IsMarkedBy}
 use Rattle.ffc_stack.proofs.MarkLemmas.{parts_there}

@@ -1,7 +1,7 @@
 use Rattle.std.proofs.Common.{◌≡◌, take, sym, ap, ◌∙◌, subst}
 use Rattle.ffc_dense.specs.Tables.{AreMultiplesOf}
 use Rattle.ffc_basis.specs.Indexing.{IsIndexOf}
-use Rattle.ffc_basis.specs.Lines.{polys_of, AreLines}
+use Rattle.ffc_line.specs.Lines.{polys_of, AreLines}
 use Rattle.ffc_basis.specs.PairTable.{ArePairs}
 use Rattle.ffc_basis.proofs.AddedLemmas.{pairs_added, polys-take}
 use Rattle.ffc_basis.proofs.KeptLemmas.{multiples_appended}

@@ -1,7 +1,7 @@
 use Rattle.std.proofs.Common.{length, take, sym, ap, ◌∙◌, subst, arith}
 use Rattle.ffc_dense.specs.Tables.{AreMultiplesOf}
 use Rattle.ffc_basis.specs.Indexing.{IsIndexOf}
-use Rattle.ffc_basis.specs.Lines.{AreLines, polys_of}
+use Rattle.ffc_line.specs.Lines.{AreLines, polys_of}
 use Rattle.ffc_basis.proofs.AddedLemmas.{pairs_dropped, polys-take}
 use Rattle.ffc_basis.proofs.FewLemmas.{few_pairs_cut}
 use Rattle.ffc_basis.proofs.LineLemmas.{AreLines-take}

@@ -2,7 +2,7 @@ use Rattle.std.proofs.Common.{List, sym, ap, subst}
 use Rattle.ffc_ring.specs.Polynomial.{Terms}
 use Rattle.ffc_dense.specs.Tables.{Multiple}
 use Rattle.ffc_basis.specs.Indexing.{IsIndexOf}
-use Rattle.ffc_basis.specs.Lines.{polys_of, AreLines, AreLists}
+use Rattle.ffc_line.specs.Lines.{polys_of, AreLines, AreLists}
 use Rattle.ffc_basis.specs.PairTable.{seconds}
 use Rattle.ffc_basis.proofs.AddedLemmas.{pairs_none}
 use Rattle.ffc_basis.proofs.FewLemmas.{few_none}

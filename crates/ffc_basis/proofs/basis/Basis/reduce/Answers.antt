@@ -2,7 +2,7 @@ use Rattle.std.proofs.Common.{◌≡◌, [], ◌++◌, sym, ap, ◌∙◌, subst
 use Rattle.ffc_ring.specs.Polynomial.{SamePolynomial, coefficient, difference}
 use Rattle.ffc_dense.specs.Tables.{AreMultiplesOf}
 use Rattle.ffc_basis.specs.Completion.{ReducesToZero}
-use Rattle.ffc_basis.specs.Lines.{polys_of, combination}
+use Rattle.ffc_line.specs.Lines.{polys_of, combination}
 use Rattle.ffc_basis.specs.Reduction.{IsReduction, ArePartsAtMost, IsReduced, IsStopped}
 use Rattle.ffc_basis.proofs.Lists.{if_ok}
 use Rattle.ffc_basis.proofs.OrderedTerms.{lists_of_polynomials}

@@ -4,7 +4,7 @@ use Rattle.ffc_dense.specs.Tables.{Multiple}
 use Rattle.ffc_basis.specs.PairTable.{seconds}
 use Rattle.ffc_basis.proofs.FewLemmas.{few_none}
 use Rattle.ffc_basis.specs.Indexing.{IsIndexOf}
-use Rattle.ffc_basis.specs.Lines.{polys_of, AreLists, IsAddedTo}
+use Rattle.ffc_line.specs.Lines.{polys_of, AreLists, IsAddedTo}
 use Rattle.ffc_basis.proofs.AddedLemmas.{pairs_none}
 use Rattle.ffc_basis.proofs.KeptLemmas.{no_multiples}
 use Rattle.ffc_basis.proofs.LineLemmas.{added_to_none, AreLines-generators}

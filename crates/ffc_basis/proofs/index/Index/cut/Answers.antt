@@ -1,7 +1,7 @@
 use Rattle.std.proofs.Common.{◌≡◌, ◌+◌, ◌-◌, ◌≤◌, ◌++◌, ◌∷◌, [], take, length, get_or, ap, ◌∙◌, subst, arith}
 use Rattle.ffc_ring.specs.Polynomial.{Terms}
 use Rattle.ffc_basis.specs.Indexing.{IsIndexOf}
-use Rattle.ffc_basis.specs.Lines.{polys_of}
+use Rattle.ffc_line.specs.Lines.{polys_of}
 use Rattle.ffc_basis.proofs.IndexLemmas.{taken_more, length-taken}
 use Rattle.ffc_basis.proofs.Lists.{poly_at, length-polys}
 use Rattle.ffc_basis.proofs.index.Index.cut.Goals as goal

@@ -1,6 +1,6 @@
 use Rattle.std.proofs.Common.{◌≡◌, ℕ, ◌<◌, [], ◌∷◌, ◌++◌, length, get_or, Option, IfSome, IfNone, refl, sym, ap, ◌∙◌, subst}
 use Rattle.ffc_ring.specs.Polynomial.{Terms}
-use Rattle.ffc_basis.specs.Lines.{Parts, IsLineOfNone}
+use Rattle.ffc_line.specs.Lines.{Parts, IsLineOfNone}
 use Rattle.ffc_basis.specs.Records.{AreOfDifferentLines}
 use Rattle.ffc_basis.specs.Reduction.{IsAddedAt, IsRecorded}
 use Rattle.ffc_basis.proofs.Lists.{on_ok}

@@ -1,6 +1,6 @@
 use Rattle.std.proofs.Common.{ℕ, [], ◌∷◌, ◌++◌, refl, sym, ap, ◌∙◌, subst}
 use Rattle.ffc_ring.specs.Polynomial.{Terms}
-use Rattle.ffc_basis.specs.Lines.{Parts}
+use Rattle.ffc_line.specs.Lines.{Parts}
 use Rattle.ffc_basis.specs.Reduction.{IsRecorded}
 use Rattle.ffc_basis.proofs.Lists.{on_ok}
 use Rattle.ffc_basis.proofs.PartLemmas.{recorded_push}

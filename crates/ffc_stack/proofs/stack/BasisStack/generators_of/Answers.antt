@@ -1,6 +1,6 @@
 use Rattle.std.proofs.Common.{◌≡◌, Bool, List, length, sym, ap, ◌∙◌, subst}
 use Rattle.std.specs.List.{filter, range_with_len}
-use Rattle.ffc_basis.specs.declared.line.Line.{Line}
+use Rattle.ffc_line.specs.declared.line.Line.{Line}
 use Rattle.ffc_stack.specs.Generators.{AreGeneratorsOf}
 use Rattle.ffc_stack.specs.Marks.{IsReachedTo, is_marked_generator}
 use Rattle.ffc_stack.proofs.FoundLemmas.{found_generators}

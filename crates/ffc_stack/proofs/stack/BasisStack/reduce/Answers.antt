@@ -1,6 +1,6 @@
 use Rattle.std.proofs.Common.{◌≡◌, [], subst, IfOk, IfSome, IfNone}
 use Rattle.ffc_basis.specs.Completion.{ReducesToZero}
-use Rattle.ffc_basis.specs.Lines.{polys_of}
+use Rattle.ffc_line.specs.Lines.{polys_of}
 use Rattle.ffc_basis.specs.Reduction.{ArePartsAtMost, IsReduced, IsStopped}
 use Rattle.ffc_basis.specs.Units.{IsReductionBound}
 use Rattle.ffc_stack.specs.Stacks.{Stack}

@@ -7,7 +7,7 @@ use Rattle.std.specs.declared.cmp.Ordering.{Ordering}
 use Rattle.ffc_ring.specs.Monomial.{Monomial}
 use Rattle.ffc_ring.specs.Polynomial.{Terms, AreTerms, coefficient, SamePolynomial, product}
 use Rattle.ffc_poly.specs.Ordered.{IsOrdered}
-use Rattle.ffc_basis.specs.declared.line.Line.{Line}
+use Rattle.ffc_line.specs.declared.line.Line.{Line}
 
 -- the numbers of lines, and the polynomials that these are multiplied by
 abbrev pub Parts : Type 0
