@@ -6,7 +6,7 @@ use crate::{
     bases, fields, formulas, levels, meters, monomials, one_variable, outside, polynomials,
     searches, tables,
 };
-use ffc_field::{Field, ForField};
+use ffc_field::{BabyBear, F5, Field, FieldId, ForField, Goldilocks};
 use ffc_mono::{GradedReverseLex, Lex, MonoOrder};
 use std::alloc::Global;
 use std::rt::Files;
@@ -21,6 +21,8 @@ enum Subject {
     Sink,
     Meter,
     Over(OverField),
+    /// A subject over one of three fields and an order of monomials, which the next words name.
+    Ordered(OverBoth),
 }
 
 /// A subject whose rows have one step.
@@ -36,8 +38,6 @@ enum Single {
 enum OverField {
     Field,
     Uni,
-    /// A subject with an order of monomials, which the third word names.
-    Ordered(OverBoth),
 }
 
 /// A subject over a field and an order of monomials.
@@ -60,13 +60,10 @@ const SUBJECTS: [(&str, Subject); 14] = [
     ("meter", Subject::Meter),
     ("field", Subject::Over(OverField::Field)),
     ("uni", Subject::Over(OverField::Uni)),
-    ("poly", Subject::Over(OverField::Ordered(OverBoth::Poly))),
-    ("basis", Subject::Over(OverField::Ordered(OverBoth::Basis))),
-    ("stack", Subject::Over(OverField::Ordered(OverBoth::Stack))),
-    (
-        "search",
-        Subject::Over(OverField::Ordered(OverBoth::Search)),
-    ),
+    ("poly", Subject::Ordered(OverBoth::Poly)),
+    ("basis", Subject::Ordered(OverBoth::Basis)),
+    ("stack", Subject::Ordered(OverBoth::Stack)),
+    ("search", Subject::Ordered(OverBoth::Search)),
 ];
 
 /// Does a row over a field and an order of monomials.
@@ -135,9 +132,6 @@ impl ForField for Work<'_, '_> {
                 alone(self.steps)?;
                 one_variable::row::<F>(self.alloc, &mut words, self.page)
             }
-            OverField::Ordered(subject) => {
-                ordered::<F>(self.alloc, subject, &mut words, self.steps, self.page)
-            }
         }
     }
 }
@@ -158,6 +152,22 @@ fn over_field(
         steps,
         page,
     })
+}
+
+/// Does a row over a field and an order of monomials. Each field is a copy of the whole search, so there are three.
+fn over_order(
+    alloc: Global,
+    subject: OverBoth,
+    mut words: Words<'_>,
+    steps: &[&str],
+    page: &mut Page,
+) -> Option<()> {
+    match field(words.next()?)? {
+        FieldId::F5 => ordered::<F5>(alloc, subject, &mut words, steps, page),
+        FieldId::BabyBear => ordered::<BabyBear>(alloc, subject, &mut words, steps, page),
+        FieldId::Goldilocks => ordered::<Goldilocks>(alloc, subject, &mut words, steps, page),
+        _ => None,
+    }
 }
 
 /// Whether a subject that has no further steps is alone in its row.
@@ -198,6 +208,7 @@ fn begin<R: Files + Input + Print + AllocGlobal>(
         Subject::Sink => outside::sink_row(rt, &mut words, steps, page),
         Subject::Meter => meters::row(alloc, &mut words, steps, page),
         Subject::Over(subject) => over_field(alloc, subject, words, steps, page),
+        Subject::Ordered(subject) => over_order(alloc, subject, words, steps, page),
     }
 }
 
