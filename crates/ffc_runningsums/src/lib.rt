@@ -15,5 +15,5 @@ mod refuting;
 mod system;
 mod writing;
 
-pub use refuting::refuted;
+pub use refuting::Sums;
 pub use system::{Difference, Shape};

@@ -13,7 +13,7 @@ use std::alloc::{AllocError, Global};
 const MOST_PAIRS: usize = 4;
 
 /// So many values take a unit.
-const VALUES_EACH: u64 = 16;
+const VALUES_EACH: u64 = 64;
 
 /// The two values of a bit.
 const VALUES: [bool; 2] = [false, true];
@@ -161,8 +161,11 @@ fn by_pair(
 }
 
 /// Tries pairs of bits in equations that are not equal.
-fn by_pairs(alloc: Global, system: &System, units: u64) -> Result<Attempt, AllocError> {
-    let mut attempt = Attempt { units, lines: None };
+fn by_pairs(alloc: Global, system: &System) -> Result<Attempt, AllocError> {
+    let mut attempt = Attempt {
+        units: 0,
+        lines: None,
+    };
     for (line, pair) in system.differences.iter().take(MOST_PAIRS) {
         if system.is_summed(*pair) {
             let tried = by_pair(alloc, system, *line, *pair)?;
@@ -174,22 +177,6 @@ fn by_pairs(alloc: Global, system: &System, units: u64) -> Result<Attempt, Alloc
         }
     }
     Ok(attempt)
-}
-
-/// Tries without cases, and then with those of pairs, if some variable was reached from two sides.
-fn tried(alloc: Global, system: &System) -> Result<Attempt, AllocError> {
-    let (reach, clash) = clash_of(alloc, system, &[])?;
-    let units = units_of(&reach);
-    let Some(clash) = clash else {
-        if reach.has_met() {
-            return by_pairs(alloc, system, units);
-        }
-        return Ok(Attempt { units, lines: None });
-    };
-    let mut writer = Writer::new(alloc, system.order, system.count);
-    writer.write_clash(system, &[], &reach, clash)?;
-    let lines = Some(writer.into_lines());
-    Ok(Attempt { units, lines })
 }
 
 /// How many terms the factors of lines have.
@@ -205,30 +192,87 @@ fn terms_of(lines: &[CertLine]) -> u64 {
     terms
 }
 
-/// A tree from generators of these shapes, in order, if their sums of bits clash. Each list of values takes a unit, as do 16
-/// values and each term of a factor that is written.
-///
-/// # Errors
-///
-/// Spent, where the meter is full, and Memory.
-pub fn refuted(
-    alloc: Global,
-    order: u64,
-    shapes: Vec<Shape>,
-    meter: &mut Meter,
-) -> Result<Option<Vec<CertLine>>, SearchStop>
+/// Takes the units of an attempt, one for each term of a factor that is written with them, and gives its lines.
+fn paid(attempt: Attempt, meter: &mut Meter) -> Result<Option<Vec<CertLine>>, SearchStop>
     ensures metered { Metered SearchStop.Spent result meter.old meter.new }
 {
-    let system = System::new(alloc, order, shapes)?;
-    if !system.has_sums() {
-        return Ok(None);
-    }
-    let found = tried(alloc, &system)?;
-    meter.charge(Unit::Trial, found.units)?;
-    let written = match &found.lines {
+    meter.charge(Unit::Trial, attempt.units)?;
+    let written = match &attempt.lines {
         Some(lines) => terms_of(lines.as_slice()),
         None => 0,
     };
     meter.charge(Unit::Reduction, written)?;
-    Ok(found.lines)
+    Ok(attempt.lines)
+}
+
+/// Generators of which sums of bits are refuted. Each list of values takes a unit, as do 64 values and each term of a factor that
+/// is written.
+#[derive(Drop)]
+pub struct Sums {
+    system: System,
+    /// Whether some variable was reached from two sides.
+    has_met: bool,
+}
+
+impl Sums {
+    /// Generators of these shapes, in order.
+    pub fn new(alloc: Global, order: u64, shapes: Vec<Shape>) -> Result<Sums, AllocError> {
+        Ok(Sums {
+            system: System::new(alloc, order, shapes)?,
+            has_met: false,
+        })
+    }
+
+    /// Tries without cases.
+    fn plainly(&mut self, alloc: Global) -> Result<Attempt, AllocError> {
+        let (reach, clash) = clash_of(alloc, &self.system, &[])?;
+        self.has_met = reach.has_met();
+        let units = units_of(&reach);
+        let Some(clash) = clash else {
+            return Ok(Attempt { units, lines: None });
+        };
+        let mut writer = Writer::new(alloc, self.system.order, self.system.count);
+        writer.write_clash(&self.system, &[], &reach, clash)?;
+        let lines = Some(writer.into_lines());
+        Ok(Attempt { units, lines })
+    }
+
+    /// A tree without cases, if the sums of bits clash.
+    ///
+    /// # Errors
+    ///
+    /// Spent, where the meter is full, and Memory.
+    pub fn refuted(
+        &mut self,
+        alloc: Global,
+        meter: &mut Meter,
+    ) -> Result<Option<Vec<CertLine>>, SearchStop>
+        ensures metered { Metered SearchStop.Spent result meter.old meter.new }
+    {
+        if !self.system.has_sums() {
+            return Ok(None);
+        }
+        let attempt = self.plainly(alloc)?;
+        paid(attempt, meter)
+    }
+
+    /// A tree with the two cases of a pair of bits that are not equal, if there is one, where the sums do not clash without, but
+    /// meet.
+    ///
+    /// # Errors
+    ///
+    /// Spent, where the meter is full, and Memory.
+    pub fn refuted_by_pairs(
+        &self,
+        alloc: Global,
+        meter: &mut Meter,
+    ) -> Result<Option<Vec<CertLine>>, SearchStop>
+        ensures metered { Metered SearchStop.Spent result meter.old meter.new }
+    {
+        if !self.has_met {
+            return Ok(None);
+        }
+        let attempt = by_pairs(alloc, &self.system)?;
+        paid(attempt, meter)
+    }
 }

@@ -36,8 +36,8 @@ pub fn bit_lines<F: Field, O: MonoOrder>(
 /// A sum of multiples of bits and a constant.
 struct BitSum<F: Field> {
     constant: F,
-    /// The coefficients, and the lines that say that the variables are bits.
-    terms: Vec<(F, LineId)>,
+    /// The residues of coefficients, and the lines that say that the variables are bits.
+    terms: Vec<(u64, LineId)>,
     /// The products of bits, for each choice of them.
     products: Vec<Mono>,
 }
@@ -108,7 +108,7 @@ impl<F: Field> BitSum<F> {
 
     /// Adds a multiple of a bit.
     fn add(&mut self, alloc: Global, c: F, line: LineId, x: &Mono) -> Result<(), AllocError> {
-        self.terms.push((c, line))?;
+        self.terms.push((c.residue(), line))?;
         let mut more = Vec::new(alloc);
         for m in self.products.as_slice() {
             if let Some(product) = product(m, x)? {
@@ -128,7 +128,7 @@ impl<F: Field> BitSum<F> {
             let mut value = self.constant;
             for (term, place) in self.terms.iter().zip(PLACES) {
                 if choice & place != 0 {
-                    value = value.add(term.0);
+                    value = value.add(F::of(u128::from(term.0)));
                 }
             }
             let Some(inverse) = value.inv() else {
@@ -217,7 +217,8 @@ fn refute<F: Field, O: MonoOrder>(
         let Some(lead) = lead_of(lines, *bit) else {
             return Ok(None);
         };
-        let terms = sum.excess(alloc, coefs.as_slice(), place, c.mul(lead))?;
+        let c = F::of(u128::from(*c)).mul(lead);
+        let terms = sum.excess(alloc, coefs.as_slice(), place, c)?;
         let Some(excess) = poly_of(alloc, terms.as_slice())? else {
             return Ok(None);
         };

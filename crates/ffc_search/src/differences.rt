@@ -20,21 +20,12 @@ use std::alloc::{AllocError, Global};
 use std::collections::{BTreeMap, BTreeSet};
 use std::mem;
 
-/// What is left of a monomial by the lines, and the derived line that is their difference, if they differ.
-struct Form<F: Field, O: MonoOrder> {
-    rest: Poly<F, O>,
-    step: Option<StepId>,
-}
-
-impl<F: Field, O: MonoOrder> Drop for Form<F, O> {
-    fn drop(self) {
-        let Form { rest: _, step: _ } = self;
-    }
-}
-
-/// A monomial, and what was left of it in each case in which that changed.
+/// A monomial, and what was left of it by the lines in each case in which that changed.
 struct Image<F: Field, O: MonoOrder> {
-    forms: Vec<Form<F, O>>,
+    /// The monomial itself, and what was left of it since.
+    rests: Vec<Poly<F, O>>,
+    /// For each that was left, the derived line that is the difference of the monomial and it.
+    steps: Vec<StepId>,
     /// Whether it changed when it was looked at last.
     changed: bool,
 }
@@ -42,7 +33,8 @@ struct Image<F: Field, O: MonoOrder> {
 impl<F: Field, O: MonoOrder> Drop for Image<F, O> {
     fn drop(self) {
         let Image {
-            forms: _,
+            rests: _,
+            steps: _,
             changed: _,
         } = self;
     }
@@ -57,8 +49,8 @@ struct Difference<F: Field, O: MonoOrder> {
     /// The constant of the generator, and that of the polynomial.
     constant: F,
     rest: F,
-    /// The other terms: coefficients and monomials, by their places.
-    terms: Vec<(F, usize)>,
+    /// The other terms: residues of coefficients, and monomials by their places.
+    terms: Vec<(u64, usize)>,
 }
 
 impl<F: Field, O: MonoOrder> Drop for Difference<F, O> {
@@ -158,15 +150,12 @@ fn reduced<F: Field, O: MonoOrder>(
 impl<F: Field, O: MonoOrder> Image<F, O> {
     /// What is left of it.
     fn rest(&self) -> Option<&Poly<F, O>> {
-        self.forms.last().map(|form| &form.rest)
+        self.rests.last()
     }
 
     /// The derived line that is the difference to what is left of it.
     fn step(&self) -> Option<StepId> {
-        match self.forms.last() {
-            Some(form) => form.step,
-            None => None,
-        }
+        self.steps.last().copied()
     }
 }
 
@@ -207,7 +196,7 @@ impl<F: Field, O: MonoOrder> Differences<F, O> {
             if m.degree() == 0 {
                 difference.rest = c;
             } else {
-                difference.terms.push((c, self.place_of(m)?))?;
+                difference.terms.push((c.residue(), self.place_of(m)?))?;
             }
         }
         self.list.push(difference)?;
@@ -227,13 +216,11 @@ impl<F: Field, O: MonoOrder> Differences<F, O> {
             return Ok(place);
         }
         let place = self.images.len();
-        let mut forms = Vec::new(self.alloc);
-        forms.push(Form {
-            rest: term(self.alloc, F::of(1), m.to_mono(self.alloc)?)?,
-            step: None,
-        })?;
+        let mut rests = Vec::new(self.alloc);
+        rests.push(term(self.alloc, F::of(1), m.to_mono(self.alloc)?)?)?;
         self.images.push(Image {
-            forms,
+            rests,
+            steps: Vec::new(self.alloc),
             changed: true,
         })?;
         if let Some(x) = x {
@@ -252,7 +239,8 @@ impl<F: Field, O: MonoOrder> Differences<F, O> {
         for _ in mark..self.trail.len() {
             if let Some(place) = self.trail.pop() {
                 if let Some(image) = self.images.get_mut(place) {
-                    let _ = image.forms.pop();
+                    let _ = image.rests.pop();
+                    let _ = image.steps.pop();
                 }
             }
         }
@@ -313,10 +301,9 @@ impl<F: Field, O: MonoOrder> Differences<F, O> {
     fn change(&mut self, place: usize, rest: Poly<F, O>, step: StepId) -> Result<(), AllocError> {
         if let Some(image) = self.images.get_mut(place) {
             image.changed = true;
-            image.forms.push(Form {
-                rest,
-                step: Some(step),
-            })?;
+            image.rests.reserve(1)?;
+            image.steps.push(step)?;
+            image.rests.push(rest)?;
             self.trail.push(place)?;
         }
         Ok(())
@@ -339,7 +326,7 @@ impl<F: Field, O: MonoOrder> Differences<F, O> {
     }
 
     /// Whether multiples of monomials may be a constant.
-    fn may_cancel(&self, terms: &[(F, usize)]) -> bool {
+    fn may_cancel(&self, terms: &[(u64, usize)]) -> bool {
         let (one, other) = match terms {
             [one, other] => (one.1, other.1),
             _ => return true,
@@ -361,7 +348,8 @@ impl<F: Field, O: MonoOrder> Differences<F, O> {
             let Some(rest) = self.rest_at(*place) else {
                 return Ok(false);
             };
-            let Some(scaled) = within(rest.scale(*c))? else {
+            let c = F::of(u128::from(*c));
+            let Some(scaled) = within(rest.scale(c))? else {
                 return Ok(false);
             };
             match within(sum.add(&scaled))? {
@@ -395,6 +383,7 @@ impl<F: Field, O: MonoOrder> Differences<F, O> {
         sum.push((Source::Step(difference.generator), one))?;
         for (c, place) in difference.terms.as_slice() {
             if let Some(step) = self.images.get(*place).and_then(|image| image.step()) {
+                let c = F::of(u128::from(*c));
                 let factor = multiple(alloc, c.neg(), difference.inverse)?;
                 sum.push((Source::Step(step), factor))?;
             }

@@ -50,6 +50,11 @@ impl Effort {
         }
     }
 
+    /// Whether the round is the first one.
+    pub fn is_first(self) -> bool {
+        self.guesses == FIRST_GUESSES
+    }
+
     /// How many units the round may take.
     pub fn allowance(self) -> u64 {
         self.allowance

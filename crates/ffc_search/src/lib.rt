@@ -19,6 +19,7 @@ mod roots;
 mod rounds;
 mod searching;
 mod shallow;
+mod shapes;
 mod survey;
 mod weights;
 

@@ -16,18 +16,20 @@ use crate::inverses::Given;
 use crate::points::is_zero;
 use crate::rounds::{Outcome, Task, round};
 use crate::shallow::Shallow;
+use crate::shapes::shapes_of;
 use crate::weights::Weights;
 use ffc_base::{Meter, SearchStop, Unit};
 use ffc_field::Field;
 use ffc_line::Line;
 use ffc_mono::MonoOrder;
 use ffc_roots::Elements;
+use ffc_runningsums::Sums;
 use ffc_stack::BasisStack;
 use ffc_trees::read_trees_close;
 use std::alloc::{AllocError, Global};
 
 /// One round: a shallow one without the inverses, where these are apart, and else one on the stack.
-fn turn_round<F: Field, O: MonoOrder>(
+fn one_round<F: Field, O: MonoOrder>(
     alloc: Global,
     stack: &mut BasisStack<F, O>,
     given: &Given<F, O>,
@@ -46,6 +48,67 @@ fn turn_round<F: Field, O: MonoOrder>(
         }
     }
     round(alloc, stack, given, vars, task, weights, meter)
+}
+
+/// What a round comes to that was given up: a tree with the cases of two bits that are not equal, if their sums clash then.
+fn by_pairs<F: Field>(
+    alloc: Global,
+    sums: &Sums,
+    meter: &mut Meter,
+) -> Result<Outcome<F>, SearchStop>
+    ensures metered { Metered SearchStop.Spent result meter.old meter.new }
+{
+    match sums.refuted_by_pairs(alloc, meter)? {
+        Some(lines) => Ok(Outcome::Closed(lines, Vec::new(alloc))),
+        None => Ok(Outcome::GivenUp),
+    }
+}
+
+/// The first round, between two looks at sums of bits that are named step by step.
+fn first_round<F: Field, O: MonoOrder>(
+    alloc: Global,
+    stack: &mut BasisStack<F, O>,
+    given: &Given<F, O>,
+    shallow: &mut Option<Shallow<F, O>>,
+    vars: &[u32],
+    task: Task,
+    weights: Weights,
+    meter: &mut Meter,
+) -> Result<(Outcome<F>, Weights), SearchStop>
+    ensures above { StaysAbove task.floor stack.old stack.new }
+    ensures metered { Metered SearchStop.Spent result meter.old meter.new }
+{
+    let mut sums = Sums::new(alloc, F::ORDER, shapes_of(alloc, stack.lines())?)?;
+    if let Some(lines) = sums.refuted(alloc, meter)? {
+        return Ok((Outcome::Closed(lines, Vec::new(alloc)), weights));
+    }
+    let (outcome, weights) = one_round(alloc, stack, given, shallow, vars, task, weights, meter)?;
+    let outcome = match outcome {
+        Outcome::GivenUp => by_pairs::<F>(alloc, &sums, meter)?,
+        ended => ended,
+    };
+    Ok((outcome, weights))
+}
+
+/// One round, the first one or another.
+fn turn_round<F: Field, O: MonoOrder>(
+    alloc: Global,
+    stack: &mut BasisStack<F, O>,
+    given: &Given<F, O>,
+    shallow: &mut Option<Shallow<F, O>>,
+    vars: &[u32],
+    task: Task,
+    weights: Weights,
+    meter: &mut Meter,
+) -> Result<(Outcome<F>, Weights), SearchStop>
+    ensures above { StaysAbove task.floor stack.old stack.new }
+    ensures metered { Metered SearchStop.Spent result meter.old meter.new }
+{
+    if task.effort.is_first() {
+        first_round(alloc, stack, given, shallow, vars, task, weights, meter)
+    } else {
+        one_round(alloc, stack, given, shallow, vars, task, weights, meter)
+    }
 }
 
 /// The stack without inverses, if there are some. Equations of bits are better off with them.
