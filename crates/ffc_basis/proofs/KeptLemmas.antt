@@ -49,3 +49,8 @@ in_table P false table others sum old e is h = absurd (false≢true e)
 pub in_sum : (P : Terms → Terms → Type 0) (b : Bool) (table sum others old : Terms) → b ≡ false → (if b then table else sum) ≡ old → P others sum → P (if b then table else others) old
 in_sum P true table sum others old e is h = absurd (false≢true (sym e))
 in_sum P false table sum others old e is h = subst (P others) is h
+
+-- what holds of the table's polynomial and multiples
+pub multiple_in_table : (P : Terms → List Multiple → Type 0) (b : Bool) (table sum : Terms) (ks : List Multiple) (old : Terms) (kept : List Multiple) → b ≡ true → (if b then table else sum) ≡ old → ks ≡ kept → P table ks → P old kept
+multiple_in_table P true table sum ks old kept e is same h = subst (P old) same (subst (λ ts. P ts ks) is h)
+multiple_in_table P false table sum ks old kept e is same h = absurd (false≢true e)

@@ -6,15 +6,16 @@ use Rattle.std.specs.declared.cmp.Ordering.{Ordering}
 use Rattle.std.specs.declared.cmp.Ordering.TheVariants.{Greater}
 use Rattle.ffc_base.specs.Metering.{Spending, one_more}
 use Rattle.ffc_base.specs.declared.meter.Unit.TheVariants.{Reduction}
-use Rattle.ffc_field.specs.Modular.{IsPrime, add_mod}
+use Rattle.ffc_field.specs.Modular.{IsPrime, add_mod, mul_mod}
 use Rattle.ffc_field.proofs.ModularLaws.{add_mod-comm, add_mod-zero, add_mod-cancel}
-use Rattle.ffc_ring.specs.Monomial.{Monomial, IsMonomial}
+use Rattle.ffc_ring.specs.Monomial.{Monomial, IsMonomial, mono_mul}
 use Rattle.ffc_ring.specs.Polynomial.{Terms, AreTerms, coefficient, SamePolynomial, term_product, scaled, difference, PassesTerms, AreItsMonomials}
 use Rattle.ffc_ring.proofs.PolynomialLemmas.{cases_monomial, written-at, coefficient-append, same_sums}
 use Rattle.ffc_mono.specs.MonomialOrder.{IsMonomialOrder}
 use Rattle.ffc_mono.specs.Leading.{IsLeading}
 use Rattle.ffc_mono.proofs.LeadingLemmas.{greater_trans, not_itself, one_leading}
 use Rattle.ffc_poly.specs.Ordered.{IsAbove, IsOrdered, residues}
+use Rattle.ffc_dense.specs.Tables.{LeadsMultiple}
 use Rattle.ffc_line.specs.Lines.{Parts, combination, IsPolynomial}
 use Rattle.ffc_basis.specs.Records.{AreOfDifferentLines}
 use Rattle.ffc_basis.specs.Reduction.{IsIrreducible, IsReduced, IsStep, AreIrreducible, IsRecorded}
@@ -76,6 +77,19 @@ nothing_is_reduced p cmp gs front is m some = absurd (some (ap (λ l. coefficien
 
 leading_same : (p : ℕ) (cmp : Monomial → Monomial → Ordering) (a b : Terms) (c : ℕ) (m : Monomial) → SamePolynomial p a b → IsLeading p cmp a c m → IsLeading p cmp b c m
 leading_same p cmp a b c m same l = (sym (same m) ∙ l.0, l.1, λ n some off. l.2 n (λ none. some (sym (same n) ∙ none)) off)
+
+-- the multiple of a line that has the leading term of the same polynomial is a step
+pub held_leads : (p : ℕ) (cmp : Monomial → Monomial → Ordering) (gs : List Terms) (old new line : Terms) (i c k d : ℕ) (n q : Monomial) → get_or gs i [] ≡ line → SamePolynomial p new old → LeadsMultiple p cmp gs old i c q → AreTerms line → IsMonomial n → IsLeading p cmp line d n → mul_mod p k d ≡ c → IsStepOfLead p cmp gs new i k q
+held_leads p cmp gs old new line i c k d n q is same held terms monomial leads quotient =
+    let own : IsLeading p cmp (get_or gs i []) d n = subst (λ ts. IsLeading p cmp ts d n) (sym is) leads in (
+      c,
+      mono_mul n q,
+      leading_same p cmp old new c (mono_mul n q) (λ m. sym (same m)) (held.1 d n (subst AreTerms (sym is) terms) monomial own),
+      record {
+        within = held.0;
+        leading = (d, n, own, refl, quotient);
+      },
+    )
 
 -- all of a polynomial is left
 pub begins_split : (p : ℕ) (cmp : Monomial → Monomial → Ordering) (front left poly : Terms) (most : ℕ) → front ≡ [] → SamePolynomial p left poly → most ≡ length poly → length poly ≤ 131072 → IsSplit p cmp front left most

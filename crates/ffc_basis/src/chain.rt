@@ -178,9 +178,31 @@ fn is_under<F: Field, O: MonoOrder>(
     }
 }
 
-/// Where the record of a pair is, if there is one: they are ordered by their second lines and then by their first ones.
+/// Whether a pair comes before that of these two lines.
+fn is_before(pair: &PairRecord, first: usize, second: usize) -> bool {
+    pair.second < second || pair.second == second && pair.first < first
+}
+
+/// How many pairs there are before that of two lines, where all are recorded.
+fn pairs_before(first: usize, second: usize) -> usize {
+    let earlier = second.saturating_mul(second.saturating_sub(1)) / 2;
+    earlier.saturating_add(first)
+}
+
+/// Where the record of a pair is, if there is one: they are ordered by their second lines and then by their first ones. It is
+/// sought from the place down that it has where all pairs are recorded, since mostly few are not.
 pub(crate) fn place_of_pair(records: &[PairRecord], first: usize, second: usize) -> usize {
-    records.partition_point(|r| r.second < second || (r.second == second && r.first < first))
+    let mut high = pairs_before(first, second).min(records.len());
+    for shift in 0..32u32 {
+        let step = 1usize << shift;
+        if step > high || is_before(&records[high - step], first, second) {
+            let low = high.saturating_sub(step);
+            let part = &records[low..high];
+            return low.saturating_add(part.partition_point(|r| is_before(r, first, second)));
+        }
+        high -= step;
+    }
+    records.partition_point(|r| is_before(r, first, second))
 }
 
 /// Whether it is known that the pair of two lines reduces to zero.

@@ -4,7 +4,7 @@ ghost use Rattle.std.specs.Prelude.{◌≡◌, ◌+◌, ◌≤◌, ◌↔◌, �
 ghost use Rattle.std.specs.Prelude.{IsTrue, IsNone, IfOk, IfSome, OnOk, OnErr, MatchOption};
 ghost use Rattle.ffc_ring.specs.Polynomial.{Terms, SamePolynomial, term_product, difference};
 ghost use Rattle.ffc_mono.specs.Leading.{IsLeading};
-ghost use Rattle.ffc_dense.specs.Tables.{AreMultiplesOf, IsLineOf};
+ghost use Rattle.ffc_dense.specs.Tables.{AreMultiplesOf, IsLineOf, LeadsMultiple};
 
 use crate::reduction::past_limit;
 use ffc_dense::Table;
@@ -151,6 +151,20 @@ impl<F: Field, O: MonoOrder> Left<F, O> {
             self.table.lead()
         } else {
             self.sum.lead()
+        }
+    }
+
+    /// The multiple of a line that the table keeps at the leading monomial, if there is one.
+    pub(crate) fn held(&mut self) -> Result<Option<(usize, F, Mono)>, AllocError>
+        ensures same { SamePolynomial F.ORDER self.new.0 self.old.0 }
+        ensures multiples { self.new.1 ≡ self.old.1 }
+        ensures held { IfOk result (λ o. IfSome o (λ t. (gs : List Terms) → AreMultiplesOf F.ORDER gs self.old.1
+            → LeadsMultiple F.ORDER O.cmp gs self.old.0 t.0 (F.value t.1) t.2)) }
+    {
+        if self.is_in_table {
+            self.table.held()
+        } else {
+            Ok(None)
         }
     }
 

@@ -159,7 +159,7 @@ fn pair_line<F: Field, O: MonoOrder>(
             second,
             state: PairState::Pending,
         };
-        queue.put(alloc, lines, &pair, records.len())?;
+        queue.put(lines, index, &pair, records.len())?;
         records.push(pair)?;
     }
     Ok(())
@@ -279,7 +279,7 @@ fn leave_out<F: Field, O: MonoOrder>(
     }
     let front = pairing
         .queue
-        .front(alloc, lines, index, pairing.records.as_slice())?;
+        .front(lines, index, pairing.records.as_slice())?;
     if front.is_some() {
         return Ok(());
     }
@@ -366,7 +366,6 @@ fn first_open(records: &[PairRecord]) -> Option<usize>
 
 /// The place of the pair that comes next.
 fn next_place<F: Field, O: MonoOrder>(
-    alloc: Global,
     lines: &[Line<F, O>],
     index: &Index,
     records: &[PairRecord],
@@ -375,7 +374,7 @@ fn next_place<F: Field, O: MonoOrder>(
     ensures some { IfOk result (λ o. IfSome o (IsPendingAt records.now)) }
     ensures none { IfOk result (λ o. IfNone o (AreDone records.now)) }
 {
-    if let Some(place) = queue.next_near(alloc, lines, index, records)? {
+    if let Some(place) = queue.next_near(lines, index, records)? {
         return Ok(Some(place));
     }
     if let Some(place) = queue.next_open(records)? {
@@ -569,7 +568,6 @@ fn constant_line<F: Field, O: MonoOrder>(lines: &[Line<F, O>], index: &Index) ->
 
 /// Whether another pair is due: fewer than so many units were taken, or the next pair simplifies, or none waits.
 fn is_due<F: Field, O: MonoOrder>(
-    alloc: Global,
     lines: &[Line<F, O>],
     index: &Index,
     records: &[PairRecord],
@@ -582,7 +580,7 @@ fn is_due<F: Field, O: MonoOrder>(
     if taken < units {
         return Ok(true);
     }
-    queue.simplifies(alloc, lines, index, records)
+    queue.simplifies(lines, index, records)
 }
 
 /// Goes on with Buchberger's algorithm, until at least so many units were taken and the next pair does not simplify.
@@ -619,7 +617,6 @@ pub(crate) fn advance<F: Field, O: MonoOrder>(
     let mut taken = 0;
     pair_lines(alloc, lines.as_slice(), index, pairing)?;
     while is_due(
-        alloc,
         lines.as_slice(),
         index,
         pairing.records.as_slice(),
@@ -628,7 +625,6 @@ pub(crate) fn advance<F: Field, O: MonoOrder>(
         units,
     )? {
         let next = next_place(
-            alloc,
             lines.as_slice(),
             index,
             pairing.records.as_slice(),

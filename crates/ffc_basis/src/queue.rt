@@ -20,10 +20,13 @@ use crate::pair::PairRecord;
 use crate::represented::is_recorded;
 use ffc_field::Field;
 use ffc_line::Line;
-use ffc_mono::{Mono, MonoOrder, MonoRef, MonoStop};
+use ffc_mono::{DEGREE_LIMIT, MonoOrder, MonoRef};
 use std::alloc::{AllocError, Global};
 use std::collections::BinaryHeap;
 use std::mem;
+
+/// So many lines that begin with a variable are looked at before a pair waits.
+const MOST_LOOKED: usize = 2;
 
 /// A pair that waits. The greatest comes first.
 #[derive(Clone, Copy, Debug, PartialEq, Eq, PartialOrd, Ord)]
@@ -101,16 +104,21 @@ impl Queue {
         self.has_all = self.has_all && is_over;
     }
 
-    /// Lets a pair wait.
+    /// Lets a pair wait. Where a line before its second one leaves it out whatever is done until then, it waits with those that
+    /// are left out: so it does as soon as it is the next one.
     pub fn put<F: Field, O: MonoOrder>(
         &mut self,
-        alloc: Global,
         lines: &[Line<F, O>],
+        index: &Index,
         pair: &PairRecord,
         place: usize,
     ) -> Result<(), AllocError> {
         let turn = turn_of(lines, pair, place);
-        self.near.push(turn)?;
+        if is_covered_at_once(lines, index, pair) {
+            self.late.push(late_of(turn, pair))?;
+        } else {
+            self.near.push(turn)?;
+        }
         Ok(())
     }
 
@@ -153,7 +161,6 @@ impl Queue {
     /// The place of the next pair that the criteria do not leave out, and whether it simplifies. It still waits.
     pub fn front<F: Field, O: MonoOrder>(
         &mut self,
-        alloc: Global,
         lines: &[Line<F, O>],
         index: &Index,
         pairs: &[PairRecord],
@@ -163,15 +170,10 @@ impl Queue {
         while let Some(turn) = self.near.peek().copied() {
             let place = turn.place();
             if let Some(pair) = waiting_at(pairs, place) {
-                if !is_covered(alloc, lines, index, pairs, &pair)? {
+                if !is_covered(lines, index, pairs, &pair) {
                     return Ok(Some((place, turn.simplifies)));
                 }
-                self.late.push(Late {
-                    ease: turn.ease,
-                    second: usize::MAX - pair.second,
-                    first: pair.first,
-                    turn,
-                })?;
+                self.late.push(late_of(turn, &pair))?;
             }
             self.near.pop();
         }
@@ -181,12 +183,11 @@ impl Queue {
     /// Whether the next pair simplifies. So it does where none waits: then there is nothing left to do.
     pub fn simplifies<F: Field, O: MonoOrder>(
         &mut self,
-        alloc: Global,
         lines: &[Line<F, O>],
         index: &Index,
         pairs: &[PairRecord],
     ) -> Result<bool, AllocError> {
-        match self.front(alloc, lines, index, pairs)? {
+        match self.front(lines, index, pairs)? {
             Some((_, simplifies)) => Ok(simplifies),
             None => Ok(self.late.is_empty() && self.open.is_empty()),
         }
@@ -195,14 +196,13 @@ impl Queue {
     /// Takes out the next pair that the criteria do not leave out.
     pub fn next_near<F: Field, O: MonoOrder>(
         &mut self,
-        alloc: Global,
         lines: &[Line<F, O>],
         index: &Index,
         pairs: &[PairRecord],
     ) -> Result<Option<usize>, AllocError>
         ensures { IfOk result (λ o. IfSome o (IsPendingAt pairs.now)) }
     {
-        let Some((place, _)) = self.front(alloc, lines, index, pairs)? else {
+        let Some((place, _)) = self.front(lines, index, pairs)? else {
             return Ok(None);
         };
         if let Some(turn) = self.near.pop() {
@@ -268,8 +268,8 @@ fn lead_of<F: Field, O: MonoOrder>(lines: &[Line<F, O>], line: usize) -> Option<
 /// The exponent of a variable in a monomial.
 fn exponent_in(powers: &[(u32, u32)], x: u32) -> u32 {
     for power in powers {
-        if power.0 == x {
-            return power.1;
+        if power.0 >= x {
+            return if power.0 == x { power.1 } else { 0 };
         }
     }
     0
@@ -285,12 +285,58 @@ fn lcm_degree(m: MonoRef<'_>, n: MonoRef<'_>) -> u32 {
     degree
 }
 
-/// The least common multiple of two monomials, where it is within the limit on degrees.
-fn lcm_of(alloc: Global, m: MonoRef<'_>, n: MonoRef<'_>) -> Result<Option<Mono>, AllocError> {
-    match m.to_mono(alloc)?.lcm(&n.to_mono(alloc)?) {
-        Ok(lcm) => Ok(Some(lcm)),
-        Err(MonoStop::DegreeOver) => Ok(None),
-        Err(MonoStop::Memory) => Err(AllocError),
+/// The leading monomials of the two lines of a pair. Their least common multiple is not made to see which monomials divide it.
+#[derive(Clone, Copy)]
+struct Leads<'a> {
+    first: MonoRef<'a>,
+    second: MonoRef<'a>,
+    /// The degree of the least common multiple.
+    degree: u32,
+}
+
+impl<'a> Leads<'a> {
+    /// Whether the least common multiple is within the limit on degrees.
+    fn is_within(self) -> bool {
+        self.degree <= DEGREE_LIMIT
+    }
+
+    /// Whether a monomial divides the least common multiple.
+    fn is_multiple_of(self, m: MonoRef<'_>) -> bool {
+        if m.degree() > self.degree {
+            return false;
+        }
+        for power in m.pairs() {
+            if power.1 > exponent_in(self.second.pairs(), power.0)
+                && power.1 > exponent_in(self.first.pairs(), power.0)
+            {
+                return false;
+            }
+        }
+        true
+    }
+}
+
+/// The leading monomials of the lines of a pair, where both are not 0.
+fn leads_of<'a, F: Field, O: MonoOrder>(
+    lines: &'a [Line<F, O>],
+    pair: &PairRecord,
+) -> Option<Leads<'a>> {
+    let first = lead_of(lines, pair.first)?;
+    let second = lead_of(lines, pair.second)?;
+    Some(Leads {
+        first,
+        second,
+        degree: lcm_degree(first, second),
+    })
+}
+
+/// A pair that is left out.
+fn late_of(turn: Turn, pair: &PairRecord) -> Late {
+    Late {
+        ease: turn.ease,
+        second: usize::MAX - pair.second,
+        first: pair.first,
+        turn,
     }
 }
 
@@ -340,27 +386,91 @@ fn is_replacing<F: Field, O: MonoOrder>(lines: &[Line<F, O>], line: usize) -> bo
 
 /// Whether the criteria leave a pair out.
 fn is_covered<F: Field, O: MonoOrder>(
-    alloc: Global,
     lines: &[Line<F, O>],
     index: &Index,
     pairs: &[PairRecord],
     pair: &PairRecord,
-) -> Result<bool, AllocError> {
-    let Some(m) = lead_of(lines, pair.first) else {
-        return Ok(false);
+) -> bool {
+    let Some(leads) = leads_of(lines, pair) else {
+        return false;
     };
-    let Some(n) = lead_of(lines, pair.second) else {
-        return Ok(false);
-    };
-    let Some(lcm) = lcm_of(alloc, m, n)? else {
-        return Ok(false);
-    };
-    for power in lcm.as_ref().pairs() {
-        if is_covered_by(lines, index.begun_by(power.0), pairs, pair, lcm.as_ref()) {
-            return Ok(true);
+    leads.is_within()
+        && (is_covered_from(lines, index, pairs, pair, leads.second, leads)
+            || is_covered_from(lines, index, pairs, pair, leads.first, leads))
+}
+
+/// Whether a line whose leading monomial begins with a variable of a monomial leaves a pair out.
+fn is_covered_from<F: Field, O: MonoOrder>(
+    lines: &[Line<F, O>],
+    index: &Index,
+    pairs: &[PairRecord],
+    pair: &PairRecord,
+    m: MonoRef<'_>,
+    leads: Leads<'_>,
+) -> bool {
+    for power in m.pairs() {
+        if is_covered_by(lines, index.begun_by(power.0), pairs, pair, leads) {
+            return true;
         }
     }
-    Ok(false)
+    false
+}
+
+/// Whether a line before the second one of a pair leaves it out, whatever is known of other pairs.
+fn is_covered_at_once<F: Field, O: MonoOrder>(
+    lines: &[Line<F, O>],
+    index: &Index,
+    pair: &PairRecord,
+) -> bool {
+    let Some(leads) = leads_of(lines, pair) else {
+        return false;
+    };
+    leads.is_within()
+        && (is_covered_before(lines, index, pair, leads.second, leads)
+            || is_covered_before(lines, index, pair, leads.first, leads))
+}
+
+/// Whether such a line's leading monomial begins with a variable of a monomial. Only the last ones are looked at: where another
+/// one leaves the pair out, that is seen when the pair is the next one.
+fn is_covered_before<F: Field, O: MonoOrder>(
+    lines: &[Line<F, O>],
+    index: &Index,
+    pair: &PairRecord,
+    m: MonoRef<'_>,
+    leads: Leads<'_>,
+) -> bool {
+    for power in m.pairs() {
+        let numbers = index.begun_by(power.0);
+        let before = numbers
+            .partition_point(|number| *number < pair.second)
+            .min(numbers.len());
+        let from = before.saturating_sub(MOST_LOOKED);
+        for number in numbers[from..before].iter().rev() {
+            if covers_at_once(lines, *number, pair, leads) {
+                return true;
+            }
+        }
+    }
+    false
+}
+
+/// Whether a line before the second one of a pair leaves it out, whatever is known of other pairs.
+fn covers_at_once<F: Field, O: MonoOrder>(
+    lines: &[Line<F, O>],
+    line: usize,
+    pair: &PairRecord,
+    leads: Leads<'_>,
+) -> bool {
+    if line == pair.first {
+        return false;
+    }
+    let Some(m) = lead_of(lines, line) else {
+        return false;
+    };
+    leads.is_multiple_of(m)
+        && (line > pair.first
+            || lcm_degree(m, leads.second) < leads.degree
+            || m.is_coprime(leads.second))
 }
 
 /// The place to look at in a step: first those before a number, from the last one on, and then the others. A pair mostly follows
@@ -375,32 +485,32 @@ pub(crate) fn turned(before: usize, step: usize) -> usize
     }
 }
 
-/// Whether one of these lines leaves a pair with this least common multiple out.
+/// Whether one of these lines leaves a pair out.
 fn is_covered_by<F: Field, O: MonoOrder>(
     lines: &[Line<F, O>],
     numbers: &[usize],
     pairs: &[PairRecord],
     pair: &PairRecord,
-    lcm: MonoRef<'_>,
+    leads: Leads<'_>,
 ) -> bool {
     let before = numbers
         .partition_point(|number| *number < pair.second)
         .min(numbers.len());
     for step in 0..numbers.len() {
-        if covers(lines, numbers[turned(before, step)], pairs, pair, lcm) {
+        if covers(lines, numbers[turned(before, step)], pairs, pair, leads) {
             return true;
         }
     }
     false
 }
 
-/// Whether a line leaves a pair with this least common multiple out.
+/// Whether a line leaves a pair out.
 fn covers<F: Field, O: MonoOrder>(
     lines: &[Line<F, O>],
     line: usize,
     pairs: &[PairRecord],
     pair: &PairRecord,
-    lcm: MonoRef<'_>,
+    leads: Leads<'_>,
 ) -> bool {
     if line == pair.first || line == pair.second {
         return false;
@@ -408,28 +518,34 @@ fn covers<F: Field, O: MonoOrder>(
     let Some(m) = lead_of(lines, line) else {
         return false;
     };
-    m.divides(lcm)
-        && is_earlier(lines, line, pair.second, pairs, pair, lcm)
-        && is_earlier(lines, line, pair.first, pairs, pair, lcm)
+    leads.is_multiple_of(m)
+        && is_earlier(
+            m,
+            line,
+            leads.second,
+            pair.second,
+            pairs,
+            pair,
+            leads.degree,
+        )
+        && is_earlier(m, line, leads.first, pair.first, pairs, pair, leads.degree)
 }
 
 /// Whether the pair of a line and one of the lines of a pair, whose leading monomials divide the least common multiple of that
-/// pair, comes before that pair, or is done, or needs nothing.
-fn is_earlier<F: Field, O: MonoOrder>(
-    lines: &[Line<F, O>],
+/// pair, comes before that pair, or is done, or needs nothing. The degree is that of the least common multiple.
+fn is_earlier(
+    m: MonoRef<'_>,
     line: usize,
+    n: MonoRef<'_>,
     other: usize,
     pairs: &[PairRecord],
     pair: &PairRecord,
-    lcm: MonoRef<'_>,
+    degree: u32,
 ) -> bool {
-    let (Some(m), Some(n)) = (lead_of(lines, line), lead_of(lines, other)) else {
-        return false;
-    };
     let second = line.max(other);
     second < pair.second
         || second == pair.second && line.min(other) > pair.first
-        || lcm_degree(m, n) < lcm.degree()
+        || lcm_degree(m, n) < degree
         || m.is_coprime(n)
         || is_recorded(pairs, line.min(other), second)
 }

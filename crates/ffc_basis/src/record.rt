@@ -239,14 +239,29 @@ fn times<F: Field, O: MonoOrder>(
     Ok(parts)
 }
 
+/// So many places are remembered.
+const HINTS: usize = 128;
+
+/// Where it is remembered at which place the part of a line is. Another line may have taken its place.
+fn hint_of(line: LineId) -> usize
+    ensures { result < HINTS }
+{
+    (line % HINTS as u64) as usize
+}
+
 /// What lines were multiplied by. A clause sees the parts: the number of each line with its terms.
 pub(crate) struct Record<F: Field> {
     multiples: Vec<Multiples<F>>,
+    /// Places of parts. A step mostly takes a line that has a part, which is to be found without a look at all parts.
+    hints: [usize; HINTS],
 }
 
 impl<F: Field> Drop for Record<F> {
     fn drop(self) {
-        let Record { multiples: _ } = self;
+        let Record {
+            multiples: _,
+            hints: _,
+        } = self;
     }
 }
 
@@ -268,6 +283,7 @@ impl<F: Field> Record<F> {
     {
         Record {
             multiples: Vec::new(alloc),
+            hints: [0; HINTS],
         }
     }
 
@@ -284,6 +300,10 @@ impl<F: Field> Record<F> {
         ensures some { IfSome result (λ i. (i < length self.now) × ((get_or self.now i (0, [])).0 ≡ line)) }
         ensures none { IfNone result (IsLineOfNone line self.now) }
     {
+        let hint = self.hints[hint_of(line)];
+        if hint < self.multiples.len() && self.multiples[hint].line() == line {
+            return Some(hint);
+        }
         place_of(self.multiples.as_slice(), line)
     }
 
@@ -303,7 +323,10 @@ impl<F: Field> Record<F> {
         ensures recorded { OnOk result (IsRecorded F.ORDER self.old self.new line (F.value c) m.now) }
         ensures unchanged { OnErr result (self.new ≡ self.old) }
     {
-        append(&mut self.multiples, line, c, m)
+        let place = self.multiples.len();
+        append(&mut self.multiples, line, c, m)?;
+        self.hints[hint_of(line)] = place;
+        Ok(())
     }
 
     /// Records a multiple in the part at a place, or as a part of its own.
@@ -326,7 +349,9 @@ impl<F: Field> Record<F> {
         match place {
             Some(place) => add_at::<F, O>(&mut self.multiples, place, c, m),
             None => {
+                let place = self.multiples.len();
                 append(&mut self.multiples, line, c, m)?;
+                self.hints[hint_of(line)] = place;
                 Ok(())
             }
         }

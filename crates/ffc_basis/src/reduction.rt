@@ -56,7 +56,7 @@ pub(crate) struct Step<F: Field> {
 }
 
 /// The coefficient c divided by d. A line of a completion has the leading coefficient 1, which needs no inverse.
-fn quotient_of<F: Field>(c: F, d: F) -> F
+pub(crate) fn quotient_of<F: Field>(c: F, d: F) -> F
     requires { F.value d ≢ 0 }
     ensures { mul_mod F.ORDER (F.value result) (F.value d) ≡ F.value c }
 {

@@ -17,7 +17,7 @@ ghost use Rattle.ffc_basis.specs.Units.{TakesReductions};
 use crate::index::Index;
 use crate::left::{self, Left};
 use crate::record::Record;
-use crate::reduction::{Step, only_memory, step_at};
+use crate::reduction::{Step, only_memory, quotient_of, step_at};
 use ffc_base::{Meter, Stop, Unit};
 use ffc_dense::Table;
 use ffc_field::Field;
@@ -185,8 +185,9 @@ fn cancel_lead<F: Field, O: MonoOrder>(
     Ok(true)
 }
 
-/// Finishes or cancels the leading term of what is left. Ends where nothing is left, or where a limit may be passed.
-fn reduce_lead<F: Field, O: MonoOrder>(
+/// Finishes or cancels the leading term of what is left, by a line that is sought. Ends where nothing is left, or where a
+/// limit may be passed.
+fn search_lead<F: Field, O: MonoOrder>(
     alloc: Global,
     lines: &[Line<F, O>],
     index: &Index,
@@ -216,6 +217,61 @@ fn reduce_lead<F: Field, O: MonoOrder>(
             Ok(true)
         }
         Some(step) => cancel_lead(lines, rest, parts, &step, meter),
+    }
+}
+
+/// The multiple of a line that is kept and has the leading term of what is left, if there is one. So no line is sought.
+fn held_step<F: Field, O: MonoOrder>(
+    lines: &[Line<F, O>],
+    left: &mut Left<F, O>,
+) -> Result<Option<Step<F>>, AllocError>
+    requires { AreMultiplesOf F.ORDER (polys_of lines.now) left.old.1 }
+    ensures same { SamePolynomial F.ORDER left.new.0 left.old.0 }
+    ensures multiples { left.new.1 ≡ left.old.1 }
+    ensures step { IfOk result (λ o. IfSome o (λ s. IsStepOfLead F.ORDER O.cmp (polys_of lines.now) left.new.0
+        s.line (F.value s.coefficient) s.monomial)) }
+{
+    let Some(held) = left.held()? else {
+        return Ok(None);
+    };
+    let line = held.0;
+    let poly = &lines[line].poly;
+    let _length = poly.len();
+    let Some(lead) = poly.lead() else {
+        return Ok(None);
+    };
+    Ok(Some(Step {
+        line,
+        coefficient: quotient_of(held.1, lead.0),
+        monomial: held.2,
+    }))
+}
+
+/// Finishes or cancels the leading term of what is left. Ends where nothing is left, or where a limit may be passed.
+fn reduce_lead<F: Field, O: MonoOrder>(
+    alloc: Global,
+    lines: &[Line<F, O>],
+    index: &Index,
+    rest: &mut Remainder<F, O>,
+    parts: &mut Record<F>,
+    meter: &mut Meter,
+) -> Result<bool, Stop>
+    requires index { IsIndexOf F.ORDER O.cmp (polys_of lines.now) index.now }
+    requires split { IsSplit F.ORDER O.cmp (front_of F.value rest.old) rest.old.left.0 rest.old.most }
+    requires reduced { IsReduced F.ORDER O.cmp (polys_of lines.now) (front_of F.value rest.old) }
+    requires multiples { AreMultiplesOf F.ORDER (polys_of lines.now) rest.old.left.1 }
+    ensures split { OnOk result (IsSplit F.ORDER O.cmp (front_of F.value rest.new) rest.new.left.0 rest.new.most) }
+    ensures reduced { OnOk result (IsReduced F.ORDER O.cmp (polys_of lines.now) (front_of F.value rest.new)) }
+    ensures multiples { OnOk result (AreMultiplesOf F.ORDER (polys_of lines.now) rest.new.left.1) }
+    ensures continues { OnOk result (Continues F.ORDER O.cmp (polys_of lines.now)
+        (whole_of F.value rest.old) parts.old meter.old (whole_of F.value rest.new) parts.new meter.new) }
+    ensures takes { TakesReductions meter.old meter.new }
+    ensures unpaid { OnErr result (meter.new ≡ meter.old) }
+    ensures spent { IsErrOf result Stop.Spent → total meter.new ≡ meter.new.budget }
+{
+    match held_step(lines, &mut rest.left)? {
+        Some(step) => cancel_lead(lines, rest, parts, &step, meter),
+        None => search_lead(alloc, lines, index, rest, parts, meter),
     }
 }
 

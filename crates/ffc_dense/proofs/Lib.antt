@@ -1,3 +1,4 @@
 pub mod ColumnLemmas
 pub mod DenseLemmas
+pub mod FirstLemmas
 pub mod TableLemmas

@@ -1,18 +1,24 @@
 -- Multiples that are kept.
-use Rattle.std.proofs.Common.{◌≡◌, ◌≢◌, ◌⊎◌, inl, inr, ℕ, zero, suc, ◌+◌, ◌-◌, ◌*◌, ◌%◌, ◌<◌, ◌≤◌, List, [], ◌∷◌, ◌++◌, length, take, get_or, set, get_or-take, length-set, get_or-set_same, get_or-set_other, All, Option, None, Some, IfSome, refl, sym, ap, ap₂, ◌∙◌, subst, arith, length-append, length-take}
+use Rattle.std.proofs.Common.{◌≡◌, ◌≢◌, ◌⊎◌, inl, inr, ℕ, zero, suc, ◌+◌, ◌-◌, ◌*◌, ◌%◌, ◌<◌, ◌≤◌, List, [], ◌∷◌, ◌++◌, length, take, get_or, set, get_or-take, length-set, get_or-set_same, get_or-set_other, All, Option, None, Some, IfSome, slice_get, refl, sym, ap, ap₂, ◌∙◌, subst, arith, length-append, length-take}
 use Rattle.std.specs.declared.cmp.Ordering.{Ordering}
 use Rattle.std.proofs.lemmas.List.Elements.{All-nil, All-cons, All-head, All-tail}
 use Rattle.std.proofs.Math.Nat.{mul_comm}
 use Rattle.std.proofs.lemmas.Bool.{cases_eq, cases_lt}
 use Rattle.std.proofs.lemmas.List.{get_or_past}
-use Rattle.ffc_ring.specs.Monomial.{Monomial, mono_mul}
-use Rattle.ffc_ring.specs.Polynomial.{Terms, SamePolynomial, term_product, scaled, difference}
+use Rattle.ffc_field.specs.Modular.{IsPrime, mul_mod}
+use Rattle.ffc_ring.specs.Monomial.{Monomial, IsMonomial, mono_mul}
+use Rattle.ffc_ring.specs.Polynomial.{Terms, AreTerms, SamePolynomial, term_product, scaled, difference}
+use Rattle.ffc_ring.proofs.MonomialLemmas.{mono_mul_comm}
+use Rattle.ffc_mono.specs.MonomialOrder.{IsMonomialOrder}
+use Rattle.ffc_mono.specs.Leading.{IsLeading}
+use Rattle.ffc_mono.proofs.LeadingLemmas.{leading_of_multiple, one_leading}
 use Rattle.ffc_ring.proofs.PolynomialLemmas.{weighted, weighted-append, weighted-term_product, SamePolynomial-from_weighted, one_weighted, times_alike, same_sums, same_term_products}
 use Rattle.ffc_poly.specs.Ordered.{IsOrdered}
 use Rattle.ffc_dense.specs.Columns.{AreNumbers, terms_of, Grows, IsLonger}
-use Rattle.ffc_dense.specs.Tables.{Multiple, multiple_of, multiples_of, IsKept, AreKept, AreMultiplesOf, IsLineOf, HasMultiple, PutsAtMost, KeepsBefore}
+use Rattle.ffc_dense.specs.Tables.{Multiple, multiple_of, multiples_of, IsKept, AreKept, AreMultiplesOf, IsLineOf, HasMultiple, IsHeldAt, LeadsMultiple, PutsAtMost, KeepsBefore}
 use Rattle.ffc_dense.specs.declared.table.Kept.{Kept}
 use Rattle.ffc_dense.proofs.DenseLemmas.{terms_of-more, numbers-more}
+use Rattle.ffc_dense.proofs.FirstLemmas.{first_leads}
 
 some_is : {X : Type 0} (x y : X) → Some x ≡ Some y → x ≡ y
 some_is x y e = cc e
@@ -108,6 +114,37 @@ multiple_subtracted p c m q old new ts now same =
   where
     one_times : (w c : ℕ) → 1 * w * c ≡ c * w
     one_times w c = ap (λ x. x * c) (let e : 1 * w ≡ w = omega arith in e) ∙ mul_comm w c
+
+-- ---- a multiple that is kept at the leading monomial
+
+pub leading_same : (p : ℕ) (cmp : Monomial → Monomial → Ordering) (a b : Terms) (c : ℕ) (m : Monomial) → SamePolynomial p a b → IsLeading p cmp a c m → IsLeading p cmp b c m
+leading_same p cmp a b c m same l = (sym (same m) ∙ l.0, l.1, λ n some off. l.2 n (λ none. some (sym (same n) ∙ none)) off)
+
+number_leads : {F : Type 0} (value : F → ℕ) (p : ℕ) (cmp : Monomial → Monomial → Ordering) (laws : IsMonomialOrder cmp) (ms : List Monomial) (ts : List (ℕ × F)) (t : ℕ × F) → IsOrdered p cmp 1024 (terms_of value ms ts) → Some t ≡ slice_get ts 0 → IsLeading p cmp (terms_of value ms ts) (value t.1) (get_or ms t.0 [])
+number_leads value p cmp laws ms [] t ordered is = absurd (cc is)
+number_leads {F = F} value p cmp laws ms (u ∷ ts) t ordered is =
+    subst (λ (x : ℕ × F). IsLeading p cmp (terms_of value ms (u ∷ ts)) (value x.1) (get_or ms x.0 [])) (sym (some_is t u is))
+    (first_leads p cmp laws 1024 (value u.1, get_or ms u.0 []) (terms_of value ms ts) ordered)
+
+module _ (p : ℕ) (prime : IsPrime p) (cmp : Monomial → Monomial → Ordering) (laws : IsMonomialOrder cmp) where
+  -- its leading monomial is the one of that number
+  pub held_leads : {F : Type 0} (value : F → ℕ) (gs : List Terms) (ms : List Monomial) (ks : List (Option (Kept F))) (slot line : ℕ) (m : Monomial) (ts : Terms) (c : ℕ) → AreKept p value cmp ms ks → IsHeldAt ks slot line m → IsMonomial m → IsLeading p cmp ts c (get_or ms slot []) → AreMultiplesOf p gs (multiples_of value ms ks) → LeadsMultiple p cmp gs ts line c m
+  held_leads value gs ms ks slot line m ts c kept (k, at, same_line, same_monomial, (t, first, number)) monomial leads all =
+      let P = λ (x : Multiple). (x.0 < length gs) × SamePolynomial p x.2 (term_product 1 x.1 (get_or gs x.0 [])) in
+      let own = terms_of value ms k.terms.items in
+      let whole = term_product 1 m (get_or gs line []) in
+      let this = each_multiple value ms P ks all slot k at in
+      let product : SamePolynomial p own whole =
+      subst (λ q. SamePolynomial p own (term_product 1 q (get_or gs line []))) same_monomial
+      (subst (λ n. SamePolynomial p own (term_product 1 k.monomial (get_or gs n []))) same_line this.1) in
+      let top : IsLeading p cmp own (value t.1) (get_or ms t.0 []) = number_leads value p cmp laws ms k.terms.items t (kept_at value p cmp ms ks slot k kept at).1 first in (
+        subst (λ n. n < length gs) same_line this.0,
+        λ d n terms is lead.
+            let times : IsLeading p cmp whole (mul_mod p 1 d) (mono_mul m n) = leading_of_multiple cmp laws p prime (get_or gs line []) terms 1 d m n monomial (omega arith) (omega (arith, prime.least)) lead in
+            let same : get_or ms t.0 [] ≡ mono_mul m n =
+            (one_leading cmp laws p whole (value t.1) (mul_mod p 1 d) (get_or ms t.0 []) (mono_mul m n) (leading_same p cmp own whole (value t.1) (get_or ms t.0 []) product top) times).1 in
+            subst (IsLeading p cmp ts c) (ap (λ i. get_or ms i []) (sym number) ∙ same ∙ mono_mul_comm m n monomial is) leads,
+      )
 
 -- ---- places
 

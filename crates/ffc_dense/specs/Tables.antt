@@ -1,8 +1,9 @@
 -- Kept multiples of lines.
-use Rattle.std.specs.Prelude.{◌≡◌, ℕ, ◌<◌, ◌⊎◌, List, [], ◌∷◌, All, Option, None, Some, IfSome, length, get_or}
+use Rattle.std.specs.Prelude.{◌≡◌, ℕ, ◌<◌, ◌⊎◌, List, [], ◌∷◌, All, Option, None, Some, IfSome, length, get_or, slice_get}
 use Rattle.std.specs.declared.cmp.Ordering.{Ordering}
-use Rattle.ffc_ring.specs.Monomial.{Monomial}
-use Rattle.ffc_ring.specs.Polynomial.{Terms, SamePolynomial, term_product}
+use Rattle.ffc_ring.specs.Monomial.{Monomial, IsMonomial, mono_mul}
+use Rattle.ffc_ring.specs.Polynomial.{Terms, AreTerms, SamePolynomial, term_product}
+use Rattle.ffc_mono.specs.Leading.{IsLeading}
 use Rattle.ffc_poly.specs.Ordered.{IsOrdered}
 use Rattle.ffc_dense.specs.Columns.{terms_of, AreNumbers}
 use Rattle.ffc_dense.specs.declared.table.Kept.{Kept}
@@ -38,6 +39,18 @@ multiple_of value ms k = (k.line, k.monomial, terms_of value ms k.terms.items)
 abbrev pub HasMultiple : {F : Type 0} → List (Option (Kept F)) → ℕ → ℕ → Monomial → Type 0
 HasMultiple {F} kept slot line m =
     (k : Kept F) × (get_or kept slot None ≡ Some k) × (k.line ≡ line) × (k.monomial ≡ m)
+
+-- and its first monomial has the number of the place
+abbrev pub IsHeldAt : {F : Type 0} → List (Option (Kept F)) → ℕ → ℕ → Monomial → Type 0
+IsHeldAt {F} kept slot line m =
+    (k : Kept F) × (get_or kept slot None ≡ Some k) × (k.line ≡ line) × (k.monomial ≡ m)
+    × ((t : ℕ × F) × (Some t ≡ slice_get k.terms.items 0) × (t.0 ≡ slot))
+
+-- the polynomial has the leading coefficient c, and the leading monomial of the line times m
+abbrev pub LeadsMultiple : ℕ → (Monomial → Monomial → Ordering) → List Terms → Terms → ℕ → ℕ → Monomial → Type 0
+LeadsMultiple p cmp gs ts line c m =
+    (line < length gs)
+    × ((d : ℕ) (n : Monomial) → AreTerms (get_or gs line []) → IsMonomial n → IsLeading p cmp (get_or gs line []) d n → IsLeading p cmp ts c (mono_mul n m))
 
 -- only this multiple is new
 abbrev pub PutsAtMost : {F : Type 0} → Kept F → List (Option (Kept F)) → List (Option (Kept F)) → Type 0

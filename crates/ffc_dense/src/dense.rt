@@ -261,7 +261,10 @@ impl<F: Field, O: MonoOrder> Dense<F, O> {
     }
 
     /// The number of the first term's monomial, or 0 where there is no term.
-    pub(crate) fn first_number(&self) -> usize {
+    pub(crate) fn first_number(&self) -> usize
+        ensures { 0 < length self.now.1 → (result < length self.now.0)
+            × (get_or self.now.0 result [] ≡ (get_or self.now.1 0 (0, [])).1) }
+    {
         if self.from < self.columns.places() {
             self.columns.at(self.from)
         } else {

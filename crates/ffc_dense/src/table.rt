@@ -7,6 +7,7 @@ ghost use Rattle.ffc_ring.specs.Polynomial.{Terms, SamePolynomial, term_product,
 ghost use Rattle.ffc_mono.specs.Leading.{IsLeading};
 ghost use Rattle.ffc_dense.specs.Columns.{terms_of, Grows};
 ghost use Rattle.ffc_dense.specs.Tables.{multiples_of, IsKept, AreKept, AreMultiplesOf, IsLineOf, HasMultiple, PutsAtMost, KeepsBefore};
+ghost use Rattle.ffc_dense.specs.Tables.{IsHeldAt, LeadsMultiple};
 
 use crate::dense::Dense;
 use ffc_field::Field;
@@ -108,6 +109,25 @@ fn holds<F: Field>(kept: &[Option<Kept<F>>], slot: usize, line: usize, m: &Mono)
         Some(multiple) => multiple.line == line && multiple.monomial == *m,
         None => false,
     }
+}
+
+/// The multiple at a place, where its first monomial has that number: its line and the monomial that this is multiplied by.
+fn held_at<F: Field>(kept: &[Option<Kept<F>>], slot: usize) -> Option<(usize, &Mono)>
+    ensures { IfSome result (λ t. IsHeldAt kept.now slot t.0 t.1.now) }
+{
+    if slot >= kept.len() {
+        return None;
+    }
+    let Some(multiple) = &kept[slot] else {
+        return None;
+    };
+    let Some(lead) = multiple.terms.first() else {
+        return None;
+    };
+    if lead.0 as usize != slot {
+        return None;
+    }
+    Some((multiple.line, &multiple.monomial))
 }
 
 /// Makes a place for a multiple.
@@ -381,6 +401,27 @@ impl<F: Field, O: MonoOrder> Table<F, O> {
         let lead = (c, m.clone()?);
         self.dense.drop_first();
         Ok(Some(lead))
+    }
+
+    /// The multiple that is kept at the leading monomial, if there is one: the number of its line, the leading coefficient of
+    /// the polynomial, and the monomial that the line is multiplied by. So no line is sought that divides the leading monomial.
+    pub fn held(&mut self) -> Result<Option<(usize, F, Mono)>, AllocError>
+        ensures same { SamePolynomial F.ORDER self.new.0 self.old.0 }
+        ensures multiples { self.new.1 ≡ self.old.1 }
+        ensures held { IfOk result (λ o. IfSome o (λ t. (gs : List Terms) → AreMultiplesOf F.ORDER gs self.old.1
+            → LeadsMultiple F.ORDER O.cmp gs self.old.0 t.0 (F.value t.1) t.2)) }
+    {
+        if !self.dense.settle() {
+            return Ok(None);
+        }
+        let slot = self.dense.first_number();
+        let Some((line, m)) = held_at(self.kept.as_slice(), slot) else {
+            return Ok(None);
+        };
+        let (c, _) = self.dense.first();
+        let m = m.clone()?;
+        let _degree = m.degree();
+        Ok(Some((line, c, m)))
     }
 
     /// Subtracts c*m*q, where q is a line with this number and c*m*q has the leading term. The product m*q is made where it is

@@ -2,7 +2,6 @@ use Rattle.std.proofs.Common.{ℕ, [], ◌∷◌, ◌++◌, refl, sym, ap, ◌�
 use Rattle.ffc_ring.specs.Polynomial.{Terms}
 use Rattle.ffc_line.specs.Lines.{Parts}
 use Rattle.ffc_basis.specs.Reduction.{IsRecorded}
-use Rattle.ffc_basis.proofs.Lists.{on_ok}
 use Rattle.ffc_basis.proofs.PartLemmas.{recorded_push}
 use Rattle.ffc_basis.proofs.record.Record.append.Goals as goal
 
@@ -13,7 +12,5 @@ returns-clause-recorded g c =
     let m = c.args.m.now in
     let old : Parts = c.args.self.now in
     let part : ℕ × Terms = (c.args.line, (k, m) ∷ []) in
-    on_ok c.append.result
-    (λ is. subst (λ (ts : Parts). IsRecorded p old ts c.args.line k m) (sym (is ∙ ap (λ (ts : Parts). ts ++ part ∷ []) c.self.view_is))
-    (recorded_push p c.args.line k m ((k, m) ∷ []) old (λ _. refl)))
-    c.append.ensures.appended
+    subst (λ (ts : Parts). IsRecorded p old ts c.args.line k m) (sym (c.in_ok-append.ensures.appended ∙ ap (λ (ts : Parts). ts ++ part ∷ []) c.self.view_is))
+    (recorded_push p c.args.line k m ((k, m) ∷ []) old (λ _. refl))
