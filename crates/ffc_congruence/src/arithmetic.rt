@@ -6,32 +6,59 @@ fn reduced(n: u128, p: u64) -> u64 {
     if p == 0 { 0 } else { (n % p) as u64 }
 }
 
+/// The same of a shorter number.
+fn remainder(n: u64, p: u64) -> u64 {
+    if n < p {
+        n
+    } else if p == 0 {
+        0
+    } else {
+        n % p
+    }
+}
+
 pub fn sum(a: u64, b: u64, p: u64) -> u64 {
-    reduced(u128::from(a).wrapping_add(u128::from(b)), p)
+    match a.checked_add(b) {
+        Some(n) => remainder(n, p),
+        None => reduced(u128::from(a).wrapping_add(u128::from(b)), p),
+    }
 }
 
 pub fn product(a: u64, b: u64, p: u64) -> u64 {
-    reduced(u128::from(a).wrapping_mul(u128::from(b)), p)
+    match a.checked_mul(b) {
+        Some(n) => remainder(n, p),
+        None => reduced(u128::from(a).wrapping_mul(u128::from(b)), p),
+    }
 }
 
 pub fn negative(a: u64, p: u64) -> u64 {
-    reduced(u128::from(p.wrapping_sub(a)), p)
+    remainder(p.wrapping_sub(a), p)
 }
 
-/// The inverse of a residue other than 0 modulo a prime, by Fermat's theorem.
+/// The inverse of a residue other than 0 modulo a prime, by Euclid's algorithm.
 pub fn inverse(a: u64, p: u64) -> u64 {
-    if a == 1 || a == p.wrapping_sub(1) {
-        return a;
-    }
-    let mut power = a;
-    let mut rest = p.saturating_sub(2);
-    let mut inverse = reduced(1, p);
-    for _ in 0..u64::BITS {
-        if rest % 2 == 1 {
-            inverse = product(inverse, power, p);
+    let (mut rest, mut next) = (p, a);
+    // How many times `a` is taken in `rest` and in `next`, modulo `p`: the signs alternate.
+    let (mut before, mut factor) = (0u64, 1u64);
+    let mut is_negative = false;
+    for _ in 0..u128::BITS {
+        if next <= 1 {
+            break;
         }
-        power = product(power, power, p);
-        rest /= 2;
+        let quotient = rest / next;
+        let after = rest % next;
+        let grown = before.wrapping_add(quotient.wrapping_mul(factor));
+        rest = next;
+        next = after;
+        before = factor;
+        factor = grown;
+        is_negative = !is_negative;
     }
-    inverse
+    if next == 0 {
+        0
+    } else if is_negative {
+        p.wrapping_sub(factor)
+    } else {
+        factor
+    }
 }

@@ -100,15 +100,60 @@ impl Closure<'_> {
             pairs.push((*old, *new))?;
         }
         pairs.sort_unstable();
+        self.append_pairs(pairs.as_slice(), rest, weight, premises)
+    }
+
+    /// Whether two ids are the sides of an equality that was given.
+    fn are_given(&self, one: u32, other: u32) -> Result<bool, AllocError> {
+        let way = self.classes.way(self.alloc, one, other)?;
+        let [step] = way.as_slice() else {
+            return Ok(false);
+        };
+        Ok(matches!(self.reason(step.edge), Some(Reason::Equality(_))))
+    }
+
+    /// The same where the others are values, times a weight alone. Those that an equality gives are replaced first, so that the
+    /// differences of the others, which are longer, are multiplied by values.
+    fn append_valued(
+        &self,
+        from: &[u32],
+        to: &[u32],
+        weight: u64,
+        premises: &mut Vec<Premise>,
+    ) -> Result<(), AllocError> {
+        let mut pairs = Vec::new(self.alloc);
+        let mut others = Vec::new(self.alloc);
+        for (old, new) in from.iter().zip(to) {
+            if self.are_given(*old, *new)? {
+                pairs.push((*old, *new))?;
+            } else {
+                others.push((*old, *new))?;
+            }
+        }
+        pairs.sort_unstable();
+        others.sort_unstable();
+        pairs.extend_from_slice(others.as_slice())?;
+        self.append_pairs(pairs.as_slice(), &[], weight, premises)
+    }
+
+    /// Appends what a product of the first ids of pairs is, less that of the second ones, times a weight and further factors:
+    /// one pair after the other is replaced.
+    fn append_pairs(
+        &self,
+        pairs: &[(u32, u32)],
+        rest: &[u32],
+        weight: u64,
+        premises: &mut Vec<Premise>,
+    ) -> Result<(), AllocError> {
         let mut place = 0usize;
         for _ in 0..pairs.len() {
             let Some((old, new)) = pairs.get(place).copied() else {
                 break;
             };
-            let count = self.count_together(pairs.as_slice(), place);
+            let count = self.count_together(pairs, place);
             let end = place.saturating_add(count);
             if old != new {
-                let others = self.factors_beside(pairs.as_slice(), place, end, rest)?;
+                let others = self.factors_beside(pairs, place, end, rest)?;
                 premises.push(Premise {
                     from: old,
                     to: new,
@@ -195,7 +240,7 @@ impl Closure<'_> {
         if self.is_product(solved.node) {
             let ids = children(self.table, solved.node);
             let values = self.with_values(ids, solved.time)?;
-            self.append_replaced(ids, values.as_slice(), &[], negative(factor, p), premises)?;
+            self.append_valued(ids, values.as_slice(), negative(factor, p), premises)?;
         }
         Ok(())
     }

@@ -8,6 +8,10 @@ use ffc_term::NodeId;
 use std::alloc::{AllocError, Global};
 use std::collections::BTreeMap;
 
+/// Of each search lemmas are kept until their trees have so many lines: later ones would take memory and time of all checks after
+/// it, and most say little more.
+const MOST_LINES: usize = 16_384;
+
 /// A lemma over the nodes of the table that checks share. The variables of its tree from a number on are inverses.
 #[derive(Drop)]
 struct Kept {
@@ -95,15 +99,20 @@ impl KeptLemmas {
         Ok(())
     }
 
-    /// Keeps those of these clauses that are lemmas over copies of the nodes of a table that has so many.
+    /// Keeps those of these clauses that are lemmas over copies of the nodes of a table that has so many, up to a bound.
     pub fn keep_all(
         &mut self,
         origins: &[Origin],
         mirror: &Mirror,
         nodes: u32,
     ) -> Result<(), AllocError> {
+        let mut lines = 0usize;
         for origin in origins {
+            if lines >= MOST_LINES {
+                break;
+            }
             if let Origin::Lemma(lemma) = origin {
+                lines = lines.saturating_add(lemma.tree.len());
                 self.keep(lemma, mirror, nodes)?;
             }
         }

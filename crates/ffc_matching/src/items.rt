@@ -1,9 +1,9 @@
 //! Differences as sums of multiples of lines: written as lines of their own where that makes the tree shorter.
-use crate::monomials::Monomials;
+use crate::monomials::{Monomials, ONE};
 use crate::polynomials::Poly;
 use crate::sums::{Sum, factor_bytes};
 use crate::writing::Lines;
-use ffc_congruence::inverse;
+use ffc_congruence::{inverse, product};
 use std::alloc::{AllocError, Global};
 
 /// Longer sums are lines of their own.
@@ -17,6 +17,9 @@ const LINE: u64 = 4;
 
 const REFERENCE: u64 = 5;
 
+/// Constants below this have few digits.
+const SHORT: u64 = 1_000;
+
 /// A difference.
 #[derive(Drop)]
 pub struct Item {
@@ -26,6 +29,8 @@ pub struct Item {
     length: u64,
     /// How often it is used.
     uses: u32,
+    /// How many bytes the sum takes, once that is counted.
+    bytes: Option<u64>,
     /// The line whose multiple it is, once that is written.
     line: Option<(u32, u64)>,
 }
@@ -37,6 +42,7 @@ impl Item {
             sum,
             length,
             uses,
+            bytes: None,
             line: None,
         }
     }
@@ -47,15 +53,29 @@ impl Item {
             sum: Sum::zero(alloc),
             length: 0,
             uses: 0,
+            bytes: None,
             line: Some((line, 1)),
         }
     }
 
-    /// The product with a factor as a sum of multiples of the same lines, where that makes the tree no longer.
+    /// How many bytes its sum takes.
+    fn own_bytes(&mut self, monomials: &Monomials, p: u64) -> u64 {
+        match self.bytes {
+            Some(bytes) => bytes,
+            None => {
+                let bytes = self.sum.bytes(monomials, None, p);
+                self.bytes = Some(bytes);
+                bytes
+            }
+        }
+    }
+
+    /// The product with a factor and a constant as a sum of multiples of the same lines, where that makes the tree no longer.
     fn folded(
-        &self,
+        &mut self,
         monomials: &mut Monomials,
         factor: &Poly,
+        constant: u64,
         p: u64,
     ) -> Result<Option<Sum>, AllocError> {
         let terms = self.sum.terms.len();
@@ -64,10 +84,13 @@ impl Item {
         if terms > MOST_FOLDED || terms.saturating_mul(own) > apart {
             return Ok(None);
         }
-        let folded = self.sum.multiplied(monomials, factor, p)?;
+        let folded = self.sum.multiplied(monomials, factor, constant, p)?;
+        if self.uses <= 1 && is_sign(factor, constant, p) {
+            return Ok(Some(folded));
+        }
         let uses = u64::from(self.uses);
         let reference = factor_bytes(monomials, factor, p).saturating_add(REFERENCE);
-        let line = self.sum.bytes(monomials, None, p).saturating_add(LINE);
+        let line = self.own_bytes(monomials, p).saturating_add(LINE);
         let as_line = reference.saturating_mul(uses).saturating_add(line);
         let is_shorter = folded.bytes(monomials, None, p).saturating_mul(uses) <= as_line;
         Ok(is_shorter.then_some(folded))
@@ -87,22 +110,49 @@ impl Item {
         Ok(line)
     }
 
-    /// Adds it times a factor to a sum.
+    /// Adds it times a factor and a constant to a sum.
     pub fn add_to(
         &mut self,
         sum: &mut Sum,
         factor: &Poly,
+        constant: u64,
         lines: &mut Lines,
         monomials: &mut Monomials,
         p: u64,
     ) -> Result<(), AllocError> {
         let (line, scale) = match self.line {
             Some(line) => line,
-            None => match self.folded(monomials, factor, p)? {
-                Some(folded) => return sum.add(&folded),
+            None => match self.folded(monomials, factor, constant, p)? {
+                Some(folded) => return sum.add(folded),
                 None => self.written(lines, monomials, p)?,
             },
         };
-        sum.add_line(line, factor, scale, p)
+        sum.add_line(line, factor, product(scale, constant, p), p)
+    }
+}
+
+/// The value of a factor that is a constant.
+fn constant_of(factor: &Poly) -> Option<u64> {
+    let [term] = factor.terms.as_slice() else {
+        return None;
+    };
+    let (monomial, value) = *term;
+    if monomial == ONE { Some(value) } else { None }
+}
+
+/// Whether a factor times a constant is 1 or its negative.
+fn is_sign(factor: &Poly, constant: u64, p: u64) -> bool {
+    let Some(value) = constant_of(factor) else {
+        return false;
+    };
+    let value = product(value, constant, p);
+    value == 1 || value == p.saturating_sub(1)
+}
+
+/// Whether a factor is a constant of few digits, up to its sign: terms are hardly longer times such a one.
+pub fn is_short(factor: &Poly, p: u64) -> bool {
+    match constant_of(factor) {
+        Some(value) => value.min(p.saturating_sub(value)) < SHORT,
+        None => false,
     }
 }

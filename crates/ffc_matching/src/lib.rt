@@ -11,11 +11,12 @@ mod items;
 mod monomials;
 mod polynomials;
 mod powers;
+mod rests;
 mod sums;
 mod tree;
 mod writing;
 
-use crate::tree::{grounds_of, refutation_by, refutation_from};
+use crate::tree::{Kept, grounds_of, refutation_from};
 use ffc_cdcl::Lit;
 use ffc_congruence::{Clash, Closure};
 use ffc_term::NodeTable;
@@ -28,6 +29,8 @@ pub struct Matcher<'a> {
     closure: Closure<'a>,
     /// The equalities that the last clash rested on, by themselves.
     again: Option<Closure<'a>>,
+    /// What is kept from one refutation to the next.
+    kept: Option<Kept>,
 }
 
 impl<'a> Matcher<'a> {
@@ -36,6 +39,7 @@ impl<'a> Matcher<'a> {
         Ok(Matcher {
             closure: Closure::new(alloc, table)?,
             again: None,
+            kept: None,
         })
     }
 
@@ -47,6 +51,9 @@ impl<'a> Matcher<'a> {
     /// Forgets all equalities but the first ones. It takes no memory, and the time that what followed from the others took.
     pub fn keep(&mut self, count: usize) {
         self.closure.keep(count);
+        if let Some(kept) = self.kept.as_mut() {
+            kept.rests.keep(self.closure.classes.now());
+        }
     }
 
     /// Adds an equality, with what follows from it and those before. Answers what clashes, if anything does: then further ones
@@ -55,26 +62,64 @@ impl<'a> Matcher<'a> {
         self.closure.add(equality)
     }
 
-    /// The refutation by a clash, where it is not too long. What follows from each equality by itself leads to longer steps than
-    /// what follows from all, so where there are many steps the equalities that the clash rests on are added anew, together. It
-    /// takes about as long as the nodes below these take to be looked at some times.
-    pub fn refutation(&mut self, clash: Clash) -> Result<Option<Refutation>, AllocError> {
-        let Some(grounds) = grounds_of(&self.closure, clash)? else {
-            return Ok(None);
-        };
-        let equalities = grounds.equalities(&self.closure, clash)?;
-        if grounds.are_few(equalities.len()) {
-            return refutation_from(&self.closure, clash, grounds);
+    /// What is kept of earlier refutations, unless it has become long.
+    fn take_kept(&mut self) -> Result<Kept, AllocError> {
+        match self.kept.take() {
+            Some(kept) if !kept.is_long() => Ok(kept),
+            _ => Kept::new(self.closure.alloc),
         }
+    }
+
+    /// The equalities that a clash rests on, added anew, and what clashes then.
+    fn add_again(&mut self, equalities: &[Lit]) -> Result<Option<Clash>, AllocError> {
         if self.again.is_none() {
             let closure = Closure::new(self.closure.alloc, self.closure.table)?;
             self.again = Some(closure);
         }
-        if let Some(again) = self.again.as_mut() {
-            if let Some(clash) = again.add_all(equalities.as_slice())? {
-                return refutation_by(again, clash);
+        match self.again.as_mut() {
+            Some(again) => again.add_all(equalities),
+            None => Ok(None),
+        }
+    }
+
+    /// The refutation by a clash, where it is not too long. What follows from each equality by itself leads to longer steps than
+    /// what follows from all, so where there are many steps the equalities that the clash rests on are added anew, together. It
+    /// takes about as long as the nodes below these take to be looked at some times.
+    pub fn refutation(&mut self, clash: Clash) -> Result<Option<Refutation>, AllocError> {
+        let mut kept = self.take_kept()?;
+        let Some(grounds) = grounds_of(&self.closure, &mut kept.rests, clash)? else {
+            self.kept = Some(kept);
+            return Ok(None);
+        };
+        let equalities = grounds.equalities(&self.closure, clash)?;
+        if !grounds.are_few(equalities.len()) {
+            let again = self.add_again(equalities.as_slice())?;
+            if let (Some(closure), Some(clash)) = (self.again.as_ref(), again) {
+                kept.rests.keep(0);
+                let (found, mut kept) = refutation_by(closure, clash, kept)?;
+                kept.rests.keep(0);
+                self.kept = Some(kept);
+                return Ok(found);
             }
         }
-        refutation_from(&self.closure, clash, grounds)
+        let (found, kept) = refutation_from(&self.closure, clash, equalities, grounds, kept)?;
+        self.kept = Some(kept);
+        Ok(found)
+    }
+}
+
+/// The refutation by a clash of a closure of which nothing is kept; none where it is too long. And what is kept.
+fn refutation_by(
+    closure: &Closure,
+    clash: Clash,
+    kept: Kept,
+) -> Result<(Option<Refutation>, Kept), AllocError> {
+    let mut kept = kept;
+    match grounds_of(closure, &mut kept.rests, clash)? {
+        Some(grounds) => {
+            let equalities = grounds.equalities(closure, clash)?;
+            refutation_from(closure, clash, equalities, grounds, kept)
+        }
+        None => Ok((None, kept)),
     }
 }

@@ -8,6 +8,9 @@ type Powers = Vec<(u32, u32)>;
 /// The number of the monomial without variables.
 pub const ONE: u32 = 0;
 
+/// No more products are remembered.
+const MOST_PRODUCTS: usize = 65_536;
+
 /// The monomials so far, by number.
 #[derive(Drop)]
 pub struct Monomials {
@@ -16,18 +19,26 @@ pub struct Monomials {
     /// How many bytes each takes in a line.
     bytes: Vec<u64>,
     numbers: BTreeMap<Powers, u32>,
+    /// The products of pairs that were asked for, the lesser number first.
+    products: BTreeMap<(u32, u32), u32>,
 }
 
 /// How many digits a number has.
 pub fn digits(number: u64) -> u64 {
-    let mut bound = 10u64;
-    for count in 1..20u64 {
-        if number < bound {
-            return count;
+    let (mut rest, mut count) = (number, 1u64);
+    for _ in 0..u64::BITS {
+        if rest < 10_000 {
+            break;
         }
-        bound = bound.saturating_mul(10);
+        rest /= 10_000;
+        count = count.saturating_add(4);
     }
-    20
+    for bound in [10, 100, 1_000] {
+        if rest >= bound {
+            count = count.saturating_add(1);
+        }
+    }
+    count
 }
 
 impl Monomials {
@@ -38,9 +49,15 @@ impl Monomials {
             list: Vec::new(alloc),
             bytes: Vec::new(alloc),
             numbers: BTreeMap::new(alloc),
+            products: BTreeMap::new(alloc),
         };
         monomials.number(Vec::new(alloc))?;
         Ok(monomials)
+    }
+
+    /// How many there are.
+    pub fn len(&self) -> usize {
+        self.list.len()
     }
 
     /// The number of a monomial.
@@ -86,6 +103,19 @@ impl Monomials {
         if b == ONE {
             return Ok(a);
         }
+        let pair = (a.min(b), a.max(b));
+        if let Some(product) = self.products.get(&pair) {
+            return Ok(*product);
+        }
+        let product = self.multiplied(a, b)?;
+        if self.products.len() < MOST_PRODUCTS {
+            self.products.insert(pair, product)?;
+        }
+        Ok(product)
+    }
+
+    /// The product of two that was not asked for.
+    fn multiplied(&mut self, a: u32, b: u32) -> Result<u32, AllocError> {
         let mut all = Vec::new(self.alloc);
         all.extend_from_slice(self.powers(a))?;
         all.extend_from_slice(self.powers(b))?;

@@ -34,15 +34,41 @@ impl Sum {
     }
 
     /// Adds another one.
-    pub fn add(&mut self, other: &Sum) -> Result<(), AllocError> {
-        self.terms.extend_from_slice(other.terms.as_slice())
+    pub fn add(&mut self, other: Sum) -> Result<(), AllocError> {
+        if self.terms.is_empty() {
+            *self = other;
+            Ok(())
+        } else {
+            self.terms.extend_from_slice(other.terms.as_slice())
+        }
+    }
+
+    /// Whether its terms are in increasing order, each monomial of a line once.
+    fn is_settled(&self) -> bool {
+        let mut before: Option<(u32, u32)> = None;
+        for (line, monomial, value) in &self.terms {
+            let follows = match before {
+                Some(last) => last.0 < *line || last.0 == *line && last.1 < *monomial,
+                None => true,
+            };
+            if !follows || *value == 0 {
+                return false;
+            }
+            before = Some((*line, *monomial));
+        }
+        true
     }
 
     /// The same in increasing order, each monomial of a line once, and without those whose coefficients are 0.
     pub fn settled(self, alloc: Global, p: u64) -> Result<Sum, AllocError> {
+        if self.is_settled() {
+            return Ok(self);
+        }
         let Sum { mut terms } = self;
         terms.sort_unstable();
-        let mut settled = Sum::zero(alloc);
+        let mut settled = Sum {
+            terms: Vec::with_capacity(alloc, terms.len())?,
+        };
         let mut last: Option<(u32, u32, u64)> = None;
         for (line, monomial, value) in &terms {
             last = match last {
@@ -69,19 +95,24 @@ impl Sum {
         Ok(())
     }
 
-    /// The product with a polynomial.
+    /// The product with a polynomial and a constant.
     pub fn multiplied(
         &self,
         monomials: &mut Monomials,
         factor: &Poly,
+        constant: u64,
         p: u64,
     ) -> Result<Sum, AllocError> {
-        let mut made = Sum::zero(monomials.alloc);
+        let count = self.terms.len().saturating_mul(factor.terms.len());
+        let mut made = Sum {
+            terms: Vec::with_capacity(monomials.alloc, count)?,
+        };
         for (line, monomial, value) in &self.terms {
+            let value = product(*value, constant, p);
             for (second, factor) in &factor.terms {
                 let monomial = monomials.times(*monomial, *second)?;
                 made.terms
-                    .push((*line, monomial, product(*value, *factor, p)))?;
+                    .push((*line, monomial, product(value, *factor, p)))?;
             }
         }
         made.settled(monomials.alloc, p)

@@ -1,16 +1,42 @@
 //! The tree of a clash: the differences that it rests on, as sums of multiples of lines.
 use crate::grounds::{Grounds, Needed};
-use crate::items::Item;
+use crate::items::{Item, is_short};
 use crate::polynomials::{Poly, Polys};
-use crate::powers::{Difference, difference_in, halves, ordered};
+use crate::powers::{Difference, halves, ordered};
+use crate::rests::Rests;
 use crate::sums::Sum;
 use crate::writing::Lines;
 use ffc_cdcl::Lit;
 use ffc_cert::CertLine;
-use ffc_congruence::{Clash, Closure, Reason, negative};
+use ffc_congruence::{Clash, Closure, Reason, Step, negative};
 use ffc_term::NodeId;
 use std::alloc::{AllocError, Global};
 use std::collections::BTreeMap;
+
+/// Past so many monomials or names of differences all that is kept is dropped.
+const MOST_KEPT: usize = 65_536;
+
+/// What is kept from one refutation to the next.
+#[derive(Drop)]
+pub struct Kept {
+    polys: Polys,
+    pub rests: Rests,
+}
+
+impl Kept {
+    /// Nothing.
+    pub fn new(alloc: Global) -> Result<Kept, AllocError> {
+        Ok(Kept {
+            polys: Polys::new(alloc)?,
+            rests: Rests::new(alloc),
+        })
+    }
+
+    /// Whether it has become long.
+    pub fn is_long(&self) -> bool {
+        self.polys.monomials.len() > MOST_KEPT || self.rests.names() > MOST_KEPT
+    }
+}
 
 /// The tree that is written.
 #[derive(Drop)]
@@ -19,34 +45,19 @@ struct Tree<'a> {
     alloc: Global,
     /// The order of the field.
     order: u64,
-    polys: Polys,
+    kept: Kept,
     lines: Lines,
-    /// How often each difference is used.
-    uses: BTreeMap<Difference, u32>,
-    /// The lines of the equalities, which come first.
-    generators: BTreeMap<NodeId, u32>,
-    /// The differences of the ends of edges.
-    edges: BTreeMap<usize, Item>,
+    grounds: Grounds,
+    one: Poly,
+    /// The equalities, whose generators are the first lines.
+    equalities: Vec<Lit>,
+    /// The differences of the ends of edges, in the order of those that are needed.
+    edges: Vec<Option<Item>>,
     /// Those of other ids, and of powers.
-    differences: BTreeMap<Difference, Item>,
+    differences: Vec<Option<Item>>,
 }
 
 impl Tree<'_> {
-    fn into_lines(self) -> Result<Vec<CertLine>, AllocError> {
-        let Tree {
-            closure: _,
-            alloc: _,
-            order: _,
-            polys: _,
-            lines,
-            uses: _,
-            generators: _,
-            edges: _,
-            differences: _,
-        } = self;
-        lines.closed()
-    }
-
     /// How many terms a difference has at most.
     fn length(&self, difference: Difference) -> u64 {
         let (from, to, power) = difference;
@@ -56,39 +67,80 @@ impl Tree<'_> {
             .saturating_add(self.closure.length(to).saturating_pow(power))
     }
 
+    /// The place of a difference.
+    fn place(&self, difference: Difference) -> Option<u32> {
+        let number = self.kept.rests.number_of(difference)?;
+        self.grounds.place(number)
+    }
+
+    /// Adds the difference of the ends of an edge along it, times a factor if there is one, to a sum.
+    fn add_edge(
+        &mut self,
+        sum: &mut Sum,
+        step: Step,
+        factor: Option<&Poly>,
+    ) -> Result<(), AllocError> {
+        let sign = if step.forward {
+            1
+        } else {
+            negative(1, self.order)
+        };
+        let slot = self.grounds.slots.get(step.edge).copied().unwrap_or(0);
+        match self.edges.get_mut(slot as usize) {
+            Some(Some(item)) => item.add_to(
+                sum,
+                factor.unwrap_or(&self.one),
+                sign,
+                &mut self.lines,
+                &mut self.kept.polys.monomials,
+                self.order,
+            ),
+            _ => Ok(()),
+        }
+    }
+
     /// Keeps a difference as a sum.
-    fn keep(&mut self, difference: Difference, sum: Sum) -> Result<(), AllocError> {
-        let uses = self.uses.get(&difference).copied().unwrap_or(1);
+    fn keep(&mut self, place: u32, sum: Sum) -> Result<(), AllocError> {
+        let Some(shared) = self.grounds.shared.get(place as usize).copied() else {
+            return Ok(());
+        };
         let sum = sum.settled(self.alloc, self.order)?;
-        let item = Item::of(sum, self.length(difference), uses);
-        self.differences.insert(difference, item)?;
+        let item = Item::of(sum, self.length(shared.difference), shared.uses);
+        if let Some(difference) = self.differences.get_mut(place as usize) {
+            *difference = Some(item);
+        }
         Ok(())
     }
 
     /// Sums up the difference of two ids along the edges between them.
-    fn prepare_way(&mut self, from: u32, to: u32) -> Result<(), AllocError> {
+    fn prepare_way(&mut self, place: u32, way: (usize, usize)) -> Result<(), AllocError> {
         let mut sum = Sum::zero(self.alloc);
-        for step in self.closure.classes.way(self.alloc, from, to)? {
-            let sign = if step.forward {
-                1
-            } else {
-                negative(1, self.order)
-            };
-            let factor = Poly::constant(self.alloc, sign)?;
-            if let Some(item) = self.edges.get_mut(&step.edge) {
-                item.add_to(
-                    &mut sum,
-                    &factor,
-                    &mut self.lines,
-                    &mut self.polys.monomials,
-                    self.order,
-                )?;
-            }
-        }
-        self.keep((from, to, 1), sum)
+        self.add_way(&mut sum, way, None)?;
+        self.keep(place, sum)
     }
 
-    /// Adds a difference that is at hand times a power of an id to a sum. Says whether it could.
+    /// Adds a difference that is at hand times a factor to a sum.
+    fn add_ready(&mut self, sum: &mut Sum, place: u32, factor: &Poly) -> Result<(), AllocError> {
+        let Some(shared) = self.grounds.shared.get(place as usize).copied() else {
+            return Ok(());
+        };
+        if let Some(step) = shared.edge(self.grounds.ways.as_slice()) {
+            return self.add_edge(sum, step, Some(factor));
+        }
+        match self.differences.get_mut(place as usize) {
+            Some(Some(item)) => item.add_to(
+                sum,
+                factor,
+                1,
+                &mut self.lines,
+                &mut self.kept.polys.monomials,
+                self.order,
+            ),
+            _ => Ok(()),
+        }
+    }
+
+    /// Adds a difference of powers that is at hand times a power of an id to a sum. Says whether it could.
     fn add_times_power(
         &mut self,
         sum: &mut Sum,
@@ -96,48 +148,41 @@ impl Tree<'_> {
         id: u32,
         exponent: u32,
     ) -> Result<bool, AllocError> {
-        let Some(factor) = self.polys.power(self.closure, id, exponent, self.order)? else {
+        let Some(factor) = self
+            .kept
+            .polys
+            .power(self.closure, id, exponent, self.order)?
+        else {
             return Ok(false);
         };
-        if let Some(item) = self.differences.get_mut(&difference) {
-            item.add_to(
-                sum,
-                &factor,
-                &mut self.lines,
-                &mut self.polys.monomials,
-                self.order,
-            )?;
+        if let Some(place) = self.place(difference) {
+            self.add_ready(sum, place, &factor)?;
         }
         Ok(true)
     }
 
     /// Sums up a difference of powers, where those of its halves are at hand. Says whether it could.
-    fn prepare_power(&mut self, from: u32, to: u32, power: u32) -> Result<bool, AllocError> {
+    fn prepare_power(&mut self, place: u32, difference: Difference) -> Result<bool, AllocError> {
+        let (from, to, power) = difference;
         let (less, more) = halves(power);
         let mut sum = Sum::zero(self.alloc);
         if less == more {
             // Both multiples are of one difference, which is used once.
-            let first = self.polys.power(self.closure, from, less, self.order)?;
-            let second = self.polys.power(self.closure, to, less, self.order)?;
+            let first = self.kept.polys.power(self.closure, from, less, self.order)?;
+            let second = self.kept.polys.power(self.closure, to, less, self.order)?;
             let (Some(mut factor), Some(second)) = (first, second) else {
                 return Ok(false);
             };
             factor.add_scaled(self.alloc, &second, 1, self.order)?;
-            if let Some(item) = self.differences.get_mut(&(from, to, less)) {
-                item.add_to(
-                    &mut sum,
-                    &factor,
-                    &mut self.lines,
-                    &mut self.polys.monomials,
-                    self.order,
-                )?;
+            if let Some(half) = self.place((from, to, less)) {
+                self.add_ready(&mut sum, half, &factor)?;
             }
         } else if !self.add_times_power(&mut sum, (from, to, more), from, less)?
             || !self.add_times_power(&mut sum, (from, to, less), to, more)?
         {
             return Ok(false);
         }
-        self.keep((from, to, power), sum)?;
+        self.keep(place, sum)?;
         Ok(true)
     }
 
@@ -150,7 +195,7 @@ impl Tree<'_> {
             let Some(power) = waiting.pop() else {
                 break;
             };
-            if power > 1 && !found.contains_key(&power) {
+            if power >= 1 && !found.contains_key(&power) {
                 let (less, more) = halves(power);
                 found.insert(power, ())?;
                 waiting.push(less)?;
@@ -160,46 +205,82 @@ impl Tree<'_> {
         Ok(found)
     }
 
-    /// Sums up a difference, unless it was. Says whether it could.
-    fn prepare(&mut self, difference: Difference) -> Result<bool, AllocError> {
-        let (from, to, power) = difference;
-        if !self.differences.contains_key(&(from, to, 1)) {
-            self.prepare_way(from, to)?;
+    /// Sums up a difference whose halves are at hand, where it is one of powers. Says whether it could.
+    fn prepare_one(&mut self, place: u32) -> Result<bool, AllocError> {
+        let is_there = matches!(self.differences.get(place as usize), Some(Some(_)));
+        let Some(shared) = self.grounds.shared.get(place as usize).copied() else {
+            return Ok(true);
+        };
+        if is_there || shared.edge(self.grounds.ways.as_slice()).is_some() {
+            return Ok(true);
         }
-        for (exponent, _) in &self.exponents(power)? {
-            let is_there = self.differences.contains_key(&(from, to, *exponent));
-            if !is_there && !self.prepare_power(from, to, *exponent)? {
-                return Ok(false);
-            }
+        if shared.difference.2 > 1 {
+            return self.prepare_power(place, shared.difference);
         }
+        self.prepare_way(place, shared.way)?;
         Ok(true)
     }
 
-    /// Adds a difference times a factor to a sum. Says whether it could.
-    fn add(
+    /// Sums up a difference, unless it was. Says whether it could.
+    fn prepare(&mut self, place: u32) -> Result<bool, AllocError> {
+        let (from, to, power) = match self.grounds.shared.get(place as usize) {
+            Some(shared) => shared.difference,
+            None => return Ok(true),
+        };
+        if power > 1 {
+            for (exponent, _) in &self.exponents(power)? {
+                if let Some(part) = self.place((from, to, *exponent)) {
+                    if !self.prepare_one(part)? {
+                        return Ok(false);
+                    }
+                }
+            }
+        }
+        self.prepare_one(place)
+    }
+
+    /// Adds the differences of the edges of a way times a factor to a sum.
+    fn add_way(
         &mut self,
         sum: &mut Sum,
-        difference: Difference,
-        factor: &Poly,
-    ) -> Result<bool, AllocError> {
-        if !self.prepare(difference)? {
+        way: (usize, usize),
+        factor: Option<&Poly>,
+    ) -> Result<(), AllocError> {
+        for k in way.0..way.1 {
+            if let Some(step) = self.grounds.ways.get(k).copied() {
+                self.add_edge(sum, step, factor)?;
+            }
+        }
+        Ok(())
+    }
+
+    /// Adds a difference times a factor to a sum. Says whether it could.
+    fn add(&mut self, sum: &mut Sum, place: u32, factor: &Poly) -> Result<bool, AllocError> {
+        match self.grounds.shared.get(place as usize).copied() {
+            Some(shared) if shared.is_alone() && is_short(factor, self.order) => {
+                self.add_way(sum, shared.way, Some(factor))?;
+                return Ok(true);
+            }
+            _ => {}
+        }
+        if !self.prepare(place)? {
             return Ok(false);
         }
-        if let Some(item) = self.differences.get_mut(&difference) {
-            item.add_to(
-                sum,
-                factor,
-                &mut self.lines,
-                &mut self.polys.monomials,
-                self.order,
-            )?;
-        }
+        self.add_ready(sum, place, factor)?;
         Ok(true)
     }
 
     /// The line of an equality.
     fn generator_of(&self, equality: NodeId) -> u32 {
-        self.generators.get(&equality).copied().unwrap_or(0)
+        let equalities = self.equalities.as_slice();
+        let place = match place_of(equalities, equality, true) {
+            Some(place) => Some(place),
+            None => place_of(equalities, equality, false),
+        };
+        match place {
+            Some(place) => u32::try_from(place).unwrap_or(0),
+            None => 0,
+        }
     }
 
     /// The variable that is the inverse of the difference of the sides of an equality that does not hold.
@@ -224,8 +305,8 @@ impl Tree<'_> {
         };
         let minus = negative(1, p);
         let (Some(mut factor), Some(other)) = (
-            self.polys.product(self.closure, &[from], minus, p)?,
-            self.polys.product(self.closure, &[to], 1, p)?,
+            self.kept.polys.product(self.closure, &[from], minus, p)?,
+            self.kept.polys.product(self.closure, &[to], 1, p)?,
         ) else {
             return Ok(false);
         };
@@ -234,93 +315,144 @@ impl Tree<'_> {
         Ok(true)
     }
 
-    /// The differences that a difference is a sum of multiples of, with their factors; none where one is too long.
-    fn factors(&mut self, needed: &Needed) -> Result<Option<Vec<(Difference, Poly)>>, AllocError> {
+    /// The factor of the difference in a premise, or its negative; none where it is too long.
+    fn factor(
+        &mut self,
+        edge: usize,
+        place: usize,
+        is_negative: bool,
+    ) -> Result<Option<Poly>, AllocError> {
         let p = self.order;
-        let mut places = Vec::new(self.alloc);
-        for (place, premise) in needed.premises.iter().enumerate() {
-            let (difference, is_negative) = difference_in(premise);
-            places.push((difference, place, is_negative))?;
+        let Some(rest) = self.kept.rests.of_edge(edge) else {
+            return Ok(None);
+        };
+        let Some(premise) = rest.premises.get(place) else {
+            return Ok(None);
+        };
+        let weight = if is_negative {
+            negative(premise.weight, p)
+        } else {
+            premise.weight
+        };
+        let others = premise.others.as_slice();
+        let inverse = premise.inverse;
+        let made = self.kept.polys.product(self.closure, others, weight, p)?;
+        match (made, inverse) {
+            (Some(poly), Some(equality)) => {
+                let variable = self.inverse_of(equality);
+                let times = self.kept.polys.times_variable(&poly, variable)?;
+                Ok(Some(times))
+            }
+            (made, _) => Ok(made),
         }
-        places.sort_unstable();
-        let mut factors: Vec<(Difference, Poly)> = Vec::new(self.alloc);
-        for (difference, place, is_negative) in &places {
-            let Some(premise) = needed.premises.get(*place) else {
-                continue;
+    }
+
+    /// The factors of the differences that the one of an edge's ends is a sum of multiples of; none where one is too long.
+    fn factors(&mut self, edge: usize) -> Result<Option<Vec<Poly>>, AllocError> {
+        let p = self.order;
+        let mut factors: Vec<Poly> = Vec::new(self.alloc);
+        let mut last = None;
+        let count = match self.kept.rests.of_edge(edge) {
+            Some(rest) => rest.order.len(),
+            None => 0,
+        };
+        for k in 0..count {
+            let one = self.kept.rests.part(edge, k);
+            let Some((difference, place, is_negative)) = one else {
+                break;
             };
-            let weight = if *is_negative {
-                negative(premise.weight, p)
-            } else {
-                premise.weight
-            };
-            let others = premise.others.as_slice();
-            let Some(mut poly) = self.polys.product(self.closure, others, weight, p)? else {
+            let Some(poly) = self.factor(edge, place, is_negative)? else {
                 return Ok(None);
             };
-            if let Some(equality) = premise.inverse {
-                let variable = self.inverse_of(equality);
-                poly = self.polys.times_variable(&poly, variable)?;
-            }
             match factors.last_mut() {
-                Some(last) if last.0 == *difference => {
-                    last.1.add_scaled(self.alloc, &poly, 1, p)?;
+                Some(before) if last == Some(difference) => {
+                    before.add_scaled(self.alloc, &poly, 1, p)?;
                 }
-                _ => factors.push((*difference, poly))?,
+                _ => factors.push(poly)?,
             }
+            last = Some(difference);
         }
         Ok(Some(factors))
     }
 
-    /// Sums up the difference of the ends of an edge. Says whether it could.
-    fn prepare_edge(&mut self, needed: &Needed) -> Result<bool, AllocError> {
-        let Some(factors) = self.factors(needed)? else {
-            return Ok(false);
+    /// Adds the differences of an edge, whose places begin there, times their factors to a sum. Says whether it could.
+    fn add_all(
+        &mut self,
+        sum: &mut Sum,
+        parts: usize,
+        factors: &[Poly],
+    ) -> Result<bool, AllocError> {
+        let mut at = parts;
+        for factor in factors {
+            let place = self.grounds.parts.get(at).copied().unwrap_or(u32::MAX);
+            if !factor.terms.is_empty() && !self.add(sum, place, factor)? {
+                return Ok(false);
+            }
+            at = at.saturating_add(1);
+        }
+        Ok(true)
+    }
+
+    /// The difference of the ends of an edge as a sum; none where it is too long.
+    fn edge_sum(&mut self, needed: Needed) -> Result<Option<Sum>, AllocError> {
+        let edge = needed.edge;
+        let factors = match self.kept.rests.take_factors(edge) {
+            Some(factors) => factors,
+            None => match self.factors(edge)? {
+                Some(factors) => factors,
+                None => return Ok(None),
+            },
         };
         let mut sum = Sum::zero(self.alloc);
-        for (difference, factor) in &factors {
-            if !factor.terms.is_empty() && !self.add(&mut sum, *difference, factor)? {
-                return Ok(false);
+        let could = self.add_all(&mut sum, needed.parts, factors.as_slice())?;
+        self.kept.rests.give_factors(edge, factors);
+        if !could {
+            return Ok(None);
+        }
+        if let Some(Reason::Cofactors(_, _, unlike)) = self.closure.reason(edge) {
+            if !self.take_generator(&mut sum, edge, unlike.equality)? {
+                return Ok(None);
             }
         }
-        if let Some(Reason::Cofactors(_, _, unlike)) = self.closure.reason(needed.edge) {
-            if !self.take_generator(&mut sum, needed.edge, unlike.equality)? {
-                return Ok(false);
-            }
+        Ok(Some(sum.settled(self.alloc, self.order)?))
+    }
+
+    /// The difference of the ends of an edge: a given equality is its generator. None where it is too long.
+    fn edge_item(&mut self, needed: Needed) -> Result<Option<Item>, AllocError> {
+        if let Some(Reason::Equality(equality)) = self.closure.reason(needed.edge) {
+            return Ok(Some(Item::of_line(self.alloc, self.generator_of(equality))));
         }
+        let Some(sum) = self.edge_sum(needed)? else {
+            return Ok(None);
+        };
         let length = match self.closure.classes.ends(needed.edge) {
             Some((from, to)) => self.length((from, to, 1)),
             None => 1,
         };
-        let sum = sum.settled(self.alloc, self.order)?;
-        let item = Item::of(sum, length, needed.uses);
-        self.edges.insert(needed.edge, item)?;
-        Ok(true)
+        Ok(Some(Item::of(sum, length, needed.uses)))
     }
 
-    /// Sums up the differences of all edges, from the first on: a given equality is its generator. Says whether it could.
-    fn prepare_all(&mut self, needed: &[Needed]) -> Result<bool, AllocError> {
-        for one in needed.iter().rev() {
-            match self.closure.reason(one.edge) {
-                Some(Reason::Equality(equality)) => {
-                    let item = Item::of_line(self.alloc, self.generator_of(equality));
-                    self.edges.insert(one.edge, item)?;
-                }
-                _ => {
-                    if !self.prepare_edge(one)? {
-                        return Ok(false);
-                    }
-                }
+    /// Sums up the differences of all edges, from the first on. Says whether it could.
+    fn prepare_all(&mut self) -> Result<bool, AllocError> {
+        for slot in (0..self.grounds.needed.len()).rev() {
+            let Some(needed) = self.grounds.needed.get(slot).copied() else {
+                break;
+            };
+            let Some(item) = self.edge_item(needed)? else {
+                return Ok(false);
+            };
+            if let Some(edge) = self.edges.get_mut(slot) {
+                *edge = Some(item);
             }
         }
         Ok(true)
     }
 
-    /// Numbers the generators of equalities, which come first.
-    fn number_all(&mut self, used: &[Lit]) -> Result<(), AllocError> {
-        for equality in used {
+    /// Numbers the generators of the equalities, which come first.
+    fn number_all(&mut self) -> Result<(), AllocError> {
+        for equality in &self.equalities {
             let length = self.closure.length(equality.node).saturating_add(1);
-            let number = self.lines.place(length)?;
-            self.generators.insert(equality.node, number)?;
+            self.lines.place(length)?;
         }
         Ok(())
     }
@@ -336,18 +468,36 @@ impl Tree<'_> {
         if let Clash::Unequal(equality, ..) = clash {
             // The generator of the equality is its difference times its inverse, less 1.
             let variable = self.inverse_of(equality);
-            factor = self.polys.times_variable(&factor, variable)?;
+            factor = self.kept.polys.times_variable(&factor, variable)?;
             let unit = Poly::constant(self.alloc, negative(sign, p))?;
             sum.add_line(self.generator_of(equality), &unit, 1, p)?;
         }
-        if !self.add(&mut sum, difference, &factor)? {
+        let place = self.place(difference).unwrap_or(u32::MAX);
+        if !self.add(&mut sum, place, &factor)? {
             return Ok(false);
         }
         let sum = sum.settled(self.alloc, p)?;
-        let monomials = &self.polys.monomials;
+        let monomials = &self.kept.polys.monomials;
         let scale = sum.best_scale(monomials, p);
         self.lines.write(&sum, monomials, scale, 1, p)?;
         Ok(true)
+    }
+
+    /// The lines of the tree, and what is kept.
+    fn into_parts(self) -> Result<(Vec<Lit>, Vec<CertLine>, Kept), AllocError> {
+        let Tree {
+            closure: _,
+            alloc: _,
+            order: _,
+            kept,
+            lines,
+            grounds: _,
+            one: _,
+            equalities,
+            edges: _,
+            differences: _,
+        } = self;
+        Ok((equalities, lines.closed()?, kept))
     }
 }
 
@@ -361,48 +511,89 @@ pub struct Refutation {
 }
 
 /// What a clash rests on; none where there is too much.
-pub fn grounds_of(closure: &Closure, clash: Clash) -> Result<Option<Grounds>, AllocError> {
+pub fn grounds_of(
+    closure: &Closure,
+    rests: &mut Rests,
+    clash: Clash,
+) -> Result<Option<Grounds>, AllocError> {
     let (from, to) = clash.ends();
-    let mut grounds = Grounds::new(closure.alloc);
-    let is_short = grounds.take_all(closure, from, to)?;
+    let mut grounds = Grounds::new(closure.alloc, closure.classes.now())?;
+    let is_short = grounds.take_all(closure, rests, from, to)?;
     Ok(is_short.then_some(grounds))
 }
 
-/// The refutation by a clash; none where it is too long.
-pub fn refutation_by(closure: &Closure, clash: Clash) -> Result<Option<Refutation>, AllocError> {
-    match grounds_of(closure, clash)? {
-        Some(grounds) => refutation_from(closure, clash, grounds),
-        None => Ok(None),
+/// Whether a literal comes before the one of a node among equalities: first those that hold, each kind by its nodes.
+fn is_before(literal: Lit, node: NodeId, positive: bool) -> bool {
+    if literal.positive == positive {
+        literal.node < node
+    } else {
+        literal.positive
     }
 }
 
-/// The refutation by what a clash rests on; none where it is too long.
+/// The place of a literal among equalities: first those that hold, each kind by its nodes.
+fn place_of(equalities: &[Lit], node: NodeId, positive: bool) -> Option<usize> {
+    let (mut start, mut end) = (0usize, equalities.len());
+    for _ in 0..u64::BITS {
+        if start >= end {
+            break;
+        }
+        let middle = start.saturating_add(end.saturating_sub(start) / 2);
+        let Some(literal) = equalities.get(middle).copied() else {
+            break;
+        };
+        if is_before(literal, node, positive) {
+            start = middle.saturating_add(1);
+        } else {
+            end = middle;
+        }
+    }
+    match equalities.get(start) {
+        Some(literal) if literal.node == node && literal.positive == positive => Some(start),
+        _ => None,
+    }
+}
+
+/// So many differences that are not summed up.
+fn none_of(alloc: Global, count: usize) -> Result<Vec<Option<Item>>, AllocError> {
+    let mut items = Vec::with_capacity(alloc, count)?;
+    for _ in 0..count {
+        items.push(None)?;
+    }
+    Ok(items)
+}
+
+/// The refutation by what a clash rests on, of these equalities; none where it is too long. And what is kept.
 pub fn refutation_from(
     closure: &Closure,
     clash: Clash,
+    equalities: Vec<Lit>,
     grounds: Grounds,
-) -> Result<Option<Refutation>, AllocError> {
+    kept: Kept,
+) -> Result<(Option<Refutation>, Kept), AllocError> {
     let alloc = closure.alloc;
-    let used = grounds.equalities(closure, clash)?;
-    let (needed, uses) = grounds.into_parts();
+    let edges = none_of(alloc, grounds.needed.len())?;
+    let differences = none_of(alloc, grounds.shared.len())?;
     let mut tree = Tree {
         closure,
         alloc,
         order: closure.order_of(clash.ends().0),
-        polys: Polys::new(alloc)?,
+        kept,
         lines: Lines::new(alloc),
-        uses,
-        generators: BTreeMap::new(alloc),
-        edges: BTreeMap::new(alloc),
-        differences: BTreeMap::new(alloc),
+        grounds,
+        one: Poly::constant(alloc, 1)?,
+        equalities,
+        edges,
+        differences,
     };
-    tree.number_all(used.as_slice())?;
-    if !tree.prepare_all(needed.as_slice())? || !tree.conclude(clash)? {
-        return Ok(None);
-    }
-    Ok(Some(Refutation {
-        order: tree.order,
-        equalities: used,
-        tree: tree.into_lines()?,
-    }))
+    tree.number_all()?;
+    let could = tree.prepare_all()? && tree.conclude(clash)?;
+    let order = tree.order;
+    let (equalities, lines, kept) = tree.into_parts()?;
+    let refutation = Refutation {
+        order,
+        equalities,
+        tree: lines,
+    };
+    Ok((could.then_some(refutation), kept))
 }

@@ -65,15 +65,21 @@ impl Lines {
         self.place(length)
     }
 
-    /// Adds a line times a term.
-    fn add_term(&mut self, begun: &mut Line, line: u32, term: Term) -> Result<(), AllocError> {
+    /// Adds a line times a term, which so many terms of the same line follow at most.
+    fn add_term(
+        &mut self,
+        begun: &mut Line,
+        line: u32,
+        term: Term,
+        more: usize,
+    ) -> Result<(), AllocError> {
         if begun.terms >= MOST_TERMS || begun.products >= MOST_PRODUCTS {
             let before = self.flush(begun, UNKNOWN_LENGTH)?;
-            begun.push(self.alloc, before, (1, Sequence::new(self.alloc)))?;
+            begun.push(self.alloc, before, (1, Sequence::new(self.alloc)), 0)?;
             begun.products = UNKNOWN_LENGTH;
         }
         begun.products = begun.products.saturating_add(self.length(line));
-        begun.push(self.alloc, line, term)
+        begun.push(self.alloc, line, term, more)
     }
 
     /// Writes a sum times a constant, in several lines where it is long, and answers the number of the last one, which has so
@@ -86,44 +92,90 @@ impl Lines {
         length: u64,
         p: u64,
     ) -> Result<u32, AllocError> {
+        let groups = groups_of(sum.terms.as_slice());
         let mut begun = Line {
-            multiples: Vec::new(self.alloc),
+            multiples: Vec::with_capacity(self.alloc, groups.min(MOST_TERMS))?,
             terms: 0,
             products: 0,
         };
+        let mut left = sum.terms.as_slice();
+        let mut last = None;
         for (line, monomial, value) in &sum.terms {
-            let mut powers = Vec::new(self.alloc);
-            powers.extend_from_slice(monomials.powers(*monomial))?;
+            let mut more = 0;
+            if let [_, rest @ ..] = left {
+                left = rest;
+            }
+            if last != Some(*line) {
+                last = Some(*line);
+                more = count_of(left, *line).min(MOST_TERMS);
+            }
+            let powers = monomials.powers(*monomial).to_vec(self.alloc)?;
             let term = (product(*value, scale, p), Sequence::from_vec(powers));
-            self.add_term(&mut begun, *line, term)?;
+            self.add_term(&mut begun, *line, term, more)?;
         }
         self.flush(&mut begun, length)
     }
 
     /// The lines, closed by the last one.
-    pub fn closed(mut self) -> Result<Vec<CertLine>, AllocError> {
-        self.written.push(CertLine::Close)?;
+    pub fn closed(self) -> Result<Vec<CertLine>, AllocError> {
         let Lines {
-            alloc: _,
+            alloc,
             written,
             lengths: _,
         } = self;
-        Ok(written)
+        // They are kept for long, so without memory that is not used.
+        let mut lines = Vec::with_capacity(alloc, written.len().saturating_add(1))?;
+        for line in written {
+            lines.push(line)?;
+        }
+        lines.push(CertLine::Close)?;
+        Ok(lines)
     }
 }
 
 impl Line {
-    /// Appends a line times a term.
-    fn push(&mut self, alloc: Global, line: u32, term: Term) -> Result<(), AllocError> {
+    /// Appends a line times a term, which so many terms of the same line follow.
+    fn push(
+        &mut self,
+        alloc: Global,
+        line: u32,
+        term: Term,
+        more: usize,
+    ) -> Result<(), AllocError> {
         self.terms = self.terms.saturating_add(1);
         if let Some(last) = self.multiples.last_mut() {
             if last.0 == line {
                 return last.1.push(term);
             }
         }
-        let mut terms = Sequence::new(alloc);
+        let mut terms = Vec::with_capacity(alloc, more.saturating_add(1))?;
         terms.push(term)?;
-        self.multiples.push((line, terms))?;
+        self.multiples.push((line, Sequence::from_vec(terms)))?;
         Ok(())
     }
+}
+
+/// How many terms of this line come first.
+fn count_of(terms: &[(u32, u32, u64)], line: u32) -> usize {
+    let mut count = 0usize;
+    for term in terms {
+        if term.0 != line {
+            break;
+        }
+        count = count.saturating_add(1);
+    }
+    count
+}
+
+/// How many lines there are, where the terms of each stand together.
+fn groups_of(terms: &[(u32, u32, u64)]) -> usize {
+    let mut count = 0usize;
+    let mut last = None;
+    for (line, _, _) in terms {
+        if last != Some(*line) {
+            count = count.saturating_add(1);
+        }
+        last = Some(*line);
+    }
+    count
 }

@@ -18,7 +18,7 @@ pub fn relisted<N: Naming>(
     naming: &N,
     lits: &[Literal],
 ) -> Result<Option<Sequence<Literal>>, AllocError> {
-    let mut made = Vec::new(alloc);
+    let mut made = Vec::with_capacity(alloc, lits.len())?;
     for literal in lits {
         match naming.node(literal.1) {
             Some(node) => made.push((literal.0, node))?,
@@ -33,7 +33,7 @@ fn powers<N: Naming>(
     naming: &N,
     powers: &[Power],
 ) -> Result<Option<Sequence<Power>>, AllocError> {
-    let mut made = Vec::new(alloc);
+    let mut made = Vec::with_capacity(alloc, powers.len())?;
     for power in powers {
         match naming.variable(power.0) {
             Some(variable) => made.push((variable, power.1))?,
@@ -50,7 +50,7 @@ pub fn terms<N: Naming>(
     naming: &N,
     terms: &[Term],
 ) -> Result<Option<Sequence<Term>>, AllocError> {
-    let mut made = Vec::new(alloc);
+    let mut made = Vec::with_capacity(alloc, terms.len())?;
     for term in terms {
         match powers(alloc, naming, term.1.as_slice())? {
             Some(powers) => made.push((term.0, powers))?,
@@ -77,7 +77,7 @@ fn multiples<N: Naming>(
     naming: &N,
     multiples: &[Multiple],
 ) -> Result<Option<CertLine>, AllocError> {
-    let mut made = Vec::new(alloc);
+    let mut made = Vec::with_capacity(alloc, multiples.len())?;
     for item in multiples {
         match multiple(alloc, naming, item)? {
             Some(multiple) => made.push(multiple)?,
@@ -147,7 +147,7 @@ pub fn renamed_all<N: Naming>(
     naming: &N,
     lines: &[CertLine],
 ) -> Result<Option<Vec<CertLine>>, AllocError> {
-    let mut made = Vec::new(alloc);
+    let mut made = Vec::with_capacity(alloc, lines.len())?;
     for line in lines {
         match renamed(alloc, naming, line)? {
             Some(line) => made.push(line)?,
