@@ -1,7 +1,7 @@
 -- Almost full relations, by well-founded trees (Vytiniotis, Coquand and Wahlstedt 2012): in each sequence two elements are
 -- related, an earlier one and a later one. Two such relations have an intersection that is such a relation. Where one number
 -- is at most another it is so, and hence for the exponents of monomials in finitely many variables (Dickson 1913).
-use Rattle.std.proofs.Common.{◌≡◌, ℕ, zero, suc, ◌≤◌, ◌⊎◌, inl, inr, arith}
+use Rattle.std.proofs.Common.{ℕ, zero, suc, ◌≤◌, ◌⊎◌, inl, inr, arith}
 use Rattle.std.proofs.lemmas.Bool.{cases_lt}
 
 pub data Tree (X : Type 0) : Type 0 where

@@ -1,14 +1,14 @@
 -- Induction over the monomials in finitely many variables. In each sequence of them an earlier one divides a later one, and no
 -- divisor is above its multiple, so a descent ends in every monomial order.
-use Rattle.std.proofs.Common.{◌≡◌, ◌≢◌, ℕ, ◌≤◌, ◌⊎◌, List, [], ◌∷◌, refl, sym, ◌∙◌, inl, inr, subst, ap, arith}
+use Rattle.std.proofs.Common.{◌≡◌, ℕ, ◌≤◌, ◌⊎◌, List, [], ◌∷◌, refl, sym, inl, inr, subst, arith}
 use Rattle.std.proofs.lemmas.Bool.{cases_eq}
 use Rattle.std.specs.declared.cmp.Ordering.{Ordering}
 use Rattle.std.specs.declared.cmp.Ordering.TheVariants.{Greater}
 use Rattle.ffc_ring.specs.Monomial.{Monomial, IsMonomial, exponent, Divides}
 use Rattle.ffc_ring.specs.Counting.{IsAmong, IsIn}
 use Rattle.ffc_mono.specs.MonomialOrder.{IsMonomialOrder}
-use Rattle.ffc_mono.proofs.LeadingLemmas.{greater_trans, divisor_is_no_greater}
-use Rattle.ffc_basis.proofs.Almost.{Tree, Leaf, Node, IsSecure, HasTree, weaker, binary, ascending}
+use Rattle.ffc_mono.proofs.LeadingLemmas.{divisor_is_no_greater}
+use Rattle.ffc_basis.proofs.Almost.{Tree, Leaf, Node, IsSecure, HasTree, binary, ascending}
 use Rattle.ffc_basis.proofs.Greatest.{IsUpTo, up_to_trans, below_trans}
 
 -- the exponents of these variables are at most those of the other monomial

@@ -1,6 +1,6 @@
 -- Of two multiples with one top, the one is a multiple of the other's line and multiples with lower tops: their S-polynomial,
 -- which is a sum of multiples below the least common multiple, multiplied by a term (Cox, Little and O'Shea, chapter 2, section 6, lemma 5 and theorem 6).
-use Rattle.std.proofs.Common.{◌≡◌, ◌≢◌, ℕ, ◌+◌, ◌-◌, ◌*◌, ◌%◌, ◌<◌, List, [], ◌∷◌, ◌++◌, get_or, refl, sym, ap, ap₂, ◌∙◌, subst, inl, inr, arith, mod-lt, mod-eq_of_lt, mul_assoc, one-mul}
+use Rattle.std.proofs.Common.{◌≡◌, ℕ, ◌+◌, ◌-◌, ◌*◌, ◌%◌, ◌<◌, List, [], ◌∷◌, ◌++◌, get_or, refl, sym, ap, ap₂, ◌∙◌, subst, inl, inr, arith, mod-lt, mod-eq_of_lt, mul_assoc, one-mul}
 use Rattle.std.proofs.Math.Nat.{zero-mod, mul-mod_right}
 use Rattle.std.proofs.lemmas.Bool.{cases_eq}
 use Rattle.std.specs.List.{AllByRecursion}
@@ -16,10 +16,9 @@ use Rattle.ffc_ring.proofs.MonomialLemmas.{one_monomial, IsMonomial-mono_mul, ex
 use Rattle.ffc_ring.proofs.PolynomialLemmas.{weighted, one_at, sum_alike, times_alike, written-append, same_term_products, monomial_of_coefficient}
 use Rattle.ffc_mono.specs.MonomialOrder.{IsMonomialOrder}
 use Rattle.ffc_mono.specs.Leading.{IsLeading}
-use Rattle.ffc_mono.proofs.LeadingLemmas.{one_leading, leading_of_multiple, cancelled_step}
+use Rattle.ffc_mono.proofs.LeadingLemmas.{one_leading}
 use Rattle.ffc_line.specs.Lines.{AreLists}
 use Rattle.ffc_basis.specs.Representations.{IsPairRepresented}
-use Rattle.ffc_basis.proofs.Greatest.{IsUpTo, compared, below_trans}
 use Rattle.ffc_basis.proofs.Each.{each_both}
 use Rattle.ffc_basis.proofs.Multiples.{Multiple, top, polynomial, sum_of, IsMultiple, HasVariables, IsBelow, IsOfParts, written-term_product, more_variables, variables_of_all, lead_is_monomial, multiples_of}
 use Rattle.ffc_basis.proofs.Variables.{AreAmong, in_product, in_quotient}

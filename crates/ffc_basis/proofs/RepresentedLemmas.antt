@@ -1,13 +1,13 @@
 -- S-polynomials that are sums of multiples of lines below the least common multiple of the two leading monomials. One that
 -- reduces to zero is such a sum. Where the leading monomial of line k divides the least common multiple of those of lines i
 -- and j, S(i, j) is u*S(i, k) + w*S(k, j) for monomials u and w, and such a sum as both are.
-use Rattle.std.proofs.Common.{◌≡◌, ◌≢◌, ◌⊎◌, ℕ, ◌<◌, List, [], ◌++◌, length, get_or, refl, sym, ap, ap₂, ◌∙◌, subst, inl, inr, arith}
+use Rattle.std.proofs.Common.{◌≡◌, ◌≢◌, ℕ, ◌<◌, List, [], ◌++◌, length, get_or, refl, sym, ap, ap₂, ◌∙◌, subst, inl, inr}
 use Rattle.std.proofs.Math.ListN.{get_or-append}
 use Rattle.std.specs.declared.cmp.Ordering.{Ordering}
 use Rattle.std.specs.declared.cmp.Ordering.TheVariants.{Greater}
-use Rattle.ffc_field.specs.Modular.{IsPrime, mul_mod}
+use Rattle.ffc_field.specs.Modular.{IsPrime}
 use Rattle.ffc_ring.specs.Monomial.{Monomial, IsMonomial, mono_mul, mono_lcm, mono_quotient, Divides}
-use Rattle.ffc_ring.specs.Polynomial.{Terms, AreTerms, coefficient, SamePolynomial, term_product, difference}
+use Rattle.ffc_ring.specs.Polynomial.{Terms, coefficient, SamePolynomial, term_product, difference}
 use Rattle.ffc_ring.proofs.MonomialLemmas.{IsMonomial-mono_mul, IsMonomial-mono_lcm, mono_mul_comm, mono_mul_assoc, mono_mul-mono_quotient, IsMonomialFrom-mono_quotient, first_divides_lcm, second_divides_lcm, lcm_divides}
 use Rattle.ffc_ring.proofs.PolynomialLemmas.{same_sums, same_term_products}
 use Rattle.ffc_mono.specs.MonomialOrder.{IsMonomialOrder}
@@ -19,7 +19,7 @@ use Rattle.ffc_basis.specs.Dividing.{LeadsDivisor}
 use Rattle.ffc_line.specs.Lines.{Parts, AreLists, combination, AreTermLists}
 use Rattle.ffc_basis.specs.PairTable.{AreBothClosed}
 use Rattle.ffc_basis.specs.Representations.{ArePartsBelow, IsSumBelow, IsPairRepresented, AreBothRepresented}
-use Rattle.ffc_basis.proofs.ChainLemmas.{raised, combination-raised, AreBefore-raised, AreTermLists-raised, HasMonomial-raised, AreTerms-difference, AreBefore-append, AreTermLists-append, HasMonomial-append, made_of, chain_sum, inverse_of}
+use Rattle.ffc_basis.proofs.ChainLemmas.{raised, combination-raised, AreBefore-raised, AreTermLists-raised, HasMonomial-raised, AreBefore-append, AreTermLists-append, HasMonomial-append, made_of, chain_sum, inverse_of}
 use Rattle.ffc_basis.proofs.Greatest.{IsUpTo, compared, below_trans}
 use Rattle.ffc_basis.proofs.PairLemmas.{AreBefore-grown, combination-grown, lcm_commutes, length-more, part_is_before}
 use Rattle.ffc_basis.proofs.PartLemmas.{combination-append}

@@ -3,7 +3,7 @@
 -- by terms. Where the greatest top of these is not cancelled, it is the leading monomial of the sum, so a line's leading
 -- monomial divides that, and no top is above it. Where it is cancelled, all multiples with this top are exchanged for one, whose
 -- factor is 0, and others with lower tops. The descent of the greatest top ends.
-use Rattle.std.proofs.Common.{◌≡◌, ◌≢◌, ℕ, suc, ◌+◌, ◌*◌, ◌%◌, ◌<◌, ◌≤◌, List, [], ◌∷◌, ◌++◌, length, get_or, refl, sym, ap, ap₂, ◌∙◌, subst, inl, inr, arith, mod-lt, mod-eq_of_lt, add-mul, append-nil}
+use Rattle.std.proofs.Common.{◌≡◌, ◌≢◌, ℕ, ◌+◌, ◌*◌, ◌%◌, ◌<◌, List, [], ◌∷◌, ◌++◌, length, get_or, refl, sym, ap, ap₂, ◌∙◌, subst, inl, inr, arith, mod-lt, mod-eq_of_lt, add-mul, append-nil}
 use Rattle.std.proofs.Math.Nat.{zero-mod, mod-mod}
 use Rattle.std.proofs.lemmas.Bool.{cases_eq}
 use Rattle.std.specs.List.{AllByRecursion}
@@ -15,12 +15,12 @@ use Rattle.ffc_ring.specs.Monomial.{Monomial, IsMonomial, mono_mul, mono_lcm, mo
 use Rattle.ffc_ring.specs.Polynomial.{Terms, AreTerms, written, coefficient, SamePolynomial, term_product, difference}
 use Rattle.ffc_ring.specs.Counting.{IsIn}
 use Rattle.ffc_ring.proofs.MonomialLemmas.{IsMonomial-mono_mul, IsMonomial-mono_lcm, IsMonomialFrom-mono_quotient}
-use Rattle.ffc_ring.proofs.PolynomialLemmas.{weighted, one_at, sum_alike, times_alike, written-at, written-append, coefficient-append, coefficient-term_product, cases_monomial}
+use Rattle.ffc_ring.proofs.PolynomialLemmas.{weighted, one_at, sum_alike, times_alike, written-append, coefficient-append, coefficient-term_product, cases_monomial}
 use Rattle.ffc_mono.specs.MonomialOrder.{IsMonomialOrder}
 use Rattle.ffc_mono.specs.Leading.{IsLeading}
 use Rattle.ffc_mono.proofs.LeadingLemmas.{not_itself, leading_at_most, one_leading, greater_trans}
 use Rattle.ffc_line.specs.Lines.{Parts, combination, AreBefore, AreTermLists, AreLists}
-use Rattle.ffc_basis.specs.Completion.{IsSPolynomial, IsClosed, IsPairClosed, ReducesToZero}
+use Rattle.ffc_basis.specs.Completion.{IsSPolynomial, IsClosed, ReducesToZero}
 use Rattle.ffc_basis.specs.Dividing.{LeadsDivisor}
 use Rattle.ffc_basis.specs.Representations.{AreAllRepresented}
 use Rattle.ffc_basis.proofs.OrderedTerms.{coefficient-none, coefficient-other}

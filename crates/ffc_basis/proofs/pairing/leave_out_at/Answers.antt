@@ -1,4 +1,4 @@
-use Rattle.std.proofs.Common.{length, refl, sym, arith}
+use Rattle.std.proofs.Common.{sym, arith}
 use Rattle.ffc_line.specs.Lines.{polys_of}
 use Rattle.ffc_basis.proofs.AddedLemmas.{left_out}
 use Rattle.ffc_basis.proofs.FewLemmas.{pending_within}

@@ -1,4 +1,3 @@
-use Rattle.std.proofs.Common.{◌∙◌}
 use Rattle.ffc_basis.proofs.FewLemmas.{few_same}
 use Rattle.ffc_basis.proofs.pairing.pair_lines.Goals as goal
 

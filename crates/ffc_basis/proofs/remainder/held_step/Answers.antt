@@ -1,8 +1,5 @@
-use Rattle.std.proofs.Common.{◌≡◌, ◌<◌, List, [], length, get_or, IfSome, refl, sym, ap, ◌∙◌, subst, arith}
-use Rattle.ffc_field.specs.Modular.{mul_mod}
-use Rattle.ffc_ring.specs.Monomial.{Monomial, mono_mul}
-use Rattle.ffc_ring.specs.Polynomial.{Terms, AreTerms}
-use Rattle.ffc_mono.specs.Leading.{IsLeading}
+use Rattle.std.proofs.Common.{List, get_or, IfSome, subst, arith}
+use Rattle.ffc_ring.specs.Polynomial.{Terms}
 use Rattle.ffc_line.specs.Lines.{polys_of}
 use Rattle.ffc_dense.specs.Tables.{AreMultiplesOf, LeadsMultiple}
 use Rattle.ffc_basis.proofs.Lists.{length-polys, poly_at}

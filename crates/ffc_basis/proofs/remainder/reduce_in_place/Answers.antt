@@ -5,7 +5,6 @@ use Rattle.ffc_line.specs.Lines.{Parts, polys_of}
 use Rattle.ffc_basis.specs.Remainders.{front_of, whole_of}
 use Rattle.ffc_basis.proofs.Lists.{always_on_err}
 use Rattle.ffc_basis.proofs.SplitLemmas.{continues_same, stays_bounded, nothing_is_reduced}
-use Rattle.ffc_basis.proofs.UnitLemmas.{takes_nothing}
 use Rattle.ffc_basis.proofs.remainder.reduce_in_place.Goals as goal
 
 pub reduce_leads-requires-clause-reduced : goal.reduce_leads-requires-clause-reduced

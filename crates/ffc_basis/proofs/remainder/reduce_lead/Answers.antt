@@ -1,4 +1,4 @@
-use Rattle.std.proofs.Common.{◌++◌, refl, sym, ◌∙◌, subst}
+use Rattle.std.proofs.Common.{◌++◌, refl, sym, subst}
 use Rattle.ffc_ring.specs.Polynomial.{Terms}
 use Rattle.ffc_dense.specs.Tables.{AreMultiplesOf}
 use Rattle.ffc_line.specs.Lines.{Parts, polys_of}

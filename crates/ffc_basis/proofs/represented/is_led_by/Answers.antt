@@ -1,6 +1,5 @@
-use Rattle.std.proofs.Common.{[], get_or, sym, subst, arith}
+use Rattle.std.proofs.Common.{sym, subst, arith}
 use Rattle.ffc_mono.specs.Leading.{IsLeading}
-use Rattle.ffc_line.specs.Lines.{polys_of}
 use Rattle.ffc_basis.proofs.Lists.{length-polys, poly_at}
 use Rattle.ffc_basis.proofs.represented.is_led_by.Goals as goal
 

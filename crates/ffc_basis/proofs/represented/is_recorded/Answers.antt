@@ -1,8 +1,5 @@
-use Rattle.std.proofs.Common.{get_or, sym, ap, ◌∙◌, subst}
-use Rattle.ffc_basis.specs.PairTable.{IsRepresentedState}
 use Rattle.ffc_basis.specs.declared.pair.PairRecord.{PairRecord}
 use Rattle.ffc_basis.specs.declared.pair.PairState.TheVariants.{Pending}
-use Rattle.ffc_basis.proofs.Lists.{any_default}
 use Rattle.ffc_basis.proofs.PairTableLemmas.{represented_at}
 use Rattle.ffc_basis.proofs.represented.is_recorded.Goals as goal
 
