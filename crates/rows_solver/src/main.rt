@@ -3,7 +3,8 @@
 //! `rows_solver FILE..` reads the files in turn. A line is a row, but for a line that begins with `#` and an empty one. A
 //! row has steps, separated by `|`: the first says what is called on which input, further ones go on with what the first
 //! one made. Each step is printed with what was found; `refused` is printed of one that is not written as it should be,
-//! whose call requires what does not hold, or in which memory is out.
+//! whose call requires what does not hold, or in which memory is out. Rows with an order of monomials are over F5, BabyBear or
+//! Goldilocks.
 #![tactic(auto)]
 
 mod bases;
