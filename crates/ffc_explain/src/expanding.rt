@@ -8,8 +8,32 @@ use std::collections::BTreeMap;
 /// How many steps the polynomial of a node may take.
 const MOST_STEPS: u32 = 20_000;
 
-/// The polynomials of nodes that are known.
-type Known = BTreeMap<NodeId, Polynomial>;
+/// The polynomials of nodes that are known: those that were made, and of each node the place of its own.
+#[derive(Drop)]
+struct Known {
+    places: BTreeMap<NodeId, usize>,
+    made: Vec<Polynomial>,
+}
+
+impl Known {
+    /// None are known.
+    fn none(alloc: Global) -> Known {
+        Known {
+            places: BTreeMap::new(alloc),
+            made: Vec::new(alloc),
+        }
+    }
+
+    fn get(&self, id: NodeId) -> Option<&Polynomial> {
+        self.made.get(*self.places.get(&id)?)
+    }
+
+    /// Adds the polynomial of a node; none where memory is out.
+    fn add(&mut self, id: NodeId, polynomial: Polynomial) -> Option<()> {
+        self.places.insert(id, self.made.len()).ok()?;
+        self.made.push(polynomial).ok()
+    }
+}
 
 /// The sum of the polynomials of nodes, each times the power of a base for its place.
 fn sum_of(
@@ -22,7 +46,7 @@ fn sum_of(
     let mut made = Polynomial::zero(alloc, order);
     let mut scale = 1;
     for id in ids {
-        if !made.add_scaled(alloc, scale, known.get(id)?) {
+        if !made.add_scaled(alloc, scale, known.get(*id)?) {
             return None;
         }
         scale = product(scale, base, order);
@@ -35,7 +59,7 @@ fn product_of(alloc: Global, order: u64, known: &Known, ids: &[NodeId]) -> Optio
     let mut made = Polynomial::constant(alloc, order, 1)?;
     for id in ids {
         let mut next = Polynomial::zero(alloc, order);
-        if !next.add_product(alloc, &made, known.get(id)?) {
+        if !next.add_product(alloc, &made, known.get(*id)?) {
             return None;
         }
         made = next;
@@ -58,7 +82,7 @@ fn of_known(
         Node::Mul(ids) => product_of(alloc, order, known, ids.as_slice()),
         Node::Neg(a) => {
             let mut made = Polynomial::zero(alloc, order);
-            made.add_scaled(alloc, order.saturating_sub(1), known.get(a)?)
+            made.add_scaled(alloc, order.saturating_sub(1), known.get(*a)?)
                 .then_some(made)
         }
         _ => Polynomial::variable(alloc, order, id),
@@ -78,7 +102,7 @@ fn parts_of(node: &Node) -> &[NodeId] {
 fn wait_for(known: &Known, node: &Node, waiting: &mut Vec<NodeId>) -> Option<bool> {
     let mut is_waiting = false;
     for part in parts_of(node) {
-        if !known.contains_key(part) {
+        if known.get(*part).is_none() {
             waiting.push(*part).ok()?;
             is_waiting = true;
         }
@@ -93,9 +117,9 @@ fn step(names: &Names<'_>, order: u64, known: &mut Known, waiting: &mut Vec<Node
     if wait_for(known, node, waiting)? {
         return Some(());
     }
-    if !known.contains_key(&id) {
+    if known.get(id).is_none() {
         let made = of_known(names.alloc, order, known, id, node)?;
-        known.insert(id, made).ok()?;
+        known.add(id, made)?;
     }
     let _ = waiting.pop();
     Some(())
@@ -103,7 +127,7 @@ fn step(names: &Names<'_>, order: u64, known: &mut Known, waiting: &mut Vec<Node
 
 /// The polynomial of a node of a field; none where it is long.
 pub(crate) fn polynomial_of(names: &Names<'_>, order: u64, id: NodeId) -> Option<Polynomial> {
-    let mut known = BTreeMap::new(names.alloc);
+    let mut known = Known::none(names.alloc);
     let mut waiting = Vec::new(names.alloc);
     waiting.push(id).ok()?;
     for _ in 0..MOST_STEPS {
@@ -112,7 +136,8 @@ pub(crate) fn polynomial_of(names: &Names<'_>, order: u64, id: NodeId) -> Option
         }
         step(names, order, &mut known, &mut waiting)?;
     }
-    known.remove(&id)
+    // It is made last, from the others.
+    known.made.pop()
 }
 
 /// The difference of the polynomials of two nodes; none where it is long.
