@@ -59,6 +59,8 @@ pub struct Problem<'a> {
     pub equalities: &'a [Lit],
     /// Whether bits are reasoned about as integers.
     pub bits: bool,
+    /// Whether those that do not hold are searched with the others at once, where most variables are equal to others.
+    pub at_once: bool,
 }
 
 /// One of so many parts of the units that are left.
@@ -408,6 +410,7 @@ impl Problem<'_> {
     ) -> Result<Answer, SearchStop> {
         let reached = match self.reach_by_bits(polys, &ranking, meter)? {
             Some(reached) => reached,
+            None if self.at_once => self.reach_at_once(polys, &ranking, meter)?,
             None => self.reach_either_way(polys, &ranking, meter)?,
         };
         Ok(match reached {

@@ -60,6 +60,7 @@ impl Judge<'_> {
         &self,
         field: FieldId,
         equalities: &[Lit],
+        at_once: bool,
         meter: &mut Meter,
     ) -> Result<Verdict, SearchStop>
         ensures metered { Metered SearchStop.Spent result meter.old meter.new }
@@ -74,6 +75,7 @@ impl Judge<'_> {
             table,
             equalities,
             bits: self.bits,
+            at_once,
         };
         match problem.over_field(field, parts.as_slice(), self.share, meter)? {
             Answer::Values(pairs) => Ok(Verdict::Fine(pairs)),
@@ -96,14 +98,19 @@ impl Judge<'_> {
         }
     }
 
-    /// Searches all fields for values with which equalities hold.
-    pub fn judge(&self, equalities: &[Lit], meter: &mut Meter) -> Result<Judgement, SearchStop>
+    /// Searches all fields for values with which equalities hold, without completing those that hold where it is to be at once.
+    pub fn judge(
+        &self,
+        equalities: &[Lit],
+        at_once: bool,
+        meter: &mut Meter,
+    ) -> Result<Judgement, SearchStop>
         ensures metered { Metered SearchStop.Spent result meter.old meter.new }
     {
         let mut values = Vec::new(self.alloc);
         let mut undecided = None;
         for field in self.components.fields() {
-            match self.judge_field(*field, equalities, meter)? {
+            match self.judge_field(*field, equalities, at_once, meter)? {
                 Verdict::Fine(pairs) => values.extend_from_slice(pairs.as_slice())?,
                 Verdict::Undecided(those, unfinished) => {
                     leave(&mut undecided, those, unfinished);

@@ -20,7 +20,9 @@
 //! 4. **A model** is what the equalities are true with, whatever the other nodes are: values of all fields end the search.
 //! 5. **A conflict** is a case tree that closes. It is written as a lemma: the clause of the equalities, turned around, that its
 //!    first lines are made of. The solver learns from it and goes on.
-//! 6. **Set aside** are equalities that are not decided within their share of units. A clause keeps the solver from that trail,
+//! 6. **Set aside** are equalities that are not decided within their share of units. The first time, where equalities of the
+//!    check have no value yet, the trail goes on until all have one, and from then on all are judged, as long as that decides each
+//!    trail (equalities.rt). A clause keeps the solver from that trail,
 //!    and is no lemma: where the clauses are refuted with its help, nothing is known.
 //! 7. **Rounds** (proposing.rt). Then the next round begins with clauses made anew, twice the share, and the lemmas so far. A
 //!    refutation that rests on clauses and lemmas alone is an entry.
@@ -31,6 +33,7 @@
 
 mod clauses;
 mod components;
+mod equalities;
 mod fields;
 mod judging;
 mod linear;

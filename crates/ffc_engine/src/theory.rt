@@ -4,6 +4,7 @@ ghost use Rattle.ffc_base.specs.Metering.{Metered};
 ghost use Rattle.ffc_cdcl.specs.Theories.{KeepsLemmas, NamesLemma, IsFalseOn};
 
 use crate::components::Components;
+use crate::equalities::{Equalities, Scope};
 use crate::judging::{Judge, Judgement, negations};
 use ffc_base::{Meter, SearchStop, Unit};
 use ffc_cdcl::{Lit, Literals, Theory, TheoryAnswer};
@@ -19,7 +20,7 @@ use std::alloc::{AllocError, Global};
 /// Judges trails by the equalities on which the truth of the assertions rests. Where those so far fix values that clash, it judges
 /// the few that the clash rests on. Else it agrees as long as one of them has no value, since more of the trail decides them. Once
 /// it has values of the constants with which they hold, those are a model whatever the other nodes are, and it agrees to
-/// everything.
+/// everything. Where their share of units is not enough for them, all equalities of the check are judged from then on.
 #[derive(Drop)]
 pub struct FieldTheory<'a> {
     alloc: Global,
@@ -29,6 +30,9 @@ pub struct FieldTheory<'a> {
     walk: Walk<'a>,
     matcher: Matcher<'a>,
     fixed: Fixed<'a>,
+    /// All equalities of the check, and which of them are judged.
+    equalities: Equalities,
+    scope: Scope,
     /// With how many equalities matching has come to a clash whose refutation is too long.
     too_long: Option<usize>,
     /// Its lemmas, by number.
@@ -62,6 +66,8 @@ impl<'a> FieldTheory<'a> {
             walk: Walk::new(alloc, check.table, check.in_force)?,
             matcher: Matcher::new(alloc, check.table)?,
             fixed: Fixed::new(alloc, check.table)?,
+            equalities: Equalities::of(alloc, check.table)?,
+            scope: Scope::Needed,
             too_long: None,
             clauses: Vec::new(alloc),
             origins: Vec::new(alloc),
@@ -91,6 +97,8 @@ impl<'a> FieldTheory<'a> {
             walk: _,
             matcher: _,
             fixed: _,
+            equalities: _,
+            scope: _,
             too_long: _,
             clauses: _,
             origins,
@@ -144,11 +152,16 @@ impl<'a> FieldTheory<'a> {
     }
 
     /// Judges equalities. It is one Trial, besides what the searches take.
-    fn judged(&self, equalities: &[Lit], meter: &mut Meter) -> Result<Judgement, SearchStop>
+    fn judged(
+        &self,
+        equalities: &[Lit],
+        at_once: bool,
+        meter: &mut Meter,
+    ) -> Result<Judgement, SearchStop>
         ensures metered { Metered SearchStop.Spent result meter.old meter.new }
     {
         meter.take(Unit::Trial)?;
-        self.judge.judge(equalities, meter)
+        self.judge.judge(equalities, at_once, meter)
     }
 
     /// Equalities among those that the walk has come upon whose values clash.
@@ -205,7 +218,7 @@ impl<'a> FieldTheory<'a> {
         ensures metered { Metered SearchStop.Spent result meter.old meter.new }
     {
         let equalities = self.walk.equalities()?;
-        if let Judgement::Values(residues) = self.judged(equalities.as_slice(), meter)? {
+        if let Judgement::Values(residues) = self.judged(equalities.as_slice(), false, meter)? {
             self.keep_model(&residues)?;
         }
         Ok(self.take_model())
@@ -233,6 +246,62 @@ impl<'a> FieldTheory<'a> {
                 self.object(trail, clause, Origin::SetAside)
             }
         }
+    }
+
+    /// Whether all equalities of the check are judged after this judgement of those that are needed.
+    fn widens(&self, judgement: &Judgement) -> bool {
+        matches!(self.scope, Scope::Needed)
+            && matches!(judgement, Judgement::Undecided(_, true))
+            && !self.judge.bits
+            && self.equalities.lack_one(self.walk.truths())
+    }
+
+    /// Answers by the equalities on which the truth of the assertions rests, or agrees where all are judged from here on.
+    fn answer_needed(
+        &mut self,
+        trail: &[Lit],
+        meter: &mut Meter,
+    ) -> Result<TheoryAnswer, SearchStop>
+        ensures kept { KeepsLemmas self.old.clauses.items self.new.clauses.items }
+        ensures lemma { IfOk result (NamesLemma self.new.clauses.items) }
+        ensures refuted { IfOk result (IsFalseOn trail.now) }
+        ensures metered { Metered SearchStop.Spent result meter.old meter.new }
+    {
+        let equalities = self.walk.equalities()?;
+        let judgement = self.judged(equalities.as_slice(), false, meter)?;
+        if self.widens(&judgement) {
+            let until = meter.spent().saturating_add(meter.left() / 2);
+            self.scope = Scope::All { until };
+            return Ok(TheoryAnswer::Agreed);
+        }
+        self.answer(trail, judgement)
+    }
+
+    /// Answers by all equalities of the check, and agrees as long as one has no value.
+    fn answer_all(
+        &mut self,
+        trail: &[Lit],
+        until: u64,
+        meter: &mut Meter,
+    ) -> Result<TheoryAnswer, SearchStop>
+        ensures kept { KeepsLemmas self.old.clauses.items self.new.clauses.items }
+        ensures lemma { IfOk result (NamesLemma self.new.clauses.items) }
+        ensures refuted { IfOk result (IsFalseOn trail.now) }
+        ensures metered { Metered SearchStop.Spent result meter.old meter.new }
+    {
+        if self.equalities.lack_one(self.walk.truths()) {
+            return Ok(TheoryAnswer::Agreed);
+        }
+        let equalities = self.equalities.valued(self.walk.truths())?;
+        let judgement = self.judged(equalities.as_slice(), true, meter)?;
+        if let Judgement::Undecided(_, _) = judgement {
+            self.scope = Scope::NeededAgain;
+            return self.answer_needed(trail, meter);
+        }
+        if meter.spent() >= until {
+            self.scope = Scope::NeededAgain;
+        }
+        self.answer(trail, judgement)
     }
 }
 
@@ -276,15 +345,16 @@ impl Theory for FieldTheory<'_> {
             return self.answer(trail, Judgement::Refuted(lemma));
         }
         if let Some(equalities) = self.clash()? {
-            if let Judgement::Refuted(lemma) = self.judged(equalities.as_slice(), meter)? {
+            if let Judgement::Refuted(lemma) = self.judged(equalities.as_slice(), false, meter)? {
                 return self.answer(trail, Judgement::Refuted(lemma));
             }
         }
         if self.walk.waits() {
             return Ok(TheoryAnswer::Agreed);
         }
-        let equalities = self.walk.equalities()?;
-        let judgement = self.judged(equalities.as_slice(), meter)?;
-        self.answer(trail, judgement)
+        match self.scope {
+            Scope::All { until } => self.answer_all(trail, until, meter),
+            Scope::Needed | Scope::NeededAgain => self.answer_needed(trail, meter),
+        }
     }
 }
